@@ -1,0 +1,7 @@
+pub mod Fronts
+pub mod Places
+pub mod Slots
+pub mod Types
+pub mod ListLaws
+pub mod OrderLaws
+pub mod SetLaws
