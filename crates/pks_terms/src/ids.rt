@@ -20,6 +20,10 @@ pub struct FnId(pub u8);
 #[derive(Clone, Copy, PartialEq, Eq, PartialOrd, Ord)]
 pub struct ActId(pub u8);
 
+/// An item of the start, counted from 1 as written.
+#[derive(Clone, Copy, PartialEq, Eq, PartialOrd, Ord)]
+pub struct ItemNo(pub u32);
+
 /// The bytes from one place of the source up to another.
 #[derive(Clone, Copy, Debug, PartialEq, Eq)]
 pub struct Span {
