@@ -1,5 +1,5 @@
 -- What holds of each element of a front.
-use Rattle.std.proofs.Common.{◌≡◌, ◌++◌, subst, ℕ, zero, suc, List, [], ◌∷◌, Option, Some, None, map, take, drop, refl, length, arith, get_or, slice_get}
+use Rattle.std.proofs.Common.{◌≡◌, ◌++◌, subst, ℕ, zero, suc, List, [], ◌∷◌, Some, map, take, drop, refl, length, arith, get_or, slice_get}
 use Rattle.pks_terms.specs.Sets.{Each}
 
 module _ {X Y : Type 0} (P : X → Type 0) (Q : Y → Type 0) where

@@ -1,5 +1,5 @@
 -- That each count of used places is within its array. Views read at most the whole array, so this is said beside them.
-use Rattle.std.specs.Prelude.{ℕ, ◌≤◌, List, Option, Some, None, take}
+use Rattle.std.specs.Prelude.{◌≤◌, Option, Some, None, take}
 use Rattle.pks_terms.specs.declared.term.Inner as inner
 use Rattle.pks_terms.specs.declared.term.Inner.TheVariants as inner_is
 use Rattle.pks_terms.specs.declared.term.Term as term
