@@ -21,6 +21,14 @@ use Rattle.pks_terms.specs.declared.schema.Sense as sense
 use Rattle.pks_terms.specs.declared.schema.Sense.TheVariants as sense_is
 use Rattle.pks_terms.specs.declared.schema.Item as item
 use Rattle.pks_terms.specs.declared.schema.Item.TheVariants as item_is
+use Rattle.pks_terms.specs.declared.schema.Adds.{Adds}
+use Rattle.pks_terms.specs.declared.schema.Schema.{Schema}
+use Rattle.pks_terms.specs.declared.problem.Signature.{Signature}
+use Rattle.pks_terms.specs.declared.problem.Init as init
+use Rattle.pks_terms.specs.declared.problem.Init.TheVariants as init_is
+use Rattle.pks_terms.specs.declared.problem.Aim as aim
+use Rattle.pks_terms.specs.declared.problem.Aim.TheVariants as aim_is
+use Rattle.pks_terms.specs.declared.problem.Problem.{Problem}
 use Rattle.pks_terms.specs.Sets.{Each}
 
 -- of an argument
@@ -101,3 +109,41 @@ ItemCounts (item_is.Kf l) = LiteralCounts l
 ItemCounts (item_is.Kw c) = ConjCounts c
 ItemCounts (item_is.Kv t) = TermCounts t
 ItemCounts (item_is.Lcw x) = PatternCounts x
+
+-- of an add
+abbrev pub AddCounts : Adds → Type 0
+AddCounts a = (a.n ≤ 4) × Each QueryCounts (take a.n a.given) × ItemCounts a.item
+
+-- of the text of an action
+pub record SchemaCounts (x : Schema) : Type 0 where
+  pub pre : Each QueryCounts x.pre
+  pub effects : Each EffectCounts x.effects
+  pub senses : Each SenseCounts x.senses
+  pub adds : Each AddCounts x.adds
+
+-- of a signature: a predicate has at most three arguments, a function at most two
+pub record SignatureCounts (s : Signature) : Type 0 where
+  pub predicates : Each (λ x. x.n ≤ 3) s.predicates
+  pub functions : Each (λ x. x.n ≤ 2) s.functions
+
+-- of an initial item
+abbrev pub InitCounts : init.Init → Type 0
+InitCounts (init_is.Kf l) = LiteralCounts l
+InitCounts (init_is.Kw c) = ConjCounts c
+InitCounts (init_is.Kv t) = TermCounts t
+InitCounts (init_is.Kx g) = Each LiteralCounts g
+InitCounts (init_is.Lcw x) = PatternCounts x
+
+-- of an aim
+abbrev pub AimCounts : aim.Aim → Type 0
+AimCounts (aim_is.Now q) = QueryCounts q
+AimCounts (aim_is.AtStart q) = QueryCounts q
+AimCounts (aim_is.Always q) = QueryCounts q
+AimCounts (aim_is.Once q) = QueryCounts q
+
+-- of a problem
+pub record ProblemCounts (p : Problem) : Type 0 where
+  pub signature : SignatureCounts p.signature
+  pub schemas : Each SchemaCounts p.schemas
+  pub init : Each (λ i. InitCounts i.start) p.init
+  pub goal : Each AimCounts p.goal
