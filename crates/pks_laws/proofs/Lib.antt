@@ -2,12 +2,16 @@ pub mod Accepting
 pub mod Adding
 pub mod Answering
 pub mod Assuming
+pub mod Belonging
+pub mod BelongingSteps
+pub mod BelongingHistories
 pub mod BestTree
 pub mod Changing
 pub mod Choosing
 pub mod Closing
 pub mod Compatible
 pub mod Deciding
+pub mod Fitting
 pub mod GoodPlans
 pub mod Histories
 pub mod Holding
