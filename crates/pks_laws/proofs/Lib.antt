@@ -21,7 +21,6 @@ pub mod Least
 pub mod LeastFamily
 pub mod Progressing
 pub mod PuttingIn
-pub mod Rows
 pub mod Sensing
 pub mod Settled
 pub mod Sorted
@@ -34,3 +33,4 @@ pub mod Unique
 pub mod Validity
 pub mod Values
 pub mod Versions
+pub mod WorkedRows

@@ -1,1 +1,2 @@
 pub mod OfSignature
+pub mod Worked
