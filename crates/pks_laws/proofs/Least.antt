@@ -480,7 +480,7 @@ module _ (s : Signature) (big : Five) (inhabited : HasValues s) (saturated : IsS
   round_within d w g r l i =
       ⊎_elim (w l) (additions_within d w g r l) (in_added literal_cmp_total literal_cmp_tells d.kf (additions s d) l i)
 
-  rounds_keep : (n : ℕ) (d : Five) → ((rounds s n d).kx ≡ d.kx) × ((rounds s n d).lcw ≡ d.lcw)
+  pub rounds_keep : (n : ℕ) (d : Five) → ((rounds s n d).kx ≡ d.kx) × ((rounds s n d).lcw ≡ d.lcw)
   unfolding round
   rounds_keep zero d = (refl, refl)
   rounds_keep (suc n) d = rounds_keep n d

@@ -2,12 +2,16 @@ pub mod Accepting
 pub mod Adding
 pub mod Answering
 pub mod Assuming
+pub mod Belonging
+pub mod BelongingSteps
+pub mod BelongingHistories
 pub mod BestTree
 pub mod Changing
 pub mod Choosing
 pub mod Closing
 pub mod Compatible
 pub mod Deciding
+pub mod Fitting
 pub mod GoodPlans
 pub mod Histories
 pub mod Holding
@@ -17,7 +21,6 @@ pub mod Least
 pub mod LeastFamily
 pub mod Progressing
 pub mod PuttingIn
-pub mod Rows
 pub mod Sensing
 pub mod Settled
 pub mod Sorted
@@ -30,3 +33,4 @@ pub mod Unique
 pub mod Validity
 pub mod Values
 pub mod Versions
+pub mod WorkedRows

@@ -1,0 +1,3 @@
+pub mod OfSignature
+pub mod Saying
+pub mod Worked
