@@ -11,16 +11,11 @@ use Rattle.pks_grammar.specs.declared.grammar.Part.TheVariants.{One, Maybe, Many
 use Rattle.pks_grammar.specs.Grammar.{Lists, is_allowed, lists, with_head, is_among, production, head_of_section}
 use Rattle.pks_grammar.specs.Walk.{head_of, is_headed, sort_at, parts_after, is_wanting, lacks, is_fixed, count, is_miscounted, first_of, fault_in, fault_among}
 use Rattle.pks_grammar.specs.Language.{IsOf, word, listing, Matches, nothing, one, left_out, there, no_more, again}
+use Rattle.pks_grammar.proofs.Heads.{some_is, parts_none, has_parts}
 use Rattle.pks_grammar.proofs.Tables.{is_missing, cannot_begin, is_section, has_one_head, is_decided, are_decided, is_other_decided, no_words, fixed_decided, other_decided}
 use Rattle.pks_grammar.proofs.Walking.{some_none, list_fault, word_walk, list_walk, parts_walk, walked_form}
 
 -- ---- productions
-
-parts_none : {ps : List Part} → Some ps ≡ None → ⊥
-parts_none e = grind arith
-
-some_is : {x y : List Part} → Some x ≡ Some y → x ≡ y
-some_is e = cc
 
 -- each production of the table has decided parts
 found_decided : (v : Version) (head : List ℕ) (fixed : List (List ℕ × List Part)) (otherwise : Option (List Part)) (ps : List Part)
@@ -65,7 +60,7 @@ list_headed v s has head ps made = one_head head (lists v s).fixed (lists v s).o
 
 section_headed : (v : Version) (s : Sort) (f : Form) → is_section s ≡ true → has_one_head (lists v s) ≡ true → IsOf v s f → is_headed (head_of_section v s) f ≡ true
 section_headed v s _ section has (word _ text at allowed) = absurd (false≢true (sym (no_words s section text) ∙ allowed))
-section_headed v s _ section has (listing _ parts at end ps made matches) = list_headed v s has (head_of parts) ps made
+section_headed v s _ section has (listing _ parts at end ps may matches) = list_headed v s has (head_of parts) ps (has_parts v s parts ps may matches)
 
 -- ---- a list with a head that cannot begin the parts
 
@@ -75,10 +70,10 @@ missing_is (Some ps) e = absurd (false≢true e)
 
 not_headed : (v : Version) (h : List ℕ) (s : Sort) (f : Form) → is_missing (production v s h) ≡ true → IsOf v s f → is_headed h f ≡ false
 not_headed v h s _ missing (word _ text at allowed) = refl
-not_headed v h s _ missing (listing _ parts at end ps made matches) = by_head (bytes_eq (head_of parts) h) (λ same. (bytes_eq-Decides (head_of parts) h).0 same)
+not_headed v h s _ missing (listing _ parts at end ps may matches) = by_head (bytes_eq (head_of parts) h) (λ same. (bytes_eq-Decides (head_of parts) h).0 same)
   where
     by_head : (b : Bool) → (b ≡ true → head_of parts ≡ h) → b ≡ false
-    by_head true same = absurd (parts_none (sym made ∙ ap (λ (head : List ℕ). production v s head) (same refl) ∙ missing_is (production v s h) missing))
+    by_head true same = absurd (parts_none (sym (has_parts v s parts ps may matches) ∙ ap (λ (head : List ℕ). production v s head) (same refl) ∙ missing_is (production v s h) missing))
     by_head false same = refl
 
 cannot_later : (v : Version) (h : List ℕ) (s : Sort) (ps : List Part) → (is_missing (production v s h) && cannot_begin v h ps) ≡ true → (is_missing (production v s h) ≡ true) × (cannot_begin v h ps ≡ true)
@@ -175,7 +170,8 @@ may_be_missing v s ps d =
 mutual
   pub faultless_form : (v : Version) (s : Sort) (f : Form) → IsOf v s f → fault_in v s f ≡ None
   faultless_form v s _ (word _ text at allowed) = word_walk v s text at ∙ ap (λ (b : Bool). cond b None (Some at)) allowed
-  faultless_form v s _ (listing _ parts at end ps made matches) =
+  faultless_form v s _ (listing _ parts at end ps may matches) =
+      let made = has_parts v s parts ps may matches in
       let faultless = faultless_parts v ps parts (decided v s (head_of parts) ps made) matches in
       list_walk v s parts at end
       ∙ ap (λ (o : Option (List Part)). list_fault v o parts at) made

@@ -12,6 +12,7 @@ use Rattle.pks_grammar.specs.Walk.{head_of, is_headed, fault_in}
 use Rattle.pks_grammar.specs.Language.{IsOf, word, listing, MayBeWorld, IsFile}
 use Rattle.pks_grammar.specs.Files.{Fault, or_else, stated, is_version, version_of, top_fault, rest_fault, walk_fault, shape_fault}
 use Rattle.pks_grammar.specs.FaultViews.{fault_view}
+use Rattle.pks_grammar.proofs.Heads.{has_parts}
 use Rattle.pks_grammar.proofs.Tables.{has_one_head}
 use Rattle.pks_grammar.proofs.Walking.{walked_form}
 use Rattle.pks_grammar.proofs.Deciding.{list_headed, faultless_form}
@@ -56,12 +57,12 @@ version_states f v e = ap (λ (o : Option Version). elim o [ None ↦ false | So
 domain_headed : (v : Version) (f : Form) → IsOf v Domain f → is_headed (codes "domain") f ≡ true
 unfolding is_allowed lists head_of_section
 domain_headed v _ (word _ text at allowed) = absurd (false≢true allowed)
-domain_headed v _ (listing _ parts at end ps made matches) = list_headed v Domain refl (head_of parts) ps made
+domain_headed v _ (listing _ parts at end ps may matches) = list_headed v Domain refl (head_of parts) ps (has_parts v Domain parts ps may matches)
 
 problem_headed : (v : Version) (f : Form) → IsOf v Problem f → is_headed (codes "problem") f ≡ true
 unfolding is_allowed lists head_of_section
 problem_headed v _ (word _ text at allowed) = absurd (false≢true allowed)
-problem_headed v _ (listing _ parts at end ps made matches) = list_headed v Problem refl (head_of parts) ps made
+problem_headed v _ (listing _ parts at end ps may matches) = list_headed v Problem refl (head_of parts) ps (has_parts v Problem parts ps may matches)
 
 rest_is : (rest : List Form) → rest_fault (slice_get rest 0) (slice_get rest 1) ≡ None → MayBeWorld rest
 rest_is [] e = tt

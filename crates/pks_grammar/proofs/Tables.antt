@@ -1,5 +1,5 @@
 -- What the table of the grammar is like: by a form's head one sees where it stands.
-use Rattle.std.proofs.Common.{◌≡◌, ℕ, Bool, true, false, ◌&&◌, cond, List, [], ◌∷◌, Option, Some, None, refl, sym, ap, ◌∙◌, subst, arith, bytes_eq}
+use Rattle.std.proofs.Common.{◌≡◌, ℕ, Bool, true, false, not, ◌&&◌, ◌||◌, cond, map, List, [], ◌∷◌, Option, Some, None, refl, sym, ap, ◌∙◌, subst, arith, bytes_eq}
 use Rattle.std.proofs.lemmas.Bool.{false≢true, and_parts}
 use Rattle.pks_grammar.specs.declared.grammar.Version.{Version}
 use Rattle.pks_grammar.specs.declared.grammar.Version.TheVariants.{First, Second}
@@ -7,6 +7,7 @@ use Rattle.pks_grammar.specs.declared.grammar.Sort.{Sort}
 use Rattle.pks_grammar.specs.declared.grammar.Sort.TheVariants.{Nothing, Head, Name, Variable, Number, Domain, Types, Kind, Objects, Predicates, Functions, Entry, Function, Action, Cost, Params, Param, Pre, Effects, Effect, Condition, Target, Senses, Sense, Knows, Add, Given, Item, Query, Plain, Problem, Init, Start, Goal, Aim, Literal, Positive, Atom, Pattern, Slot, Place, Term, World, True, Values, Value, Fact}
 use Rattle.pks_grammar.specs.declared.grammar.Part.{Part}
 use Rattle.pks_grammar.specs.declared.grammar.Part.TheVariants.{One, Maybe, Many}
+use Rattle.pks_grammar.specs.Words.{is_name}
 use Rattle.pks_grammar.specs.Grammar.{Lists, is_allowed, lists, with_head, is_among, production, head_of_section}
 
 -- ---- what is asked of the parts of a list
@@ -214,3 +215,132 @@ other_decided True v = refl
 other_decided Values v = refl
 other_decided Value v = refl
 other_decided Fact v = refl
+
+-- ---- which of its lists a form is, one sees by its head
+
+-- no two lists have one head
+abbrev pub are_distinct : List (List ℕ × List Part) → Bool
+are_distinct [] = true
+are_distinct (p ∷ ps) = not (is_among p.0 (map (λ q. q.0) ps)) && are_distinct ps
+
+abbrev pub begins_with_name : List Part → Bool
+begins_with_name (One Name ∷ ps) = true
+begins_with_name _ = false
+
+-- a list without a fixed head has none of these
+abbrev pub are_no_names : List (List ℕ) → List (List ℕ × List Part) → Bool
+are_no_names barred [] = true
+are_no_names barred (p ∷ ps) = (is_among p.0 barred || not (is_name p.0)) && are_no_names barred ps
+
+abbrev pub is_empty : List (List ℕ × List Part) → Bool
+is_empty [] = true
+is_empty (p ∷ ps) = false
+
+abbrev pub is_apart : Lists → Bool
+is_apart ls = elim ls.other [ None ↦ true | Some ps ↦ is_empty ls.fixed || (begins_with_name ps && are_no_names ls.barred ls.fixed) ]
+
+pub heads_distinct : (s : Sort) (v : Version) → are_distinct (lists v s).fixed ≡ true
+unfolding lists
+heads_distinct Nothing v = refl
+heads_distinct Head v = refl
+heads_distinct Name v = refl
+heads_distinct Variable v = refl
+heads_distinct Number v = refl
+heads_distinct Domain v = refl
+heads_distinct Types v = refl
+heads_distinct Kind First = refl
+heads_distinct Kind Second = refl
+heads_distinct Objects v = refl
+heads_distinct Predicates v = refl
+heads_distinct Functions v = refl
+heads_distinct Entry v = refl
+heads_distinct Function v = refl
+heads_distinct Action First = refl
+heads_distinct Action Second = refl
+heads_distinct Cost v = refl
+heads_distinct Params v = refl
+heads_distinct Param v = refl
+heads_distinct Pre v = refl
+heads_distinct Effects v = refl
+heads_distinct Effect v = refl
+heads_distinct Condition v = refl
+heads_distinct Target v = refl
+heads_distinct Senses v = refl
+heads_distinct Sense v = refl
+heads_distinct Knows v = refl
+heads_distinct Add v = refl
+heads_distinct Given v = refl
+heads_distinct Item v = refl
+heads_distinct Query v = refl
+heads_distinct Plain v = refl
+heads_distinct Problem v = refl
+heads_distinct Init v = refl
+heads_distinct Start v = refl
+heads_distinct Goal v = refl
+heads_distinct Aim First = refl
+heads_distinct Aim Second = refl
+heads_distinct Literal v = refl
+heads_distinct Positive v = refl
+heads_distinct Atom v = refl
+heads_distinct Pattern v = refl
+heads_distinct Slot v = refl
+heads_distinct Place v = refl
+heads_distinct Term v = refl
+heads_distinct World v = refl
+heads_distinct True v = refl
+heads_distinct Values v = refl
+heads_distinct Value v = refl
+heads_distinct Fact v = refl
+
+pub lists_apart : (s : Sort) (v : Version) → is_apart (lists v s) ≡ true
+unfolding lists
+lists_apart Nothing v = refl
+lists_apart Head v = refl
+lists_apart Name v = refl
+lists_apart Variable v = refl
+lists_apart Number v = refl
+lists_apart Domain v = refl
+lists_apart Types v = refl
+lists_apart Kind First = refl
+lists_apart Kind Second = refl
+lists_apart Objects v = refl
+lists_apart Predicates v = refl
+lists_apart Functions v = refl
+lists_apart Entry v = refl
+lists_apart Function v = refl
+lists_apart Action First = refl
+lists_apart Action Second = refl
+lists_apart Cost v = refl
+lists_apart Params v = refl
+lists_apart Param v = refl
+lists_apart Pre v = refl
+lists_apart Effects v = refl
+lists_apart Effect v = refl
+lists_apart Condition v = refl
+lists_apart Target v = refl
+lists_apart Senses v = refl
+lists_apart Sense v = refl
+lists_apart Knows v = refl
+lists_apart Add v = refl
+lists_apart Given v = refl
+lists_apart Item v = refl
+lists_apart Query v = refl
+lists_apart Plain v = refl
+lists_apart Problem v = refl
+lists_apart Init v = refl
+lists_apart Start v = refl
+lists_apart Goal v = refl
+lists_apart Aim First = refl
+lists_apart Aim Second = refl
+lists_apart Literal v = refl
+lists_apart Positive v = refl
+lists_apart Atom v = refl
+lists_apart Pattern v = refl
+lists_apart Slot v = refl
+lists_apart Place v = refl
+lists_apart Term v = refl
+lists_apart World v = refl
+lists_apart True v = refl
+lists_apart Values v = refl
+lists_apart Value v = refl
+lists_apart Fact v = refl

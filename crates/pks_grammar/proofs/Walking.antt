@@ -9,7 +9,8 @@ use Rattle.pks_grammar.specs.declared.grammar.Part.{Part}
 use Rattle.pks_grammar.specs.declared.grammar.Part.TheVariants.{One, Maybe, Many}
 use Rattle.pks_grammar.specs.Grammar.{is_allowed, lists, production, head_of_section}
 use Rattle.pks_grammar.specs.Walk.{head_of, is_headed, sort_at, parts_after, is_wanting, lacks, is_fixed, count, is_miscounted, first_of, fault_in, fault_among}
-use Rattle.pks_grammar.specs.Language.{IsOf, word, listing, Matches, nothing, one, left_out, there, no_more, again}
+use Rattle.pks_grammar.specs.Language.{MayHave, IsOf, word, listing, Matches, nothing, one, left_out, there, no_more, again}
+use Rattle.pks_grammar.proofs.Heads.{may_have, has_parts}
 
 pub some_none : {at : ℕ} → Some at ≡ None → ⊥
 some_none e = grind arith
@@ -45,7 +46,7 @@ no_word_of_nothing text = refl
 
 no_form_of_nothing : (v : Version) (f : Form) → IsOf v Nothing f → ⊥
 no_form_of_nothing v _ (word _ text at allowed) = false≢true (sym (no_word_of_nothing text) ∙ allowed)
-no_form_of_nothing v _ (listing _ parts at end ps made matches) = none (sym (none_of_nothing v (head_of parts)) ∙ made)
+no_form_of_nothing v _ (listing _ parts at end ps may matches) = none (sym (none_of_nothing v (head_of parts)) ∙ has_parts v Nothing parts ps may matches)
   where
     none : None ≡ Some ps → ⊥
     none e = grind arith
@@ -84,7 +85,7 @@ listed : (v : Version) (s : Sort) (parts : Forms) (at end : ℕ) (o : Option (Li
 listed v s parts at end None made e later = absurd (some_none e)
 listed v s parts at end (Some ps) made e later =
     let c = counted (lacks v ps parts) (is_fixed ps && nat_lt (length ps) (count parts)) at (fault_among v ps parts) e in
-    listing s parts at end ps made (later ps c.0 c.1)
+    listing s parts at end ps (may_have v s (head_of parts) ps made) (later ps c.0 c.1)
 
 mutual
   pub walked_form : (v : Version) (s : Sort) (f : Form) → fault_in v s f ≡ None → IsOf v s f
