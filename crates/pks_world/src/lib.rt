@@ -1,0 +1,5 @@
+//! Worlds, what actions do to them, and what is observed in them.
+#![tactic(auto)]
+
+pub mod first;
+pub mod world;
