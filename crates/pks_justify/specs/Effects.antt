@@ -3,11 +3,7 @@ use Rattle.std.specs.Prelude.{Bool, false, cond, not, ◌||◌, ◌&&◌, List, 
 use Rattle.std.specs.List.{list_any, list_all}
 use Rattle.pks_terms.specs.declared.term.Inner as inner
 use Rattle.pks_terms.specs.declared.term.Term as term
-use Rattle.pks_terms.specs.declared.term.Term.TheVariants as term_is
-use Rattle.pks_terms.specs.declared.schema.Target as target
-use Rattle.pks_terms.specs.declared.schema.Target.TheVariants as target_is
 use Rattle.pks_terms.specs.declared.schema.Effect.{Effect as DEffect}
-use Rattle.pks_terms.specs.Sets.{Each}
 use Rattle.pks_terms.specs.Syntax.{Inner, Term, Literal, negated}
 use Rattle.pks_terms.specs.Orders.{literal_eq}
 use Rattle.pks_terms.specs.Queries.{Plain}
@@ -31,23 +27,6 @@ effects_of es = map effect_of es
 -- the senses of a list
 abbrev pub senses_of : List sense.Sense → List Sense
 senses_of xs = map sense_of xs
-
--- the term is an application
-abbrev pub IsApplication : term.Term → Type 0
-IsApplication (term_is.Obj d) = ⊥
-IsApplication (term_is.Param i) = ⊥
-IsApplication (term_is.App f n ts) = Unit {0}
-
--- the place of an assignment is an application
-abbrev pub IsPlaced : target.Target → Type 0
-IsPlaced (target_is.Set a) = Unit {0}
-IsPlaced (target_is.Unset a) = Unit {0}
-IsPlaced (target_is.Clear x) = Unit {0}
-IsPlaced (target_is.Assign place value) = IsApplication place
-
--- so it is in each effect
-abbrev pub ArePlaced : List DEffect → Type 0
-ArePlaced es = Each (λ e. IsPlaced e.target) es
 
 -- the literal is this one or its negation
 abbrev pub is_this_or_negation : Literal → Literal → Bool

@@ -1,4 +1,4 @@
 pub mod Asked
 pub mod Effects
 pub mod Cases
-pub mod Countable
+pub mod Places

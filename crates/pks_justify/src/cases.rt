@@ -7,9 +7,10 @@ ghost use Rattle.pks_terms.specs.Branching.{numbered};
 ghost use Rattle.pks_terms.specs.Answers.{unjustified_in, unjustified};
 ghost use Rattle.pks_terms.specs.Views.{term_of, literal_of, literals_in, conj_of, pattern_of, item_of, add_of, schema_of, problem_of};
 ghost use Rattle.pks_justify.specs.Asked.{given_view};
-ghost use Rattle.pks_justify.specs.Effects.{effects_of, senses_of, ArePlaced};
+ghost use Rattle.pks_justify.specs.Effects.{effects_of, senses_of};
 ghost use Rattle.pks_justify.specs.Cases.{case_view, adds_of, schemas_of, unjustified_view, first_without_case, first_unjustified};
-ghost use Rattle.pks_justify.specs.Countable.{AreCountable, IsCountable};
+ghost use Rattle.pks_terms.specs.ValidProblems.{IsValidProblem};
+ghost use Rattle.pks_justify.specs.Places.{AssignToPlaces, AllAssignToPlaces, AreNumbered};
 ghost use Rattle.pks_terms.specs.Problems.{schema_of as action_of};
 
 use crate::deciding::{is_decided, some_assigns_known, some_clears_all};
@@ -43,7 +44,7 @@ pub enum Case {
 }
 
 fn literal_case(g: &Given<'_>, schema: &Schema<'_>, l: &Literal) -> Option<Case>
-    requires { ArePlaced schema.now.effects }
+    requires { AssignToPlaces schema.now.effects }
     ensures { option_map case_view result ≡ item_case (given_view g.now) (schema_of schema.now) (ItemKf (literal_of l.now)) }
 {
     if is_made_so(g, l, schema.effects.as_slice()) {
@@ -90,7 +91,7 @@ fn formula_case(g: &Given<'_>, schema: &Schema<'_>, c: &Conj) -> Option<Case>
 }
 
 fn value_case(g: &Given<'_>, schema: &Schema<'_>, t: &Term) -> Option<Case>
-    requires { ArePlaced schema.now.effects }
+    requires { AssignToPlaces schema.now.effects }
     ensures { option_map case_view result ≡ item_case (given_view g.now) (schema_of schema.now) (ItemKv (term_of t.now)) }
 {
     if is_value_found(t, schema.senses.as_slice()) {
@@ -113,7 +114,7 @@ fn region_case(g: &Given<'_>, schema: &Schema<'_>, x: &Pattern) -> Option<Case>
 }
 
 fn item_case(g: &Given<'_>, schema: &Schema<'_>, item: &Item) -> Option<Case>
-    requires { ArePlaced schema.now.effects }
+    requires { AssignToPlaces schema.now.effects }
     ensures { option_map case_view result ≡ item_case (given_view g.now) (schema_of schema.now) (item_of item.now) }
 {
     match item {
@@ -127,7 +128,7 @@ fn item_case(g: &Given<'_>, schema: &Schema<'_>, item: &Item) -> Option<Case>
 // The case of an add in an action.
 #[tactic(auto, unfolding(pks_terms::specs::Justified::case_of))]
 pub fn case_in(schema: &Schema<'_>, add: &Adds) -> Option<Case>
-    requires { ArePlaced schema.now.effects }
+    requires { AssignToPlaces schema.now.effects }
     ensures { option_map case_view result ≡ case_of (schema_of schema.now) (add_of add.now) }
 {
     item_case(&queries_of(schema, add), schema, &add.item)
@@ -135,7 +136,7 @@ pub fn case_in(schema: &Schema<'_>, add: &Adds) -> Option<Case>
 
 // The number of the first add without a case, these having numbers from `number` on.
 pub fn first_in(schema: &Schema<'_>, adds: &[Adds], number: u64) -> Option<u32>
-    requires placed { ArePlaced schema.now.effects }
+    requires placed { AssignToPlaces schema.now.effects }
     requires few { number + length adds.now ≤ 2 ^ 32 }
     ensures { result ≡ first_without_case (schema_of schema.now) number (adds_of adds.now) }
 {
@@ -159,7 +160,8 @@ pub struct Unjustified {
 
 // The first add without a case in these actions, which have numbers from `action` on.
 fn first_among(schemas: &[Schema<'_>], action: u16) -> Option<Unjustified>
-    requires countable { AreCountable schemas.now }
+    requires placed { AllAssignToPlaces schemas.now }
+    requires numbered { AreNumbered schemas.now }
     requires few { action + length schemas.now ≤ 256 }
     ensures { option_map unjustified_view result ≡ first_unjustified action (schemas_of schemas.now) }
 {
@@ -179,7 +181,7 @@ fn first_among(schemas: &[Schema<'_>], action: u16) -> Option<Unjustified>
 /// takes no memory, and names the first add without a case, by action and then by number, where there is one.
 #[tactic(auto, using(crate::proofs::First::none_without, crate::proofs::First::first_without))]
 pub fn justify(p: &Problem<'_>) -> Result<(), Unjustified>
-    requires { IsCountable p.now }
+    requires { IsValidProblem p.now }
     ensures { MatchResult result (λ _. unjustified (problem_of p.now) ≡ []) (λ u. (rest : List (ℕ × ℕ)) × (unjustified (problem_of p.now) ≡ unjustified_view u ∷ rest)) }
 {
     match first_among(p.schemas.as_slice(), 0) {
@@ -191,7 +193,7 @@ pub fn justify(p: &Problem<'_>) -> Result<(), Unjustified>
 /// The case of an add, which needn't stand in the file, in an action (`docs/RULES.md`, "Justified adds"), or none where no
 /// case fits. It asks that the problem is valid and the action is declared, and takes no memory.
 pub fn case_with(p: &Problem<'_>, action: ActId, add: &Adds) -> Option<Case>
-    requires valid { IsCountable p.now }
+    requires valid { IsValidProblem p.now }
     requires declared { action.0 < length p.now.schemas }
     ensures { option_map case_view result ≡ case_of (action_of (problem_of p.now) action.0) (add_of add.now) }
 {
@@ -201,7 +203,7 @@ pub fn case_with(p: &Problem<'_>, action: ActId, add: &Adds) -> Option<Case>
 /// The case of an add of an action, adds counted from 1 (`docs/RULES.md`, "Justified adds"), or none where no case fits.
 /// It asks that the problem is valid and the add is there, and takes no memory.
 pub fn case_of(p: &Problem<'_>, action: ActId, effect: u32) -> Option<Case>
-    requires valid { IsCountable p.now }
+    requires valid { IsValidProblem p.now }
     requires declared { action.0 < length p.now.schemas }
     requires counted { 1 ≤ effect }
     requires there { effect ≤ length (action_of (problem_of p.now) action.0).adds }

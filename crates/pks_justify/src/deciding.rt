@@ -6,8 +6,10 @@ ghost use Rattle.pks_terms.specs.Sets.{with_later};
 ghost use Rattle.pks_terms.specs.Syntax.{Term as Value, negated};
 ghost use Rattle.pks_terms.specs.Justified.{is_target_on, is_unconditional, is_about, decides, single, is_decided_by, is_plain_value, is_place, value_assigned, assigns_known, is_set_on, is_clear_of, clears_all, is_given_either_way};
 ghost use Rattle.pks_terms.specs.Views.{term_of, literal_of, literals_in, relation_of, conj_of, pattern_of, target_of, effect_of};
+ghost use Rattle.pks_terms.specs.ValidProblems.{AssignsToPlace};
+ghost use Rattle.pks_justify.specs.Places.{AssignToPlaces};
 ghost use Rattle.pks_justify.specs.Asked.{given_view};
-ghost use Rattle.pks_justify.specs.Effects.{effects_of, IsPlaced, ArePlaced, is_this_or_negation, knows_condition, only_one};
+ghost use Rattle.pks_justify.specs.Effects.{effects_of, is_this_or_negation, knows_condition, only_one};
 
 use crate::fitting::{atom_literal, is_plain_term, is_same};
 use crate::given::Given;
@@ -69,7 +71,8 @@ fn knows_condition(g: &Given<'_>, e: &Effect) -> bool
 fn decides(g: &Given<'_>, l: &Literal, e: &Effect) -> bool
     ensures { result ≡ decides (given_view g.now) (literal_of l.now) (effect_of e.now) }
 {
-    is_about(l, &e.target) && (!is_unconditional(e) && (g.knows_either_way(l) && knows_condition(g, e)))
+    is_about(l, &e.target)
+        && (!is_unconditional(e) && (g.knows_either_way(l) && knows_condition(g, e)))
 }
 
 // The one effect on the predicate decides the literal.
@@ -107,12 +110,14 @@ fn is_plain_value(g: &Given<'_>, t: &Term) -> bool
 
 // The effect gives the place a known value, unconditionally, and none of the later ones may undo it.
 fn assigns_known(g: &Given<'_>, t: &Term, e: &Effect, later: &[Effect]) -> bool
-    requires { IsPlaced e.now.target }
+    requires { AssignsToPlace e.now.target }
     ensures { result ≡ assigns_known (given_view g.now) (term_of t.now) (effect_of e.now, effects_of later.now) }
 {
     match &e.target {
         Target::Assign { place, value } => {
-            is_same(place, t) && (is_unconditional(e) && (is_plain_value(g, value) && !may_be_undone(g, &e.target, later)))
+            is_same(place, t)
+                && (is_unconditional(e)
+                    && (is_plain_value(g, value) && !may_be_undone(g, &e.target, later)))
         }
         Target::Set(_) | Target::Unset(_) | Target::Clear(_) => false,
     }
@@ -120,7 +125,7 @@ fn assigns_known(g: &Given<'_>, t: &Term, e: &Effect, later: &[Effect]) -> bool
 
 /// Some effect does so.
 pub fn some_assigns_known(g: &Given<'_>, t: &Term, effects: &[Effect]) -> bool
-    requires { ArePlaced effects.now }
+    requires { AssignToPlaces effects.now }
     ensures { result ≡ list_any (assigns_known (given_view g.now) (term_of t.now)) (with_later (effects_of effects.now)) }
 {
     match effects {

@@ -7,8 +7,10 @@ ghost use Rattle.std.specs.Option.{option_map_or};
 ghost use Rattle.pks_terms.specs.Sets.{with_later};
 ghost use Rattle.pks_terms.specs.Justified.{target_literal, makes_so, is_made_so, is_plain_term, covers, senses_all, senses_whether, senses_value, is_target_on, is_unconditional, is_about, decides, single, is_decided_by, is_plain_value, is_place, value_assigned, assigns_known, is_set_on, is_clear_of, clears_all, is_given_either_way};
 ghost use Rattle.pks_terms.specs.Views.{term_of, terms_of, literal_of, literals_in, relation_of, conj_of, pattern_of, target_of, effect_of, sense_of};
+ghost use Rattle.pks_terms.specs.ValidProblems.{AssignsToPlace};
+ghost use Rattle.pks_justify.specs.Places.{AssignToPlaces};
 ghost use Rattle.pks_justify.specs.Asked.{given_view};
-ghost use Rattle.pks_justify.specs.Effects.{slots_of, effects_of, senses_of, IsPlaced, ArePlaced};
+ghost use Rattle.pks_justify.specs.Effects.{slots_of, effects_of, senses_of};
 
 use crate::given::Given;
 use crate::undoing::may_be_undone;
@@ -28,7 +30,7 @@ pub fn atom_literal(a: &PredAtom, positive: bool) -> Literal
 
 // What is so after the effect fires.
 fn literal_of_target(target: &Target) -> Option<Literal>
-    requires { IsPlaced target.now }
+    requires { AssignsToPlace target.now }
     ensures { option_map literal_of result ≡ target_literal (target_of target.now) }
 {
     match target {
@@ -41,7 +43,7 @@ fn literal_of_target(target: &Target) -> Option<Literal>
 
 #[tactic(auto, unfolding(pks_terms::specs::Orders::literal_eq))]
 fn makes_literal(l: &Literal, target: &Target) -> bool
-    requires { IsPlaced target.now }
+    requires { AssignsToPlace target.now }
     ensures { result ≡ option_map_or (λ m. literal_eq m (literal_of l.now)) (target_literal (target_of target.now)) false }
 {
     match literal_of_target(target) {
@@ -52,16 +54,17 @@ fn makes_literal(l: &Literal, target: &Target) -> bool
 
 // An effect makes the literal so, all its conditions given, and none of the later ones may undo it.
 fn makes_so(g: &Given<'_>, l: &Literal, e: &Effect, later: &[Effect]) -> bool
-    requires { IsPlaced e.now.target }
+    requires { AssignsToPlace e.now.target }
     ensures { result ≡ makes_so (given_view g.now) (literal_of l.now) (effect_of e.now, effects_of later.now) }
 {
-    makes_literal(l, &e.target) && (g.knows_all(front(&e.cond.literals, e.cond.n)) && !may_be_undone(g, &e.target, later))
+    makes_literal(l, &e.target)
+        && (g.knows_all(front(&e.cond.literals, e.cond.n)) && !may_be_undone(g, &e.target, later))
 }
 
 /// Some effect makes the literal so.
 #[tactic(auto, unfolding(pks_terms::specs::Justified::is_made_so))]
 pub fn is_made_so(g: &Given<'_>, l: &Literal, effects: &[Effect]) -> bool
-    requires { ArePlaced effects.now }
+    requires { AssignToPlaces effects.now }
     ensures { result ≡ is_made_so (given_view g.now) (literal_of l.now) (effects_of effects.now) }
 {
     match effects {
@@ -110,7 +113,8 @@ fn finds_all(l: &Literal, sense: &Sense) -> bool
     match sense {
         Sense::Whether(_) | Sense::Value(_) => false,
         Sense::All(x) => match &l.atom {
-            Atom::Pred(a) => x.pred.0 == a.pred.0 && covers(front(&x.args, x.n), front(&a.args, a.n)),
+            Atom::Pred(a) => x.pred.0 == a.pred.0
+                && covers(front(&x.args, x.n), front(&a.args, a.n)),
             Atom::Eq { .. } => false,
         },
     }

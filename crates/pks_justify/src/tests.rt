@@ -1,5 +1,6 @@
 ghost use Rattle.std.specs.Prelude.{◌↔◌, IsTrue, IfOk, length, ◌<◌};
-ghost use Rattle.pks_justify.specs.Effects.{IsApplication, IsPlaced, ArePlaced};
+ghost use Rattle.pks_terms.specs.ValidProblems.{IsApplication, AssignsToPlace};
+ghost use Rattle.pks_justify.specs.Places.{AssignToPlaces};
 
 use crate::cases::{Case, case_in, first_in};
 use pks_terms::ids::{FnId, ObjId, PredId, Span};
@@ -12,8 +13,11 @@ use std::process::Abort;
 use std::test::Fail;
 
 const A: Term = Term::Obj(ObjId(0));
+
 const B: Term = Term::Obj(ObjId(1));
+
 const X: Term = Term::Param(0);
+
 const Y: Term = Term::Param(1);
 
 // The function of this number without arguments.
@@ -94,7 +98,7 @@ fn is_application(t: &Term) -> bool
 }
 
 fn is_placed(target: &Target) -> bool
-    ensures { IsTrue result ↔ IsPlaced target.now }
+    ensures { IsTrue result ↔ AssignsToPlace target.now }
 {
     match target {
         Target::Set(_) | Target::Unset(_) | Target::Clear(_) => true,
@@ -103,7 +107,7 @@ fn is_placed(target: &Target) -> bool
 }
 
 fn are_placed(effects: &[Effect]) -> bool
-    ensures { IsTrue result ↔ ArePlaced effects.now }
+    ensures { IsTrue result ↔ AssignToPlaces effects.now }
 {
     match effects {
         [] => true,
@@ -111,7 +115,12 @@ fn are_placed(effects: &[Effect]) -> bool
     }
 }
 
-fn schema(alloc: Global, pre: &[Query], effects: &[Effect], senses: &[Sense]) -> Result<Schema<'static>, Fail> {
+fn schema(
+    alloc: Global,
+    pre: &[Query],
+    effects: &[Effect],
+    senses: &[Sense],
+) -> Result<Schema<'static>, Fail> {
     Ok(Schema {
         name: "act",
         cost: 1,
@@ -172,12 +181,22 @@ fn literals_that_effects_make_so(rt: HostRuntime) -> Result<(), Fail> {
     let fx = Item::Kf(equation(&f(0), &X, true));
     let rows: [(&[Effect], Option<Query>, Item, Option<Case>); 15] = [
         (&[set_a], None, pa, Some(Case::J1)),
-        (&[unset_b], None, Item::Kf(literal(p(B), false)), Some(Case::J1)),
+        (
+            &[unset_b],
+            None,
+            Item::Kf(literal(p(B), false)),
+            Some(Case::J1),
+        ),
         (&[unset_b], None, Item::Kf(literal(p(B), true)), None),
         (&[set_a_if_r], None, pa, None),
         (&[set_a_if_r], Some(known_r), pa, Some(Case::J1)),
         (&[set_a_if_r], Some(known_not_r), pa, None),
-        (&[set_a_if_r], Some(Query::NotK(literal(r(), true))), pa, None),
+        (
+            &[set_a_if_r],
+            Some(Query::NotK(literal(r(), true))),
+            pa,
+            None,
+        ),
         (&[set_x, unset_y], None, px, None),
         (&[set_a, unset_b], None, pa, Some(Case::J1)),
         (&[set_x, unset_y], Some(known_apart), px, Some(Case::J1)),
@@ -188,7 +207,18 @@ fn literals_that_effects_make_so(rt: HostRuntime) -> Result<(), Fail> {
         (&[assigned, always(assign(f(0), A))], None, fx, None),
     ];
     for (effects, given, item, case) in rows {
-        expect(&rt, rt.alloc(), &Row { pre: &[], effects, senses: &[], given, item, case })?;
+        expect(
+            &rt,
+            rt.alloc(),
+            &Row {
+                pre: &[],
+                effects,
+                senses: &[],
+                given,
+                item,
+                case,
+            },
+        )?;
     }
     Ok(())
 }
@@ -208,18 +238,60 @@ fn formulas_values_and_regions(rt: HostRuntime) -> Result<(), Fail> {
     let clear = always(Target::Clear(p_of_any()));
     let set_b = always(Target::Set(p(B)));
     let region = Item::Lcw(p_of_any());
-    let rows: [(&[Query], &[Effect], &[Sense], Option<Query>, Item, Option<Case>); 19] = [
-        (&[], &[], &[Sense::Whether(r_and_pa)], None, Item::Kw(r_and_pa), Some(Case::J3)),
+    let rows: [(
+        &[Query],
+        &[Effect],
+        &[Sense],
+        Option<Query>,
+        Item,
+        Option<Case>,
+    ); 19] = [
+        (
+            &[],
+            &[],
+            &[Sense::Whether(r_and_pa)],
+            None,
+            Item::Kw(r_and_pa),
+            Some(Case::J3),
+        ),
         (&[], &[], &[Sense::Whether(r_and_pa)], None, kw_pa, None),
-        (&[], &[], &[Sense::All(p_of_any())], None, kw_pa, Some(Case::J4)),
-        (&[], &[], &[Sense::All(p_of_any())], None, Item::Kw(alone(literal(p(X), false))), Some(Case::J4)),
-        (&[], &[], &[Sense::All(p_of_any())], None, Item::Kw(alone(literal(p(f(1)), true))), None),
+        (
+            &[],
+            &[],
+            &[Sense::All(p_of_any())],
+            None,
+            kw_pa,
+            Some(Case::J4),
+        ),
+        (
+            &[],
+            &[],
+            &[Sense::All(p_of_any())],
+            None,
+            Item::Kw(alone(literal(p(X), false))),
+            Some(Case::J4),
+        ),
+        (
+            &[],
+            &[],
+            &[Sense::All(p_of_any())],
+            None,
+            Item::Kw(alone(literal(p(f(1)), true))),
+            None,
+        ),
         (&know_r, &[decides], &[], whether_pa, kw_pa, Some(Case::J5)),
         (&know_r, &[decides], &[], None, kw_pa, None),
         (&[], &[decides], &[], whether_pa, kw_pa, None),
         (&know_r, &[decides, set_b], &[], whether_pa, kw_pa, None),
         (&know_r, &[decides, clear], &[], whether_pa, kw_pa, None),
-        (&[], &[], &[Sense::Value(f(1))], None, Item::Kv(f(1)), Some(Case::J6)),
+        (
+            &[],
+            &[],
+            &[Sense::Value(f(1))],
+            None,
+            Item::Kv(f(1)),
+            Some(Case::J6),
+        ),
         (&[], &[], &[Sense::Value(f(1))], None, kv_f, None),
         (&[], &[value], &[], known_g, kv_f, Some(Case::J7)),
         (&[], &[value], &[], None, kv_f, None),
@@ -230,7 +302,18 @@ fn formulas_values_and_regions(rt: HostRuntime) -> Result<(), Fail> {
         (&[], &[set_b, clear], &[], None, region, Some(Case::J8)),
     ];
     for (pre, effects, senses, given, item, case) in rows {
-        expect(&rt, rt.alloc(), &Row { pre, effects, senses, given, item, case })?;
+        expect(
+            &rt,
+            rt.alloc(),
+            &Row {
+                pre,
+                effects,
+                senses,
+                given,
+                item,
+                case,
+            },
+        )?;
     }
     Ok(())
 }

@@ -86,8 +86,10 @@ fn may_make_false(g: &Given<'_>, a: &PredAtom, later: &Target) -> bool
     ensures { result ≡ may_undo (given_view g.now) (Set (atom_of a.now)) (target_of later.now) }
 {
     match later {
-        Target::Unset(b) => a.pred.0 == b.pred.0 && !some_are_apart(g, front(&a.args, a.n), front(&b.args, b.n)),
-        Target::Clear(x) => a.pred.0 == x.pred.0 && !some_fixed_are_apart(g, front(&a.args, a.n), front(&x.args, x.n)),
+        Target::Unset(b) => a.pred.0 == b.pred.0
+            && !some_are_apart(g, front(&a.args, a.n), front(&b.args, b.n)),
+        Target::Clear(x) => a.pred.0 == x.pred.0
+            && !some_fixed_are_apart(g, front(&a.args, a.n), front(&x.args, x.n)),
         Target::Set(_) | Target::Assign { .. } => false,
     }
 }
@@ -96,7 +98,8 @@ fn may_make_true(g: &Given<'_>, a: &PredAtom, later: &Target) -> bool
     ensures { result ≡ may_undo (given_view g.now) (Unset (atom_of a.now)) (target_of later.now) }
 {
     match later {
-        Target::Set(b) => a.pred.0 == b.pred.0 && !some_are_apart(g, front(&a.args, a.n), front(&b.args, b.n)),
+        Target::Set(b) => a.pred.0 == b.pred.0
+            && !some_are_apart(g, front(&a.args, a.n), front(&b.args, b.n)),
         Target::Unset(_) | Target::Clear(_) | Target::Assign { .. } => false,
     }
 }
@@ -105,7 +108,8 @@ fn may_assign_again(g: &Given<'_>, place: &Term, later: &Target) -> bool
     ensures { (v : Value) → result ≡ may_undo (given_view g.now) (Assign (number_of (term_of place.now)) (arguments_of (term_of place.now)) v) (target_of later.now) }
 {
     match later {
-        Target::Assign { place: other, .. } => place.number() == other.number() && !places_are_apart(g, place, other),
+        Target::Assign { place: other, .. } => place.number() == other.number()
+            && !places_are_apart(g, place, other),
         Target::Set(_) | Target::Unset(_) | Target::Clear(_) => false,
     }
 }
