@@ -1,3 +1,4 @@
+pub mod Appended
 pub mod Costs
 pub mod Roots
 pub mod Variants

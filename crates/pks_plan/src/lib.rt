@@ -1,5 +1,9 @@
 //! Conditional plans: their depth, their cost, which of two is better, and their text.
 #![tactic(auto)]
 
+mod bytes;
+mod names;
 pub mod order;
+mod parts;
+pub mod text;
 pub mod tree;
