@@ -1,5 +1,5 @@
 -- Texts that are appended part by part.
-use Rattle.std.proofs.Common.{◌≡◌, ◌<◌, ℕ, suc, Result, Ok, Err, OnErr, List, [], ◌∷◌, ◌++◌, length, map, drop, get_or, append_assoc, append-nil, refl, sym, ap, ◌∙◌}
+use Rattle.std.proofs.Common.{◌≡◌, ◌<◌, ℕ, suc, Result, Ok, Err, OnErr, List, [], ◌∷◌, ◌++◌, length, map, drop, get_or, append_assoc, append-nil, refl, sym, ap, ◌∙◌, subst}
 use Rattle.std.specs.List.{flat_map, join_with_byte}
 use Rattle.std.proofs.Math.Seq.{drop-cons}
 use Rattle.pks_terms.proofs.Fronts.{map-map}
@@ -26,6 +26,14 @@ part_then {old = old} {mid = mid} {new = new} {b = b} a e h = record {
   split = ap (λ x. a ++ x) h.split ∙ sym (append_assoc a h.written h.rest);
   appended = h.appended ∙ (ap (λ x. x ++ h.written) e ∙ append_assoc old a h.written);
 }
+
+-- within two texts that a third follows
+pub part_within : {old new : List ℕ} (a b c : List ℕ) → AppendsPart old new (a ++ b) → AppendsPart old new (a ++ (b ++ c))
+part_within {old = old} {new = new} a b c h = subst (λ x. AppendsPart old new x) (append_assoc a b c) (part_first c h)
+
+-- behind two texts
+pub part_past : {old mid new : List ℕ} (a b c : List ℕ) → mid ≡ old ++ (a ++ b) → AppendsPart mid new c → AppendsPart old new (a ++ (b ++ c))
+part_past {old = old} {new = new} a b c e h = subst (λ x. AppendsPart old new x) (append_assoc a b c) (part_then (a ++ b) e h)
 
 -- one text behind another
 pub both_appended : (old mid new a b : List ℕ) → mid ≡ old ++ a → new ≡ mid ++ b → new ≡ old ++ (a ++ b)
