@@ -8,3 +8,6 @@ pub mod shape;
 mod table;
 pub mod walk;
 pub mod words;
+
+#[cfg(test)]
+mod tests;

@@ -3,7 +3,7 @@ use Rattle.std.proofs.Common.{◌≡◌, ◌&&◌, ◌++◌, ℕ, zero, suc, Boo
 use Rattle.std.specs.List.{list_any, list_all}
 use Rattle.std.specs.Option.{option_map_or}
 use Rattle.std.proofs.lemmas.Bool.{and_from, or_parts}
-use Rattle.pks_terms.specs.Sets.{Each, IsIn, with_others, with_later, choices_from, added}
+use Rattle.pks_terms.specs.Sets.{Each, with_others, with_later, choices_from, added}
 use Rattle.pks_terms.specs.Syntax.{Apply, Inner, Term, term_of, Named, Literal, negated}
 use Rattle.pks_terms.specs.Orders.{literal_cmp, literal, equation}
 use Rattle.pks_terms.specs.Totality.{literal_cmp_total}
@@ -12,11 +12,8 @@ use Rattle.pks_terms.specs.Databases.{Five, values_at, holds}
 use Rattle.pks_terms.specs.Closure.{additions, round, first_clash, tidied, Outcome, Next, Clash, Closes, IsClosed}
 use Rattle.pks_terms.specs.Actions.{Target, Set, Unset, Clear, Assign, Effect, Instance}
 use Rattle.pks_terms.specs.Spoiling.{is_stable, are_stable, spoils}
-use Rattle.pks_terms.specs.Problems.{Problem, schema_of, initial}
-use Rattle.pks_terms.specs.Progress.{progressed, Progress}
-use Rattle.pks_terms.specs.Branching.{instances, Choice, Side, IsMember, Assumes}
-use Rattle.pks_terms.specs.Trees.{after_step, Acts, SettlesAfter, Takes}
-use Rattle.pks_terms.specs.Settling.{History, last_moment, last_of, with_last, steps_with_last, argument_forms, term_forms, stable_forms, target_forms, can_be_undone, is_made_otherwise, lasting, lasted, fired, must_have_fired, cannot_have_fired, effects_of, forward, backward, grown, from_next, settled_steps, settle_round, settle_rounds, State, At, Stopped, clashes, tidied_history, Settles}
+use Rattle.pks_terms.specs.Problems.{Problem, schema_of}
+use Rattle.pks_terms.specs.Settling.{History, argument_forms, term_forms, stable_forms, target_forms, can_be_undone, is_made_otherwise, lasting, lasted, fired, must_have_fired, cannot_have_fired, effects_of, forward, backward, grown, from_next, settled_steps, settle_round, settle_rounds, State, At, Stopped, clashes, tidied_history, Settles}
 use Rattle.pks_terms.specs.Saturated.{Within}
 use Rattle.pks_terms.specs.Valid.{all_fit, inner_fits, term_fits, AreOf, IsTargetText, IsValid}
 use Rattle.pks_terms.proofs.ListLaws.{each_append, each_in, each_of, each_map, each_kept, each_flat_map, each_added, each_weaker, in_filtered}
@@ -24,15 +21,15 @@ use Rattle.pks_terms.proofs.OrderLaws.{literal_cmp_tells}
 use Rattle.pks_terms.proofs.SetLaws.{added-append, added_longer, added_same, added_in}
 use Rattle.pks_laws.proofs.Least.{in_filter_map, in_filter_mapped, ranged}
 use Rattle.pks_laws.proofs.Fitting.{Keeps, AllKeep, all_fit_kept, choices_keep, argument_forms_keep, term_forms_keep, AllMove, term_that_fits, literal_kept}
-use Rattle.pks_laws.proofs.Belonging.{L, T, negated_of, equation_of, if_of, others_of, additions_of, saturated_end, tidied_of, closed_values, closed_of}
-use Rattle.pks_laws.proofs.BelongingSteps.{initial_of, schema_text, choice_of, put_effects, side_of, action_of}
-use Rattle.pks_laws.specs.OfSignature.{HasOwnValues, IsInstanceOf, IsSideOf, AreMomentsOf, IsMomentOf, IsHistoryOf}
+use Rattle.pks_laws.proofs.Belonging.{L, T, negated_of, equation_of, if_of, others_of, additions_of, saturated_end, tidied_of}
+use Rattle.pks_laws.proofs.BelongingSteps.{schema_text, put_effects}
+use Rattle.pks_laws.specs.OfSignature.{HasOwnValues, IsInstanceOf, AreMomentsOf}
 
-later_each : {X : Type 0} (P : X → Type 0) (xs : List X) → Each P xs → Each (λ q. P q.0 × Each P q.1) (with_later xs)
+pub later_each : {X : Type 0} (P : X → Type 0) (xs : List X) → Each P xs → Each (λ q. P q.0 × Each P q.1) (with_later xs)
 later_each P [] a = tt
 later_each P (x ∷ xs) a = ((a.0, a.1), later_each P xs a.1)
 
-other_each : {X : Type 0} (P : X → Type 0) (xs : List X) → Each P xs → Each (λ q. P q.0 × Each P q.1) (with_others xs)
+pub other_each : {X : Type 0} (P : X → Type 0) (xs : List X) → Each P xs → Each (λ q. P q.0 × Each P q.1) (with_others xs)
 other_each P [] a = tt
 other_each {X} P (x ∷ xs) a = (
   (a.0, a.1),
@@ -86,13 +83,75 @@ module _ (s : Signature) where
         (each_flat_map (L s) (λ (c : Literal × List Literal). cond (list_all (holds s before) c.1) (negated c.0 ∷ []) []) (with_others p.0.condition)
         (λ c i. if_of s (L s) (list_all (holds s before) c.1) (negated c.0 ∷ []) (negated_of s c.0 (each_in (λ q. L s q.0 × Each (L s) q.1) (with_others p.0.condition) c (others_of s p.0.condition w.0) i).0, tt)))
 
-abbrev is_clash : State → Bool
+abbrev pub is_clash : State → Bool
 is_clash (At x) = false
 is_clash Stopped = true
 
-abbrev history_or : History → State → History
+abbrev pub history_or : History → State → History
 history_or g (At x) = x
 history_or g Stopped = g
+
+-- ---- the end of the rounds: each moment is closed by the rules, and none clashes
+
+module _ (p : Problem) where
+  -- a moment that doesn't grow is left as it is by a round
+  still : (d : Five) (news : List Literal) → (grown p.signature d news).kf ≡ d.kf → round p.signature d ≡ d
+  unfolding round
+  still d news e =
+      let split = added-append literal_cmp d.kf (additions p.signature d) news in
+      let once = added literal_cmp d.kf (additions p.signature d) in
+      let longer = added_longer literal_cmp d.kf (additions p.signature d) in
+      let longest = added_longer literal_cmp once news in
+      let whole : length (added literal_cmp once news) ≡ length d.kf = ap length (sym split ∙ e) in
+      let same : length once ≡ length d.kf = omega arith in
+      λ i. record d { kf = added_same literal_cmp d.kf (additions p.signature d) same i }
+
+  abbrev IsEnd : Five → Type 0
+  IsEnd d = (round p.signature d ≡ d) × (first_clash p.signature d ≡ None)
+
+  end_closed : (d : Five) → IsEnd d → IsClosed p.signature (tidied d)
+  end_closed d e = record { from = d; closes = record { count = 0; last = e.0; gives = sym (ap (λ (r : Option Literal). option_map_or Rattle.pks_terms.specs.Closure.Clash r (Next (tidied d))) e.1) } }
+
+  no_clash_is : (o : Option Literal) → is_some o ≡ false → o ≡ None
+  no_clash_is None h = refl
+  no_clash_is (Some l) h = absurd (true≢false h)
+
+  abbrev first_kf : List (Instance × Five) → List Literal
+  first_kf [] = []
+  first_kf (step ∷ steps) = step.1.kf
+
+  abbrev rest_of_steps : List (Instance × Five) → List (Instance × Five)
+  rest_of_steps [] = []
+  rest_of_steps (step ∷ steps) = steps
+
+  steps_end : (before : Five) (steps : List (Instance × Five)) → settled_steps p before steps ≡ steps → list_any (λ step. is_some (first_clash p.signature step.1)) steps ≡ false → Each (λ step. IsEnd step.1) steps
+  steps_end before [] e c = tt
+  steps_end before (step ∷ steps) e c =
+      let o = or_parts (is_some (first_clash p.signature step.1)) _ c in
+      ((still step.1 (forward p step.0 before ++ from_next p step.1 steps) (ap first_kf e), no_clash_is (first_clash p.signature step.1) o.0), steps_end step.1 steps (ap rest_of_steps e) o.1)
+
+  module _ (h g : History) (s : Settles p h (At g)) where
+    abbrev end : History
+    end = settle_rounds p s.count h
+
+    no_moment : (b : Bool) → At g ≡ cond b Stopped (At (tidied_history end)) → (b ≡ false) × (g ≡ tidied_history end)
+    no_moment true e = absurd (true≢false (sym (ap is_clash e)))
+    no_moment false e = (refl, ap (history_or g) e)
+
+    ends : IsEnd end.start × Each (λ step. IsEnd step.1) end.steps
+    unfolding settle_round
+    ends =
+        let o = or_parts (is_some (first_clash p.signature end.start)) _ (no_moment (clashes p.signature end) s.gives).0 in
+        let last = s.last in (
+          (still end.start (from_next p end.start end.steps) (ap (λ (x : History). x.start.kf) last), no_clash_is (first_clash p.signature end.start) o.0),
+          steps_end end.start end.steps (ap (λ (x : History). x.steps) last) o.1,
+        )
+
+    -- each moment is closed
+    pub settled_closed : IsClosed p.signature g.start × Each (λ step. IsClosed p.signature step.1) g.steps
+    settled_closed =
+        subst (λ (x : History). IsClosed p.signature x.start × Each (λ step. IsClosed p.signature step.1) x.steps) (sym (no_moment (clashes p.signature end) s.gives).1)
+        (end_closed end.start ends.0, each_map (λ (step : Instance × Five). IsClosed p.signature step.1) (λ step. (step.0, tidied step.1)) end.steps (each_weaker (λ step. IsEnd step.1) (λ step. IsClosed p.signature (tidied step.1)) (λ step e. end_closed step.1 e) end.steps ends.1))
 
 module _ (p : Problem) (v : IsValid p) where
   abbrev S : Signature
@@ -185,142 +244,25 @@ module _ (p : Problem) (v : IsValid p) where
   settle_rounds_of zero h own m = m
   settle_rounds_of (suc n) h own m = let before = own_before (settle_rounds p n h) own in settle_round_of (settle_rounds p n h) (settle_rounds_of n h before m) before
 
-  -- ---- the end: each moment is closed by the rules, and none clashes
+  -- ---- the end of the rounds
 
-  -- a moment that doesn't grow is left as it is by a round
-  still : (d : Five) (news : List Literal) → (grown S d news).kf ≡ d.kf → round S d ≡ d
-  unfolding round
-  still d news e =
-      let split = added-append literal_cmp d.kf (additions S d) news in
-      let once = added literal_cmp d.kf (additions S d) in
-      let longer = added_longer literal_cmp d.kf (additions S d) in
-      let longest = added_longer literal_cmp once news in
-      let whole : length (added literal_cmp once news) ≡ length d.kf = ap length (sym split ∙ e) in
-      let same : length once ≡ length d.kf = omega arith in
-      λ i. record d { kf = added_same literal_cmp d.kf (additions S d) same i }
-
-  abbrev IsEnd : Five → Type 0
-  IsEnd d = (round S d ≡ d) × (first_clash S d ≡ None)
-
-  ends_own : (d : Five) → IsEnd d → HasOwnValues S d.kf
+  ends_own : (d : Five) → IsEnd p d → HasOwnValues S d.kf
   ends_own d e = ranged S d v.signature.values (saturated_end S d e.0) e.1
 
-  end_closed : (d : Five) → IsEnd d → IsClosed S (tidied d)
-  end_closed d e = record { from = d; closes = record { count = 0; last = e.0; gives = sym (ap (λ (r : Option Literal). option_map_or Rattle.pks_terms.specs.Closure.Clash r (Next (tidied d))) e.1) } }
-
-  no_clash_is : (o : Option Literal) → is_some o ≡ false → o ≡ None
-  no_clash_is None h = refl
-  no_clash_is (Some l) h = absurd (true≢false h)
-
-  abbrev first_kf : List (Instance × Five) → List Literal
-  first_kf [] = []
-  first_kf (step ∷ steps) = step.1.kf
-
-  abbrev rest_of_steps : List (Instance × Five) → List (Instance × Five)
-  rest_of_steps [] = []
-  rest_of_steps (step ∷ steps) = steps
-
-  steps_end : (before : Five) (steps : List (Instance × Five)) → settled_steps p before steps ≡ steps → list_any (λ step. is_some (first_clash S step.1)) steps ≡ false → Each (λ step. IsEnd step.1) steps
-  steps_end before [] e c = tt
-  steps_end before (step ∷ steps) e c =
-      let o = or_parts (is_some (first_clash S step.1)) _ c in
-      ((still step.1 (forward p step.0 before ++ from_next p step.1 steps) (ap first_kf e), no_clash_is (first_clash S step.1) o.0), steps_end step.1 steps (ap rest_of_steps e) o.1)
-
   module _ (h g : History) (s : Settles p h (At g)) where
-    abbrev end : History
-    end = settle_rounds p s.count h
+    abbrev last : History
+    last = settle_rounds p s.count h
 
-    no_moment : (b : Bool) → At g ≡ cond b Stopped (At (tidied_history end)) → (b ≡ false) × (g ≡ tidied_history end)
-    no_moment true e = absurd (true≢false (sym (ap is_clash e)))
-    no_moment false e = (refl, ap (history_or g) e)
-
-    ends : IsEnd end.start × Each (λ step. IsEnd step.1) end.steps
-    unfolding settle_round
-    ends =
-        let o = or_parts (is_some (first_clash S end.start)) _ (no_moment (clashes S end) s.gives).0 in
-        let last = s.last in (
-          (still end.start (from_next p end.start end.steps) (ap (λ (x : History). x.start.kf) last), no_clash_is (first_clash S end.start) o.0),
-          steps_end end.start end.steps (ap (λ (x : History). x.steps) last) o.1,
-        )
-
-    own_end : HasOwnAlong end
-    own_end = record { start = ends_own end.start ends.0; steps = each_weaker (λ step. IsEnd step.1) HasOwnStep (λ step e. ends_own step.1 e) end.steps ends.1 }
+    own_end : HasOwnAlong last
+    own_end = record { start = ends_own last.start (ends p h g s).0; steps = each_weaker (λ step. IsEnd p step.1) HasOwnStep (λ step e. ends_own step.1 e) last.steps (ends p h g s).1 }
 
     -- a settled history is of the signature, where the history was
     pub settled_of : AreMomentsOf p h → AreMomentsOf p g
     settled_of m =
         let all = settle_rounds_of s.count h own_end m in
-        let tidy : AreMomentsOf p (tidied_history end) = record {
-          start = tidied_of S end.start all.start own_end.start;
-          steps = each_map IsStep (λ step. (step.0, tidied step.1)) end.steps
-              (each_of (λ step. IsStep (step.0, tidied step.1)) end.steps (λ step i. let k = each_in IsStep end.steps step all.steps i in (k.0, tidied_of S step.1 k.1 (each_in HasOwnStep end.steps step own_end.steps i))));
+        let tidy : AreMomentsOf p (tidied_history last) = record {
+          start = tidied_of S last.start all.start own_end.start;
+          steps = each_map IsStep (λ step. (step.0, tidied step.1)) last.steps
+              (each_of (λ step. IsStep (step.0, tidied step.1)) last.steps (λ step i. let k = each_in IsStep last.steps step all.steps i in (k.0, tidied_of S step.1 k.1 (each_in HasOwnStep last.steps step own_end.steps i))));
         } in
-        subst (AreMomentsOf p) (sym (no_moment (clashes S end) s.gives).1) tidy
-
-    settled_closed : IsClosed S g.start × Each (λ step. IsClosed S step.1) g.steps
-    settled_closed =
-        subst (λ (x : History). IsClosed S x.start × Each (λ step. IsClosed S step.1) x.steps) (sym (no_moment (clashes S end) s.gives).1)
-        (end_closed end.start ends.0, each_map (λ (step : Instance × Five). IsClosed S step.1) (λ step. (step.0, tidied step.1)) end.steps (each_weaker (λ step. IsEnd step.1) (λ step. IsClosed S (tidied step.1)) (λ step e. end_closed step.1 e) end.steps ends.1))
-
-    -- and each of its moments is closed
-    pub settled_history_of : AreMomentsOf p h → IsHistoryOf p g
-    settled_history_of m =
-        let all = settled_of m in
-        let closed = settled_closed in
-        record {
-          start = record { of = all.start; closed = closed.0 };
-          steps = each_of (λ step. IsInstanceOf p step.0 × IsMomentOf S step.1) g.steps (λ step i. let k = each_in IsStep g.steps step all.steps i in (k.0, record { of = k.1; closed = each_in (λ (step : Instance × Five). IsClosed S step.1) g.steps step closed.1 i }));
-        }
-
-  -- ---- the states of a search
-
-  abbrev IsDeed : Instance × Five → Type 0
-  IsDeed step = IsInstanceOf p step.0 × IsMomentOf S step.1
-
-  last_step : (d : Five) (steps : List (Instance × Five)) → IsMomentOf S d → Each IsDeed steps → IsMomentOf S (last_of d steps)
-  last_step d [] m a = m
-  last_step d (step ∷ steps) m a = last_step step.1 steps a.0.1 a.1
-
-  -- the last moment is closed and of the signature
-  pub last_of_it : (h : History) → IsHistoryOf p h → IsMomentOf S (last_moment h)
-  last_of_it h m = last_step h.start h.steps m.start m.steps
-
-  pub moments_of : (h : History) → IsHistoryOf p h → AreMomentsOf p h
-  moments_of h m = record { start = m.start.of; steps = each_weaker IsDeed IsStep (λ step k. (k.0, k.1.of)) h.steps m.steps }
-
-  closed_moment : (d e : Five) → AreOf S d → Closes S d (Next e) → IsMomentOf S e
-  closed_moment d e m c = record { of = closed_of S v.signature.values d e c m; closed = record { from = d; closes = c } }
-
-  pub start_of : (d : Five) → Closes S (initial p) (Next d) → IsHistoryOf p (record { start = d; steps = [] })
-  start_of d c = record { start = closed_moment (initial p) d (initial_of p v) c; steps = tt }
-
-  pub acts_of : (h g : History) (i : Instance) → IsHistoryOf p h → IsIn i (instances p (last_moment h)) → Acts p h i (At g) → IsHistoryOf p g
-  acts_of h g i m chosen a = go a.outcome a.progress a.gives
-    where
-      go : (o : Outcome) → Progress S (last_moment h) (schema_of p i.action) i o → At g ≡ after_step h i o → IsHistoryOf p g
-      go (Next d) c e =
-          let last = last_of_it h m in
-          let fit = choice_of p (last_moment h) i last.of chosen in
-          let own = closed_values S v.signature.values last.closed.from (last_moment h) last.closed.closes in
-          let next : IsMomentOf S d = record { of = action_of p v (last_moment h) d i last.of own fit c; closed = record { from = progressed S (last_moment h) (schema_of p i.action) i.arguments; closes = c } } in
-          subst (IsHistoryOf p) (sym (ap (history_or g) e)) (record { start = m.start; steps = each_append IsDeed h.steps ((i, d) ∷ []) m.steps ((fit, next), tt) })
-      go (Clash l) c e = absurd (true≢false (sym (ap is_clash e)))
-
-  steps_with_last_of : (steps : List (Instance × Five)) (d : Five) → Each IsStep steps → AreOf S d → Each IsStep (steps_with_last steps d)
-  steps_with_last_of [] d a m = tt
-  steps_with_last_of (step ∷ []) d a m = ((a.0.0, m), tt)
-  steps_with_last_of (step ∷ next ∷ rest) d a m = (a.0, steps_with_last_of (next ∷ rest) d a.1 m)
-
-  with_last_of : (h : History) (d : Five) → AreMomentsOf p h → AreOf S d → AreMomentsOf p (with_last h d)
-  with_last_of h d m n =
-      elim h.steps as (λ steps. Each IsStep steps → AreMomentsOf p (elim steps [ [] ↦ record { start = d; steps = [] } | step ∷ rest ↦ record h { steps = steps_with_last h.steps d } ])) [
-        | [] ↦ λ a. record { start = n; steps = tt }
-        | step ∷ rest ↦ λ a. record { start = m.start; steps = steps_with_last_of h.steps d m.steps n }
-      ] m.steps
-
-  pub takes_of : (h g : History) (c : Choice) (side : Side) → IsHistoryOf p h → IsMember (last_moment h) c → IsSideOf S c side → Takes p h c side (At g) → IsHistoryOf p g
-  takes_of h g c side m i k t = go t.outcome t.assumed t.settled
-    where
-      go : (o : Outcome) → Assumes S (last_moment h) c side o → SettlesAfter p h o (At g) → IsHistoryOf p g
-      go (Next d) a e = settled_history_of (with_last h d) g e (with_last_of h d (moments_of h m) (side_of S v.signature.values (last_moment h) d c side (last_of_it h m).of i k a))
-      go (Clash l) a e = absurd (true≢false (sym (ap is_clash e)))
+        subst (AreMomentsOf p) (sym (no_moment p h g s (clashes S last) s.gives).1) tidy

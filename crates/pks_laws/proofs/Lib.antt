@@ -19,10 +19,13 @@ pub mod Instances
 pub mod Justifying
 pub mod Least
 pub mod LeastFamily
+pub mod NormalMembers
 pub mod Progressing
 pub mod PuttingIn
+pub mod SearchStates
 pub mod Sensing
 pub mod Settled
+pub mod SidesInOrder
 pub mod Sorted
 pub mod Staying
 pub mod StepLaws

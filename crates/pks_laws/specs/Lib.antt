@@ -1,3 +1,4 @@
+pub mod Lookup
 pub mod OfSignature
 pub mod Saying
 pub mod Worked

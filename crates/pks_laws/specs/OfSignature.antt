@@ -9,6 +9,7 @@ use Rattle.pks_terms.specs.Actions.{Instance}
 use Rattle.pks_terms.specs.Problems.{Problem, schema_of}
 use Rattle.pks_terms.specs.Branching.{Choice, BranchOn, CasesOn, Side, AsTrue, AsFalse, Is}
 use Rattle.pks_terms.specs.Settling.{History}
+use Rattle.pks_laws.specs.Lookup.{AreInOrder}
 use Rattle.pks_terms.specs.Valid.{all_fit, inner_fits, AreOf}
 
 -- each value that the literals give of a function is an object of its result type
@@ -31,12 +32,13 @@ pub record AreMomentsOf (p : Problem) (h : History) : Type 0 where
   pub start : AreOf p.signature h.start
   pub steps : Each (λ step. IsInstanceOf p step.0 × AreOf p.signature step.1) h.steps
 
--- closed databases of the signature
+-- closed databases of the signature, equations in order
 pub record IsMomentOf (s : Signature) (d : Five) : Type 0 where
   pub of : AreOf s d
+  pub ordered : AreInOrder d
   pub closed : IsClosed s d
 
--- each moment is closed too
+-- so at each moment, and each instance has arguments of the parameters' types
 pub record IsHistoryOf (p : Problem) (h : History) : Type 0 where
   pub start : IsMomentOf p.signature h.start
   pub steps : Each (λ step. IsInstanceOf p step.0 × IsMomentOf p.signature step.1) h.steps

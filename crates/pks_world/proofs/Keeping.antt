@@ -20,7 +20,8 @@ use Rattle.pks_terms.specs.declared.literal.PredAtom.{PredAtom}
 use Rattle.pks_terms.specs.Views.{object_of, inner_of, term_of, atom_of}
 use Rattle.pks_world.specs.declared.world.World.{World as DWorld}
 use Rattle.pks_world.specs.First.{Writes}
-use Rattle.pks_world.specs.Contents.{ground, atom_eq, is_listed, kept_at, value_elsewhere, world_of, with_truth, with_value}
+use Rattle.pks_world.specs.Applied.{StayListed}
+use Rattle.pks_world.specs.Contents.{ground, atom_eq, is_listed, kept_at, value_elsewhere, places_of, world_of, with_truth, with_value}
 
 -- objects lifted and viewed again
 viewed : (ds : List ℕ) → map term_of (map (λ d. term_is.Obj (record { 0 = d })) ds) ≡ map Object ds
@@ -108,3 +109,18 @@ chosen_more false b x y = refl
 pub same_told : (w : DWorld) (n : BTreeSet PredAtom) → n.keys ≡ w.atoms.keys → world_of (record w { atoms = n }) ≡ world_of w
 unfolding world_of
 same_told w n e = λ i. record { truth = λ p ds. is_listed (e i) (ground p ds); value = (world_of w).value }
+
+-- a place that is listed stays listed after one more
+pub still_listed : (w : DWorld) (n : BTreeMap Term ObjId) (t : Term) (d : ObjId)
+    → ((q : Term) → lookup (λ u. is_eq (term_cmp (term_of q) (term_of u))) n.entries ≡ cond (is_eq (term_cmp (term_of t) (term_of q))) (Some d) (lookup (λ u. is_eq (term_cmp (term_of q) (term_of u))) w.values.entries))
+    → StayListed (places_of w) (places_of (record w { values = n }))
+unfolding places_of
+still_listed w n t d h = λ f ds k.
+    let old = λ (x : syntax.Term). lookup (λ u. is_eq (term_cmp x (term_of u))) w.values.entries in
+    let each : lookup (λ u. is_eq (term_cmp (place f ds) (term_of u))) n.entries ≡ cond (is_eq (term_cmp (term_of t) (place f ds))) (Some d) (old (place f ds)) =
+      subst (λ (x : syntax.Term). lookup (λ u. is_eq (term_cmp x (term_of u))) n.entries ≡ cond (is_eq (term_cmp (term_of t) x)) (Some d) (old x)) (place_viewed f ds) (h (place_at f ds)) in
+    found (place f ds) n.entries ∙ ap is_some each ∙ some_more (is_eq (term_cmp (term_of t) (place f ds))) d (old (place f ds)) (sym (found (place f ds) w.values.entries) ∙ k)
+  where
+    some_more : (b : Bool) (d : ObjId) (o : Option ObjId) → is_some o ≡ true → is_some (cond b (Some d) o) ≡ true
+    some_more true d o e = refl
+    some_more false d o e = e

@@ -1,3 +1,5 @@
 pub mod Keeping
 pub mod Filling
 pub mod Typing
+pub mod Clearing
+pub mod Writing

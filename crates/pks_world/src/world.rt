@@ -77,7 +77,7 @@ impl World {
     }
 
     /// The values of the arguments.
-    fn inner_values(&self, args: &[Inner; 2]) -> [ObjId; 2]
+    pub(crate) fn inner_values(&self, args: &[Inner; 2]) -> [ObjId; 2]
         ensures { (n : ℕ) → map object_of (take n result) ≡ map (inner_value (world_of self.now)) (map inner_of (take n args.now)) }
     {
         [self.inner_value(&args[0]), self.inner_value(&args[1])]
@@ -96,7 +96,7 @@ impl World {
     }
 
     /// The atom with the values of its arguments in their place.
-    fn valued(&self, a: &PredAtom) -> PredAtom
+    pub(crate) fn valued(&self, a: &PredAtom) -> PredAtom
         ensures { atom_of result ≡ ground a.now.pred.0 (map (value_of (world_of self.now)) (map term_of (take a.now.n a.now.args))) }
     {
         PredAtom {

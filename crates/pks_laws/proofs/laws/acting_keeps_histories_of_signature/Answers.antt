@@ -1,4 +1,4 @@
-use Rattle.pks_laws.proofs.BelongingHistories.{acts_of}
+use Rattle.pks_laws.proofs.SearchStates.{acts_of}
 use Rattle.pks_laws.proofs.laws.acting_keeps_histories_of_signature.Goals as goal
 
 pub returns : goal.returns

@@ -1,4 +1,4 @@
-use Rattle.pks_laws.proofs.BelongingHistories.{start_of}
+use Rattle.pks_laws.proofs.SearchStates.{start_of}
 use Rattle.pks_laws.proofs.laws.first_history_is_of_signature.Goals as goal
 
 pub returns : goal.returns

@@ -1,4 +1,4 @@
-use Rattle.pks_laws.proofs.BelongingHistories.{takes_of}
+use Rattle.pks_laws.proofs.SearchStates.{takes_of}
 use Rattle.pks_laws.proofs.laws.taking_sides_keeps_histories_of_signature.Goals as goal
 
 pub returns : goal.returns

@@ -26,6 +26,7 @@ loop-pile-init c =
   where
     subst5 : {ms : List Mark} {ps left source : List ℕ} {at : ℕ} → ms ≡ [] → ps ≡ [] → left ≡ source → at ≡ 0 → IsRead source [] [] source 0 → IsRead source ms ps left at
     subst5 a b d e read = rw (a, b, d, e) read
+
     no_words : {ws : List Token} → ws ≡ [] → AllByRecursion (λ t. IsSliceOf c.args.source.now t) ws
     no_words e = subst (λ (ws : List Token). AllByRecursion (λ t. IsSliceOf c.args.source.now t) ws) (sym e) tt
 
