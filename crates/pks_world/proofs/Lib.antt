@@ -3,3 +3,4 @@ pub mod Filling
 pub mod Typing
 pub mod Clearing
 pub mod Writing
+pub mod Effects

@@ -1,10 +1,12 @@
 -- What one effect writes, and what the effects that are left write.
-use Rattle.std.specs.Prelude.{ℕ, Bool, true, ◌≡◌, ◌<◌, ◌==◌, ◌&&◌, map, List, [], ◌∷◌, Option, Some, None, unwrap_or, if◌then◌else◌}
-use Rattle.pks_terms.specs.Syntax.{Term, Atom, Pattern, place}
-use Rattle.pks_terms.specs.Worlds.{World, value_of}
+use Rattle.std.specs.Prelude.{ℕ, Bool, true, ◌≡◌, ◌<◌, ◌==◌, ◌&&◌, map, List, [], ◌∷◌, Option, Some, None, slice_get, unwrap_or, if◌then◌else◌}
+use Rattle.pks_terms.specs.Sets.{IsIn}
+use Rattle.pks_terms.specs.Signatures.{Signature, objects_of}
+use Rattle.pks_terms.specs.Syntax.{Inner, Term, Atom, Pattern, place}
+use Rattle.pks_terms.specs.Worlds.{World, inner_value, value_of}
 use Rattle.pks_terms.specs.Meaning.{is_instance}
 use Rattle.pks_world.specs.Contents.{has_place}
-use Rattle.pks_terms.specs.Actions.{Target, Set, Unset, Clear, Assign, Effect, fires, written_truth, written_value, last_written}
+use Rattle.pks_terms.specs.Actions.{Target, Set, Unset, Clear, Assign, Effect, argument, fires, written_truth, written_value, last_written}
 
 -- the world v with what the target writes, all that it names being read in w
 abbrev pub written_to : World → Target → World → World
@@ -34,3 +36,7 @@ IsNumbered (Assign f ts value) = f < 256
 -- a place that is listed stays listed
 abbrev pub StayListed : List Term → List Term → Type 0
 StayListed old new = (f : ℕ) (ds : List ℕ) → has_place old (place f ds) ≡ true → has_place new (place f ds) ≡ true
+
+-- the value of each argument is an object of its parameter's type
+abbrev pub AreArguments : Signature → World → List ℕ → List Inner → Type 0
+AreArguments s w params given = (k b : ℕ) → slice_get params k ≡ Some b → IsIn (inner_value w (argument given k)) (objects_of s b)

@@ -4,15 +4,21 @@ ghost use Rattle.pks_terms.specs.Syntax.{place};
 ghost use Rattle.pks_terms.specs.Orders.{number_of, arguments_of};
 ghost use Rattle.pks_terms.specs.Worlds.{inner_value, value_of, all_true_in};
 ghost use Rattle.pks_terms.specs.Meaning.{is_instance};
-ghost use Rattle.pks_terms.specs.Actions.{Clear};
-ghost use Rattle.pks_terms.specs.Views.{term_of, terms_of, conj_of, atom_of, pattern_of, target_of, effect_of};
+ghost use Rattle.pks_terms.specs.Actions.{Clear, effect_at};
+ghost use Rattle.pks_terms.specs.Sets.{Each};
+ghost use Rattle.pks_terms.specs.Problems.{schema_of};
+ghost use Rattle.pks_terms.specs.Knowledge.{after_action};
+ghost use Rattle.pks_terms.specs.Valid.{IsValid};
+ghost use Rattle.pks_terms.specs.Views.{term_of, terms_of, conj_of, atom_of, pattern_of, target_of, effect_of, given_of, instance_of, signature_of, problem_of};
 ghost use Rattle.pks_world.specs.Contents.{world_of, places_of, ground, with_truth, with_value};
-ghost use Rattle.pks_world.specs.Applied.{is_of_pattern, written_to, written_by, IsNumbered, StayListed};
+ghost use Rattle.pks_world.specs.Applied.{is_of_pattern, written_to, written_by, IsNumbered, StayListed, AreArguments};
+ghost use Rattle.pks_world.specs.First.{IsWorldOf};
 
 use crate::world::{World, place};
-use pks_terms::ids::{FnId, ObjId};
+use pks_terms::ids::{ActId, FnId, ObjId};
 use pks_terms::literal::{Conj, Pattern, PredAtom};
-use pks_terms::schema::Target;
+use pks_terms::problem::Problem;
+use pks_terms::schema::{Effect, Instance, Target};
 use pks_terms::term::{Term, front};
 use std::alloc::AllocError;
 
@@ -143,5 +149,47 @@ impl World {
                 Ok(())
             }
         }
+    }
+
+    /// Writes what the effect says where its condition is true in `old`.
+    fn write_effect(&mut self, old: &World, effect: &Effect) -> Result<(), AllocError>
+        ensures world { IsNumbered (target_of effect.now.target) → OnOk result (world_of self.new ≡ written_by (world_of old.now) (effect_of effect.now ∷ []) (world_of self.old)) }
+        ensures places { OnOk result (StayListed (places_of self.old) (places_of self.new)) }
+    {
+        if old.holds_all(&effect.cond) {
+            self.write(old, &effect.target)?;
+        }
+        Ok(())
+    }
+
+    /// Writes what the effects say, with the instance's arguments put in, in written order.
+    fn write_all(&mut self, old: &World, effects: &[Effect], i: &Instance) -> Result<(), AllocError>
+        ensures world { Each (λ e. IsNumbered (target_of e.target)) effects.now → OnOk result (world_of self.new ≡ written_by (world_of old.now) (map (effect_at (given_of i.now)) (map effect_of effects.now)) (world_of self.old)) }
+        ensures places { OnOk result (StayListed (places_of self.old) (places_of self.new)) }
+    {
+        for effect in effects {
+            self.write_effect(old, &effect.at(i))?;
+        }
+        Ok(())
+    }
+
+    /// The world after the action. Every condition, argument and value is read in this world, and the last effect that fires and writes a place wins.
+    pub fn apply(&self, p: &Problem<'_>, i: &Instance) -> Result<World, AllocError>
+        ensures world { IsValid (problem_of p.now) → IfOk result (λ w. world_of w ≡ after_action (problem_of p.now) (world_of self.now) (instance_of i.now)) }
+        ensures of_signature { IsValid (problem_of p.now) → AreArguments (signature_of p.now.signature) (world_of self.now) (schema_of (problem_of p.now) i.now.act.0).parameters (given_of i.now) → IsWorldOf (signature_of p.now.signature) self.now → IfOk result (IsWorldOf (signature_of p.now.signature)) }
+    {
+        let mut next = self.copied()?;
+        next.write_all(self, effects_of(p, i.act), i)?;
+        Ok(next)
+    }
+}
+
+/// The effects of the action, none where it isn't declared.
+fn effects_of<'a>(p: &'a Problem<'_>, act: ActId) -> &'a [Effect]
+    ensures { map effect_of result.now ≡ (schema_of (problem_of p.now) act.0).effects }
+{
+    match p.schemas.as_slice().get(usize::from(act.0)) {
+        Some(schema) => schema.effects.as_slice(),
+        None => &[],
     }
 }
