@@ -1,5 +1,5 @@
 -- What is handed in with a problem is of it: declared, typed and ground. Databases are so by `AreOf`.
-use Rattle.std.specs.Prelude.{ℕ, true, ◌≡◌, ◌<◌, List, [], length}
+use Rattle.std.specs.Prelude.{true, ◌≡◌, ◌<◌, List, [], length}
 use Rattle.pks_terms.specs.Sets.{Each}
 use Rattle.pks_terms.specs.Signatures.{Signature}
 use Rattle.pks_terms.specs.Syntax.{Literal}
