@@ -23,7 +23,8 @@ use Rattle.pks_laws.proofs.Least.{in_filter_map, in_filter_mapped, ranged}
 use Rattle.pks_laws.proofs.Fitting.{Keeps, AllKeep, all_fit_kept, choices_keep, argument_forms_keep, term_forms_keep, AllMove, term_that_fits, literal_kept}
 use Rattle.pks_laws.proofs.Belonging.{L, T, negated_of, equation_of, if_of, others_of, additions_of, saturated_end, tidied_of}
 use Rattle.pks_laws.proofs.BelongingSteps.{schema_text, put_effects}
-use Rattle.pks_laws.specs.OfSignature.{HasOwnValues, IsInstanceOf, AreMomentsOf}
+use Rattle.pks_laws.specs.OfSignature.{HasOwnValues}
+use Rattle.pks_terms.specs.Handed.{IsInstanceOf, IsHistoryOf}
 
 pub later_each : {X : Type 0} (P : X → Type 0) (xs : List X) → Each P xs → Each (λ q. P q.0 × Each P q.1) (with_later xs)
 later_each P [] a = tt
@@ -158,7 +159,7 @@ module _ (p : Problem) (v : IsValid p) where
   S = p.signature
 
   effects_written : (i : Instance) → IsInstanceOf p i → Each (IsWritten S) (effects_of p i)
-  effects_written i fit = let text = schema_text p v i.action in put_effects S (schema_of p i.action).parameters i.arguments fit (schema_of p i.action).effects text.effects
+  effects_written i fit = let text = schema_text p v i.action in put_effects S (schema_of p i.action).parameters i.arguments fit.arguments (schema_of p i.action).effects text.effects
 
   forward_of : (i : Instance) (before : Five) → IsInstanceOf p i → AreOf S before → HasOwnValues S before.kf → Each (L S) (forward p i before)
   forward_of i before fit m own =
@@ -209,7 +210,7 @@ module _ (p : Problem) (v : IsValid p) where
     pub start : HasOwnValues S h.start.kf
     pub steps : Each HasOwnStep h.steps
 
-  settle_round_of : (h : History) → AreMomentsOf p h → HasOwnAlong h → AreMomentsOf p (settle_round p h)
+  settle_round_of : (h : History) → IsHistoryOf p h → HasOwnAlong h → IsHistoryOf p (settle_round p h)
   unfolding settle_round
   settle_round_of h m own = record {
     start = grown_of h.start (from_next p h.start h.steps) m.start own.start (from_next_of h.start h.steps m.start own.start m.steps);
@@ -240,7 +241,7 @@ module _ (p : Problem) (v : IsValid p) where
     steps = steps_before h.start h.steps own.steps;
   }
 
-  settle_rounds_of : (n : ℕ) (h : History) → HasOwnAlong (settle_rounds p n h) → AreMomentsOf p h → AreMomentsOf p (settle_rounds p n h)
+  settle_rounds_of : (n : ℕ) (h : History) → HasOwnAlong (settle_rounds p n h) → IsHistoryOf p h → IsHistoryOf p (settle_rounds p n h)
   settle_rounds_of zero h own m = m
   settle_rounds_of (suc n) h own m = let before = own_before (settle_rounds p n h) own in settle_round_of (settle_rounds p n h) (settle_rounds_of n h before m) before
 
@@ -257,12 +258,12 @@ module _ (p : Problem) (v : IsValid p) where
     own_end = record { start = ends_own last.start (ends p h g s).0; steps = each_weaker (λ step. IsEnd p step.1) HasOwnStep (λ step e. ends_own step.1 e) last.steps (ends p h g s).1 }
 
     -- a settled history is of the signature, where the history was
-    pub settled_of : AreMomentsOf p h → AreMomentsOf p g
+    pub settled_of : IsHistoryOf p h → IsHistoryOf p g
     settled_of m =
         let all = settle_rounds_of s.count h own_end m in
-        let tidy : AreMomentsOf p (tidied_history last) = record {
+        let tidy : IsHistoryOf p (tidied_history last) = record {
           start = tidied_of S last.start all.start own_end.start;
           steps = each_map IsStep (λ step. (step.0, tidied step.1)) last.steps
               (each_of (λ step. IsStep (step.0, tidied step.1)) last.steps (λ step i. let k = each_in IsStep last.steps step all.steps i in (k.0, tidied_of S step.1 k.1 (each_in HasOwnStep last.steps step own_end.steps i))));
         } in
-        subst (AreMomentsOf p) (sym (no_moment p h g s (clashes S last) s.gives).1) tidy
+        subst (IsHistoryOf p) (sym (no_moment p h g s (clashes S last) s.gives).1) tidy

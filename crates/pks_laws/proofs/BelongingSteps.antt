@@ -1,5 +1,5 @@
 -- The start, actions and sides make databases of the signature.
-use Rattle.std.proofs.Common.{◌≡◌, ◌&&◌, ◌==◌, ℕ, Bool, true, false, not, cond, List, [], ◌∷◌, map, filter, filter_map, flat_map, slice_get, unwrap_or, Option, Some, None, option_map, is_eq, refl, sym, subst, inl, inr, ⊎_elim, true≢false, arith, zero, suc}
+use Rattle.std.proofs.Common.{◌+◌, ◌<◌, length, ap, ◌≡◌, ◌&&◌, ◌==◌, ℕ, Bool, true, false, not, cond, List, [], ◌∷◌, map, filter, filter_map, flat_map, slice_get, unwrap_or, Option, Some, None, option_map, is_eq, refl, sym, subst, inl, inr, ⊎_elim, true≢false, arith, zero, suc}
 use Rattle.std.specs.List.{list_any, list_all}
 use Rattle.std.specs.Option.{option_map_or}
 use Rattle.std.proofs.lemmas.Bool.{and_parts, and_from}
@@ -15,16 +15,17 @@ use Rattle.pks_terms.specs.Spoiling.{may_fire, some_fixed_differ, is_stable, are
 use Rattle.pks_terms.specs.Justified.{Case, J6, J7, given_of, senses_value, is_place, assigns_known, item_case, case_of, makes_so}
 use Rattle.pks_terms.specs.Progress.{is_untouched, fixed_terms, entry_terms, widened_by, widened, kept_entry, parameters_in, conj_parameters, arguments_stable, place_at, has_stable_arguments, has_place, added_equation, added_literal, literals_added, is_sensed, added_formula, added_value, is_applied_in, formulas_added, values_added, regions_added, progressed, Progress}
 use Rattle.pks_terms.specs.Problems.{Start, StartKf, StartKw, StartKv, StartKx, StartLcw, Problem, schema_of, known_start, whether_start, value_start, group_start, region_start, atom_on, initial_entry, initial}
-use Rattle.pks_terms.specs.Branching.{as_inner, candidates, instances, Choice, Act, BranchOn, CasesOn, Side, AsTrue, AsFalse, Is, IsMember, denials, assumed_formula, assumed, Assumes}
+use Rattle.pks_terms.specs.Branching.{as_inner, candidates, is_allowed, instances_at, numbered, instances, Choice, Act, BranchOn, CasesOn, Side, AsTrue, AsFalse, Is, IsMember, denials, assumed_formula, assumed, Assumes}
 use Rattle.pks_terms.specs.Valid.{all_fit, inner_fits, term_fits, type_in, is_term, is_related, is_literal, is_atom, is_pattern, AreOf, IsLiteralText, IsConjText, IsTargetText, IsItemText, IsSchemaText, IsStartText, IsValid}
 use Rattle.pks_terms.proofs.ListLaws.{each_in, each_map, each_kept, each_flat_map, each_filter_map, each_insert_in, each_added, each_set_of, each_weaker, in_appended, in_mapped, in_filtered, in_flat_mapped, found_in}
 use Rattle.pks_terms.proofs.OrderLaws.{same_term}
 use Rattle.pks_terms.proofs.Types.{objects_are_of}
-use Rattle.pks_laws.proofs.Instances.{allowed_instance}
+use Rattle.pks_laws.proofs.Instances.{in_numbered, allowed_instance}
 use Rattle.pks_laws.proofs.Least.{in_filter_mapped}
 use Rattle.pks_laws.proofs.Fitting.{all_fit_kept, map_keeps, apply_keeps, inner_normal_keeps, AllMove, term_kept, related_kept, literal_kept, pattern_kept, inner_at_keeps, term_at_keeps}
 use Rattle.pks_laws.proofs.Belonging.{L, T, R, related, negated_of, equation_of, in_range_of, if_of, normal_literal_of, normal_conj_of, normal_term_of, normal_atom_of, normal_pattern_of, closed_of}
-use Rattle.pks_laws.specs.OfSignature.{HasOwnValues, IsInstanceOf, IsSideOf}
+use Rattle.pks_laws.specs.OfSignature.{HasOwnValues, IsSideOf}
+use Rattle.pks_terms.specs.Handed.{IsInstanceOf}
 
 -- ---- the start
 
@@ -162,9 +163,26 @@ module _ (s : Signature) (d : Five) (m : AreOf s d) where
       let q = in_mapped (λ ys. r.0 ∷ ys) (choices_from (map (candidates s d) params)) given r.2 in
       subst (λ us. all_fit (inner_fits s []) (a ∷ params) us ≡ true) q.2 (and_from _ _ (candidate_fits a r.0 r.1) (arguments_fit params q.0 q.1))
 
--- an instance that is a choice has arguments of the parameters' types
+pub declared : {X : Type 0} (xs : List X) (k : ℕ) (x : X) → slice_get xs k ≡ Some x → k < length xs
+declared [] k x h = absurd (none-some x h)
+declared (y ∷ ys) zero x h = omega arith
+declared (y ∷ ys) (suc k) x h = let l = declared ys k x h in omega arith
+
+declared_action : (p : Problem) (d : Five) (i : Instance) → IsIn i (instances p d) → i.action < length p.schemas
+unfolding instances
+declared_action p d i h =
+    let a = in_flat_mapped (instances_at p.signature d) (numbered 0 p.schemas) i h in
+    let b = in_mapped (λ (given : List Inner). let x : Instance = record { action = a.0.0; arguments = given } in x) (filter (is_allowed p.signature d a.0.1) (choices_from (map (candidates p.signature d) a.0.1.parameters))) i a.2 in
+    let n = in_numbered p.schemas 0 a.0 a.1 in
+    let k = n.0 in
+    let same : a.0.0 ≡ i.action = ap (λ (x : Instance). x.action) b.2 in
+    let place : a.0.0 ≡ 0 + k = n.1 in
+    let l = declared p.schemas k a.0.1 n.2 in
+    omega arith
+
+-- an instance that is a choice is one of the problem
 pub choice_of : (p : Problem) (d : Five) (i : Instance) → AreOf p.signature d → IsIn i (instances p d) → IsInstanceOf p i
-choice_of p d i m j = arguments_fit p.signature d m (schema_of p i.action).parameters i.arguments (allowed_instance p d i j).1
+choice_of p d i m j = record { action = declared_action p d i j; arguments = arguments_fit p.signature d m (schema_of p i.action).parameters i.arguments (allowed_instance p d i j).1 }
 
 -- ---- arguments put in
 
@@ -404,4 +422,4 @@ module _ (s : Signature) (sc : Schema) (text : IsSchemaText s sc) (given : List 
 
 pub action_of : (p : Problem) → IsValid p → (d e : Five) (i : Instance) → AreOf p.signature d → HasOwnValues p.signature d.kf → IsInstanceOf p i → Progress p.signature d (schema_of p i.action) i (Next e) → AreOf p.signature e
 action_of p v d e i m own fit c =
-    closed_of p.signature v.signature.values (progressed p.signature d (schema_of p i.action) i.arguments) e c (progressed_of p.signature (schema_of p i.action) (schema_text p v i.action) i.arguments fit d m own)
+    closed_of p.signature v.signature.values (progressed p.signature d (schema_of p i.action) i.arguments) e c (progressed_of p.signature (schema_of p i.action) (schema_text p v i.action) i.arguments fit.arguments d m own)

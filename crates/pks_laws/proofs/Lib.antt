@@ -8,6 +8,7 @@ pub mod BelongingHistories
 pub mod BestTree
 pub mod Changing
 pub mod Choosing
+pub mod ClosedAgain
 pub mod Closing
 pub mod Compatible
 pub mod Deciding
@@ -32,6 +33,7 @@ pub mod StepLaws
 pub mod Tidying
 pub mod TreeOrder
 pub mod TreeTotal
+pub mod TreesOf
 pub mod Unique
 pub mod Validity
 pub mod Values

@@ -132,7 +132,7 @@ both_ways false false f g = refl
 
 -- equal one way round, and the other
 module _ {X : Type 0} (cmp : X → X → Ordering) (o : IsTotalOrder cmp) (tells : IsAntisymmetric cmp) where
-  eq_turned : (x y : X) → is_eq (cmp x y) ≡ is_eq (cmp y x)
+  pub eq_turned : (x y : X) → is_eq (cmp x y) ≡ is_eq (cmp y x)
   eq_turned x y = ap is_eq (o.antisymm x y) ∙ same (cmp y x)
     where
       same : (r : Ordering) → is_eq (ordering_reverse r) ≡ is_eq r
@@ -153,7 +153,7 @@ map_fixed f [] a = refl
 map_fixed f (x ∷ xs) a = λ i. a.0 i ∷ map_fixed f xs a.1 i
 
 module _ (s : Signature) (kf : List Literal) (one : (f : ℕ) (ds : List ℕ) (e e' : ℕ) → IsIn e (values_at kf f ds) → IsIn e' (values_at kf f ds) → e ≡ e') where
-  literal_again : (l : Literal) → normal_literal kf (normal_literal kf l) ≡ normal_literal kf l
+  pub literal_again : (l : Literal) → normal_literal kf (normal_literal kf l) ≡ normal_literal kf l
   literal_again = normal_literal_again s kf kf (λ x i. i) one
 
   conj_again : (c : List Literal) → normal_conj kf (normal_conj kf c) ≡ normal_conj kf c
@@ -162,7 +162,7 @@ module _ (s : Signature) (kf : List Literal) (one : (f : ℕ) (ds : List ℕ) (e
       ap (set_of literal_cmp) (map_fixed (normal_literal kf) b (each_set_of (λ l. normal_literal kf l ≡ l) literal_cmp (map (normal_literal kf) c) (each_map (λ l. normal_literal kf l ≡ l) (normal_literal kf) c (each_of (λ l. normal_literal kf (normal_literal kf l) ≡ normal_literal kf l) c (λ l i. literal_again l)))))
       ∙ set_of_ordered literal_cmp literal_cmp_total literal_cmp_tells b (ordered_set_of literal_cmp_total literal_cmp_tells (map (normal_literal kf) c))
 
-  term_again : (t : Term) → normal kf (normal kf t) ≡ normal kf t
+  pub term_again : (t : Term) → normal kf (normal kf t) ≡ normal kf t
   term_again = normal_again s kf kf (λ x i. i) one
 
   -- a literal is known where its normal form is a member

@@ -17,7 +17,8 @@ use Rattle.pks_laws.proofs.BelongingSteps.{initial_of, choice_of, assumed_of, ac
 use Rattle.pks_laws.proofs.BelongingHistories.{is_clash, history_or, settled_closed, settled_of}
 use Rattle.pks_laws.proofs.SidesInOrder.{closed_ordered, initial_ordered, assumed_ordered, progressed_ordered, settled_ordered}
 use Rattle.pks_laws.specs.Lookup.{AreInOrder}
-use Rattle.pks_laws.specs.OfSignature.{IsInstanceOf, IsSideOf, IsMomentOf, IsHistoryOf}
+use Rattle.pks_laws.specs.OfSignature.{IsSideOf, IsMomentOf, AreMomentsOf}
+use Rattle.pks_terms.specs.Handed.{IsInstanceOf, IsHistoryOf}
 
 -- what is closed of databases of the signature is a moment
 pub closed_moment : (s : Signature) → HasValues s → (d e : Five) → AreOf s d → AreInOrder d → Closes s d (Next e) → IsMomentOf s e
@@ -45,27 +46,31 @@ module _ (p : Problem) (v : IsValid p) where
   last_step d (step ∷ steps) m a = last_step step.1 steps a.0.1 a.1
 
   -- the last moment is closed and of the signature
-  pub last_of_it : (h : History) → IsHistoryOf p h → IsMomentOf S (last_moment h)
+  pub last_of_it : (h : History) → AreMomentsOf p h → IsMomentOf S (last_moment h)
   last_of_it h m = last_step h.start h.steps m.start m.steps
 
-  pub start_of : (d : Five) → Closes S (initial p) (Next d) → IsHistoryOf p (record { start = d; steps = [] })
+  pub start_of : (d : Five) → Closes S (initial p) (Next d) → AreMomentsOf p (record { start = d; steps = [] })
   start_of d c = record { start = closed_moment S v.signature.values (initial p) d (initial_of p v) (initial_ordered p v) c; steps = tt }
 
-  pub acts_of : (h g : History) (i : Instance) → IsHistoryOf p h → IsIn i (instances p (last_moment h)) → Acts p h i (At g) → IsHistoryOf p g
+  pub acts_of : (h g : History) (i : Instance) → AreMomentsOf p h → IsIn i (instances p (last_moment h)) → Acts p h i (At g) → AreMomentsOf p g
   acts_of h g i m chosen a = go a.outcome a.progress a.gives
     where
-      go : (o : Outcome) → Progress S (last_moment h) (schema_of p i.action) i o → At g ≡ after_step h i o → IsHistoryOf p g
+      go : (o : Outcome) → Progress S (last_moment h) (schema_of p i.action) i o → At g ≡ after_step h i o → AreMomentsOf p g
       go (Next d) c e =
           let last = last_of_it h m in
           let fit = choice_of p (last_moment h) i last.of chosen in
-          subst (IsHistoryOf p) (sym (ap (history_or g) e)) (record { start = m.start; steps = each_append IsDeed h.steps ((i, d) ∷ []) m.steps ((fit, action_moment p v (last_moment h) d i last fit c), tt) })
+          subst (AreMomentsOf p) (sym (ap (history_or g) e)) (record { start = m.start; steps = each_append IsDeed h.steps ((i, d) ∷ []) m.steps ((fit, action_moment p v (last_moment h) d i last fit c), tt) })
       go (Clash l) c e = absurd (true≢false (sym (ap is_clash e)))
 
   -- ---- a settled history
 
-  pub settled_history_of : (h g : History) → IsHistoryOf p h → Settles p h (At g) → IsHistoryOf p g
+  -- each is a history of the problem
+  pub moments_of : (h : History) → AreMomentsOf p h → IsHistoryOf p h
+  moments_of h m = record { start = m.start.of; steps = each_weaker IsDeed (λ step. IsInstanceOf p step.0 × AreOf S step.1) (λ step k. (k.0, k.1.of)) h.steps m.steps }
+
+  pub settled_history_of : (h g : History) → AreMomentsOf p h → Settles p h (At g) → AreMomentsOf p g
   settled_history_of h g m s =
-      let all = settled_of p v h g s (record { start = m.start.of; steps = each_weaker IsDeed (λ step. IsInstanceOf p step.0 × AreOf S step.1) (λ step k. (k.0, k.1.of)) h.steps m.steps }) in
+      let all = settled_of p v h g s (moments_of h m) in
       let ordered = settled_ordered p h g (record { start = m.start.ordered; steps = each_weaker IsDeed (λ step. AreInOrder step.1) (λ step k. k.1.ordered) h.steps m.steps }) s in
       let closed = settled_closed p h g s in
       record {
@@ -79,16 +84,16 @@ module _ (p : Problem) (v : IsValid p) where
   steps_with_last_of (step ∷ []) d a m = ((a.0.0, m), tt)
   steps_with_last_of (step ∷ next ∷ rest) d a m = (a.0, steps_with_last_of (next ∷ rest) d a.1 m)
 
-  pub with_last_of : (h : History) (d : Five) → IsHistoryOf p h → IsMomentOf S d → IsHistoryOf p (with_last h d)
+  pub with_last_of : (h : History) (d : Five) → AreMomentsOf p h → IsMomentOf S d → AreMomentsOf p (with_last h d)
   with_last_of h d m n =
-      elim h.steps as (λ steps. Each IsDeed steps → IsHistoryOf p (elim steps [ [] ↦ record { start = d; steps = [] } | step ∷ rest ↦ record h { steps = steps_with_last h.steps d } ])) [
+      elim h.steps as (λ steps. Each IsDeed steps → AreMomentsOf p (elim steps [ [] ↦ record { start = d; steps = [] } | step ∷ rest ↦ record h { steps = steps_with_last h.steps d } ])) [
         | [] ↦ λ a. record { start = n; steps = tt }
         | step ∷ rest ↦ λ a. record { start = m.start; steps = steps_with_last_of h.steps d m.steps n }
       ] m.steps
 
-  pub takes_of : (h g : History) (c : Choice) (side : Side) → IsHistoryOf p h → IsMember (last_moment h) c → IsSideOf S c side → Takes p h c side (At g) → IsHistoryOf p g
+  pub takes_of : (h g : History) (c : Choice) (side : Side) → AreMomentsOf p h → IsMember (last_moment h) c → IsSideOf S c side → Takes p h c side (At g) → AreMomentsOf p g
   takes_of h g c side m i k t = go t.outcome t.assumed t.settled
     where
-      go : (o : Outcome) → Assumes S (last_moment h) c side o → SettlesAfter p h o (At g) → IsHistoryOf p g
+      go : (o : Outcome) → Assumes S (last_moment h) c side o → SettlesAfter p h o (At g) → AreMomentsOf p g
       go (Next d) a e = settled_history_of (with_last h d) g (with_last_of h d m (side_moment S v.signature.values (last_moment h) d c side (last_of_it h m) i k a)) e
       go (Clash l) a e = absurd (true≢false (sym (ap is_clash e)))
