@@ -40,7 +40,7 @@ other_each {X} P (x ∷ xs) a = (
 -- ---- one step of a history
 
 module _ (s : Signature) where
-  abbrev IsWritten : Effect → Type 0
+  abbrev pub IsWritten : Effect → Type 0
   IsWritten e = Each (L s) e.condition × IsTargetText s [] e.target
 
   module _ (es : List Effect) (written : Each IsWritten es) (before : Five) (m : AreOf s before) (own : HasOwnValues s before.kf) where
@@ -158,17 +158,17 @@ module _ (p : Problem) (v : IsValid p) where
   abbrev S : Signature
   S = p.signature
 
-  effects_written : (i : Instance) → IsInstanceOf p i → Each (IsWritten S) (effects_of p i)
+  pub effects_written : (i : Instance) → IsInstanceOf p i → Each (IsWritten S) (effects_of p i)
   effects_written i fit = let text = schema_text p v i.action in put_effects S (schema_of p i.action).parameters i.arguments fit.arguments (schema_of p i.action).effects text.effects
 
-  forward_of : (i : Instance) (before : Five) → IsInstanceOf p i → AreOf S before → HasOwnValues S before.kf → Each (L S) (forward p i before)
+  pub forward_of : (i : Instance) (before : Five) → IsInstanceOf p i → AreOf S before → HasOwnValues S before.kf → Each (L S) (forward p i before)
   forward_of i before fit m own =
       let es = effects_of p i in
       let written = effects_written i fit in
       each_append (L S) (lasting S es before) (flat_map (fired S es before) (with_later es)) (each_kept (L S) (λ l. not (spoils S before es l)) before.kf m.known)
       (each_flat_map (L S) (fired S es before) (with_later es) (λ q j. fired_of S es written before m own q (each_in (λ q. IsWritten S q.0 × Each (IsWritten S) q.1) (with_later es) q (later_each (IsWritten S) es written) j).0))
 
-  backward_of : (i : Instance) (before after : Five) → IsInstanceOf p i → AreOf S before → HasOwnValues S before.kf → AreOf S after → Each (L S) (backward p i before after)
+  pub backward_of : (i : Instance) (before after : Five) → IsInstanceOf p i → AreOf S before → HasOwnValues S before.kf → AreOf S after → Each (L S) (backward p i before after)
   backward_of i before after fit m own n =
       let es = effects_of p i in
       let written = effects_written i fit in
@@ -185,7 +185,7 @@ module _ (p : Problem) (v : IsValid p) where
   abbrev HasOwnStep : Instance × Five → Type 0
   HasOwnStep step = HasOwnValues S step.1.kf
 
-  grown_of : (d : Five) (news : List Literal) → AreOf S d → HasOwnValues S d.kf → Each (L S) news → AreOf S (grown S d news)
+  pub grown_of : (d : Five) (news : List Literal) → AreOf S d → HasOwnValues S d.kf → Each (L S) news → AreOf S (grown S d news)
   grown_of d news m own a = record {
     known = each_added (L S) literal_cmp d.kf (additions S d ++ news) m.known (each_append (L S) (additions S d) news (additions_of S d m own) a);
     whether = m.whether;

@@ -14,6 +14,7 @@ pub mod Compatible
 pub mod Deciding
 pub mod Fitting
 pub mod GoodPlans
+pub mod Grounding
 pub mod Histories
 pub mod Holding
 pub mod Instances
@@ -21,6 +22,7 @@ pub mod Justifying
 pub mod Least
 pub mod LeastFamily
 pub mod NormalMembers
+pub mod OneTypeAlong
 pub mod Progressing
 pub mod PuttingIn
 pub mod SearchStates

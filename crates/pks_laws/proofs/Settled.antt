@@ -211,7 +211,7 @@ module _ {s : Signature} (w : World) (d : Five) (m : IsTrueIn s w d) (es : List 
               let b = and_parts (holds s d (negated f.0)) _ f.2 in
               let tells = each_in (TellsAlike q.0.target) (target_forms s d es q.0.target) f.0 (forms_alike q.0.target) f.1 in
               let change = became q.0.target (sym tells.1 ∙ denied_false w d m f.0 b.0) (sym tells.0 ∙ holds_true next after n f.0 b.1) in
-              let fire : fires w q.0 ≡ true = ⊎_elim {A = q.0 ≡ change.0} {B = IsIn change.0 q.1} (λ e. ap (fires w) e ∙ change.2) (λ o. absurd (some_may_of (makes_same s d q.0.target) q.1 (not-true _ p.1) change.0 o change.2 change.3)) (self_or_other es q i change.0 change.1) in
+              let fire : fires w q.0 ≡ true = ⊎_elim (λ e. ap (fires w) e ∙ change.2) (λ o. absurd (some_may_of (makes_same s d q.0.target) q.1 (not-true _ p.1) change.0 o change.2 change.3)) (self_or_other es q i change.0 change.1) in
               each_from_all (λ l. true_in w l ≡ true) (true_in w) (λ l t. t) q.0.condition fire
         ] refl
 

@@ -18,7 +18,7 @@ use Rattle.pks_laws.proofs.Belonging.{L, T, in_range_of}
 use Rattle.pks_laws.proofs.BelongingSteps.{declared, choice_of}
 use Rattle.pks_laws.proofs.BelongingHistories.{is_clash, history_or}
 use Rattle.pks_laws.proofs.SearchStates.{last_of_it, start_of, acts_of, takes_of}
-use Rattle.pks_laws.specs.OfSignature.{AreMomentsOf}
+use Rattle.pks_laws.specs.OfSignature.{IsSideOf, AreMomentsOf}
 
 -- an object that may be the value of a term is declared
 declared_object : (s : Signature) (x : Term) (e : ℕ) → T s x → IsIn e (range_of s x) → e < length s.objects
@@ -90,3 +90,8 @@ module _ (p : Problem) (v : IsValid p) where
   -- a plan of a valid problem is a tree of it
   pub plan_of : (t : Tree) → IsPlan p t → IsTreeOf p t
   plan_of t k = tree_of t (start_state k.outcome) (start_of_it k.outcome k.closes) k.derives
+
+-- the objects left of a term are sides of the cases on it
+pub left_is_side : (s : Signature) (d : Five) (x : Term) (e : ℕ) → IsIn e (left s d x) → IsSideOf s (CasesOn x) (Is e)
+unfolding left
+left_is_side s d x e i = (in_filtered (λ e. not (holds s d (inequation x (object e)))) (range_of s x) e i).0
