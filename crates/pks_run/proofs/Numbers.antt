@@ -1,12 +1,12 @@
 -- Names and their numbers: two literals on declared names are the same where their numbers and signs are.
-use Rattle.std.proofs.Common.{◌≡◌, ℕ, zero, suc, Bool, true, false, ◌&&◌, ◌||◌, cond, List, [], ◌∷◌, map, Some, slice_get, bytes_eq, refl, sym, ◌∙◌, ap, subst, IsTrue, is_eq, true≢false}
+use Rattle.std.proofs.Common.{◌≡◌, ℕ, zero, suc, Bool, true, false, ◌&&◌, ◌||◌, cond, List, [], ◌∷◌, map, Some, slice_get, bytes_eq, refl, sym, ◌∙◌, ap, is_eq, true≢false}
 use mathlib.Core.Bool.{beq}
 use Rattle.std.proofs.lemmas.Slice.Eq.{bytes_eq-Decides}
 use Rattle.std.proofs.lemmas.Bool.{and_parts, and_from}
 use Rattle.std.specs.Cmp.{tied_itself}
 use Rattle.pks_terms.specs.Syntax as terms
 use Rattle.pks_terms.specs.Signatures.{Shape}
-use Rattle.pks_terms.specs.Orders.{literal_cmp, literal_eq}
+use Rattle.pks_terms.specs.Orders.{literal_eq}
 use Rattle.pks_terms.specs.Totality.{literal_cmp_total}
 use Rattle.pks_terms.proofs.OrderLaws.{same_literal}
 use Rattle.pks_run.specs.Thin.{Literal, is_among}

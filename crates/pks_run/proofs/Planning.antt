@@ -1,20 +1,20 @@
 -- What the definitions make of a file without actions: it begins with what is known at first, and its only plan is the goal itself.
-use Rattle.std.proofs.Common.{◌≡◌, ◌↔◌, inl, ℕ, zero, Bool, true, false, ◌&&◌, ◌||◌, cond, List, [], ◌∷◌, ◌++◌, map, filter_map, flat_map, find, Option, Some, None, ◌≤◌, refl, sym, ◌∙◌, ap, subst, arith, IsTrue, true≢false}
+use Rattle.std.proofs.Common.{◌≡◌, ◌↔◌, inl, ℕ, zero, Bool, true, false, ◌&&◌, ◌||◌, cond, List, [], ◌∷◌, ◌++◌, map, filter_map, flat_map, find, Some, None, refl, sym, ◌∙◌, ap, subst, arith, true≢false}
 use Rattle.std.specs.Option.{option_map_or}
-use Rattle.std.specs.List.{list_any, list_all, AllByRecursion}
+use Rattle.std.specs.List.{list_any, list_all}
 use Rattle.std.proofs.lemmas.Bool.{and_parts, and_from}
 use Rattle.pks_terms.specs.Syntax as terms
-use Rattle.pks_terms.specs.Sets.{Each, IsIn, one_replaced, added, set_of}
+use Rattle.pks_terms.specs.Sets.{Each, one_replaced, added, set_of}
 use Rattle.pks_terms.specs.Orders.{term_cmp, literal_cmp, literal_eq, conj_cmp, literal}
 use Rattle.pks_terms.specs.Signatures.{Signature}
 use Rattle.pks_terms.specs.Databases.{Five, entry_cmp, normal, normal_literal, is_evident, is_closed_off, is_shut_out, is_plain, holds}
 use Rattle.pks_terms.specs.Databases as databases
-use Rattle.pks_terms.specs.Closure.{Next, Clash, Closes, term_steps, by_value, by_group, by_range, applications_in, additions, round, tidied, first_clash}
-use Rattle.pks_terms.specs.Problems.{Problem, Start, StartKf, known_start, whether_start, value_start, group_start, region_start, initial_entry, initial}
-use Rattle.pks_terms.specs.Settling.{History, State, At, Stopped}
+use Rattle.pks_terms.specs.Closure.{Next, Clash, Closes, term_steps, by_value, by_range, applications_in, additions, round, tidied, first_clash}
+use Rattle.pks_terms.specs.Problems.{StartKf, known_start, whether_start, value_start, group_start, region_start, initial_entry, initial}
+use Rattle.pks_terms.specs.Settling.{History, At}
 use Rattle.pks_terms.specs.Aims.{is_met, met}
 use Rattle.pks_terms.specs.Branching.{instances}
-use Rattle.pks_terms.specs.Trees.{Tree, Goal, Impossible, Do, Branch, Cases, depth, start_state, Derives, IsPlan, IsBest}
+use Rattle.pks_terms.specs.Trees.{Tree, Goal, Impossible, Do, Branch, Cases, start_state, Derives, IsPlan, IsBest}
 use Rattle.pks_terms.proofs.ListLaws.{each_map, each_set_of, each_weaker, any_set_of}
 use Rattle.pks_terms.proofs.OrderLaws.{literal_cmp_tells}
 use Rattle.pks_laws.proofs.Unique.{closes_one}

@@ -1,18 +1,17 @@
 -- The problem of a file without actions is valid, and its plan is good in every compatible world.
-use Rattle.std.proofs.Common.{◌≡◌, ◌≤◌, inr, ℕ, zero, suc, Bool, true, false, List, [], ◌∷◌, map, length, Option, Some, None, slice_get, refl, sym, ◌∙◌, ap, arith}
+use Rattle.std.proofs.Common.{◌≡◌, ◌≤◌, inr, ℕ, zero, suc, true, false, List, [], ◌∷◌, map, length, Option, Some, slice_get, refl, ap, arith}
 use Rattle.std.proofs.lemmas.Option.{none-some}
 use Rattle.std.specs.Option.{option_map_or}
 use Rattle.pks_terms.specs.Sets.{Each}
-use Rattle.pks_terms.specs.Syntax as terms
-use Rattle.pks_terms.specs.Signatures.{Shape, Signature}
+use Rattle.pks_terms.specs.Signatures.{Shape}
 use Rattle.pks_terms.specs.Worlds.{World}
 use Rattle.pks_terms.specs.Queries.{Know}
-use Rattle.pks_terms.specs.Problems.{Start, StartKf, Now, Problem, IsCompatible}
+use Rattle.pks_terms.specs.Problems.{StartKf, Now, IsCompatible}
 use Rattle.pks_terms.specs.Trees.{Tree, IsBest}
 use Rattle.pks_terms.specs.Knowledge.{Good}
 use Rattle.pks_terms.specs.Valid.{all_fit, term_fits, is_literal, IsLiteralText, IsStartText, IsPlainText, IsValidSignature}
 use Rattle.pks_terms.specs.Valid as definitions
-use Rattle.pks_terms.specs.Versions.{IsNow, IsFirstVersion, query_in}
+use Rattle.pks_terms.specs.Versions.{IsNow, query_in}
 use Rattle.pks_terms.specs.Answers.{unjustified}
 use Rattle.pks_laws.proofs.Accepting.{best_good}
 use Rattle.pks_run.specs.Thin.{Literal, File, elements, is_among, AreDeclared}

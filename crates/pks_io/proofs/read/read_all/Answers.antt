@@ -1,4 +1,4 @@
-use Rattle.std.proofs.Common.{rules, ◌≡◌, ◌≤◌, ◌<◌, ◌+◌, ◌-◌, length, arith}
+use Rattle.std.proofs.Common.{rules, ◌≡◌, ◌≤◌, ◌+◌, length, arith}
 use Rattle.pks_io.proofs.Parts.{takes_more}
 use Rattle.pks_io.proofs.read.read_all.Goals as goal
 
