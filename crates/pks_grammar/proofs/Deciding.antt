@@ -1,15 +1,15 @@
 -- Where a form is of the sort by the grammar, the walk finds no fault.
-use Rattle.std.proofs.Common.{◌≡◌, ◌↔◌, ℕ, suc, ◌+◌, Bool, true, false, ◌||◌, ◌&&◌, cond, List, [], ◌∷◌, length, nat_lt, Option, Some, None, IsNone, refl, sym, ap, ◌∙◌, subst, arith, bytes_eq}
+use Rattle.std.proofs.Common.{◌≡◌, ◌↔◌, ℕ, Bool, true, false, ◌||◌, ◌&&◌, cond, List, [], ◌∷◌, length, nat_lt, Option, Some, None, IsNone, refl, sym, ap, ◌∙◌, subst, arith, bytes_eq}
 use Rattle.std.proofs.lemmas.Bool.{false≢true, true≢false, and_parts}
 use Rattle.std.proofs.lemmas.Bool.Decides.{nat_tests}
 use Rattle.std.proofs.lemmas.Slice.Eq.{bytes_eq-Decides}
-use Rattle.pks_text.specs.Forms.{Form, Word, Listing, Forms, no_forms, form}
+use Rattle.pks_text.specs.Forms.{Form, Forms, no_forms, form}
 use Rattle.pks_grammar.specs.declared.grammar.Version.{Version}
 use Rattle.pks_grammar.specs.declared.grammar.Sort.{Sort}
 use Rattle.pks_grammar.specs.declared.grammar.Part.{Part}
 use Rattle.pks_grammar.specs.declared.grammar.Part.TheVariants.{One, Maybe, Many}
-use Rattle.pks_grammar.specs.Grammar.{Lists, is_allowed, lists, with_head, is_among, production, head_of_section}
-use Rattle.pks_grammar.specs.Walk.{head_of, is_headed, sort_at, parts_after, is_wanting, lacks, is_fixed, count, is_miscounted, first_of, fault_in, fault_among}
+use Rattle.pks_grammar.specs.Grammar.{lists, with_head, is_among, production, head_of_section}
+use Rattle.pks_grammar.specs.Walk.{head_of, is_headed, sort_at, parts_after, lacks, is_fixed, count, is_miscounted, first_of, fault_in, fault_among}
 use Rattle.pks_grammar.specs.Language.{IsOf, word, listing, Matches, nothing, one, left_out, there, no_more, again}
 use Rattle.pks_grammar.proofs.Heads.{some_is, parts_none, has_parts}
 use Rattle.pks_grammar.proofs.Tables.{is_missing, cannot_begin, is_section, has_one_head, is_decided, are_decided, is_other_decided, no_words, fixed_decided, other_decided}
@@ -50,6 +50,7 @@ one_head head (p ∷ []) None barred ps has e = by_head (bytes_eq head p.0) e
     none_either : (b : Bool) → cond b None None ≡ Some ps → ⊥
     none_either true e = parts_none (sym e)
     none_either false e = parts_none (sym e)
+
     by_head : (b : Bool) → cond b (Some p.1) (cond (is_among head barred) None None) ≡ Some ps → b ≡ true
     by_head true e = refl
     by_head false e = absurd (none_either (is_among head barred) e)
@@ -101,6 +102,7 @@ not_too_many v ps fs matches = by_test (is_fixed ps) (λ fixed. counted_parts v 
   where
     same_count : (n m : ℕ) → n ≡ m → nat_lt m n ≡ false
     same_count n m e = grind (arith, nat_tests)
+
     by_test : (b : Bool) → (b ≡ true → count fs ≡ length ps) → (b && nat_lt (length ps) (count fs)) ≡ false
     by_test true same = same_count (count fs) (length ps) (same refl)
     by_test false same = refl
@@ -125,10 +127,10 @@ passed v s ps f fs apart faultless =
     let after : parts_after v (Maybe s ∷ ps) f ≡ parts_after v ps f = ap (λ (b : Bool). cond b ps (parts_after v ps f)) apart in (
       ap (λ (qs : List Part). lacks v qs fs) after ∙ faultless.0,
       parts_walk v (Maybe s ∷ ps) f fs
-      ∙ ap (λ (t : Sort). first_of (fault_in v t f) (fault_among v (parts_after v (Maybe s ∷ ps) f) fs)) at
-      ∙ ap (λ (qs : List Part). first_of (fault_in v (sort_at v ps f) f) (fault_among v qs fs)) after
-      ∙ sym (parts_walk v ps f fs)
-      ∙ faultless.1,
+          ∙ ap (λ (t : Sort). first_of (fault_in v t f) (fault_among v (parts_after v (Maybe s ∷ ps) f) fs)) at
+          ∙ ap (λ (qs : List Part). first_of (fault_in v (sort_at v ps f) f) (fault_among v qs fs)) after
+          ∙ sym (parts_walk v ps f fs)
+          ∙ faultless.1,
     )
 
 stood : (v : Version) (s : Sort) (ps : List Part) (f : Form) (fs : Forms) → is_headed (head_of_section v s) f ≡ true → fault_in v s f ≡ None → AreFaultless v ps fs → AreFaultless v (Maybe s ∷ ps) (form f fs)
@@ -137,20 +139,20 @@ stood v s ps f fs headed whole faultless =
     let after : parts_after v (Maybe s ∷ ps) f ≡ ps = ap (λ (b : Bool). cond b ps (parts_after v ps f)) headed in (
       ap (λ (qs : List Part). lacks v qs fs) after ∙ faultless.0,
       parts_walk v (Maybe s ∷ ps) f fs
-      ∙ ap (λ (t : Sort). first_of (fault_in v t f) (fault_among v (parts_after v (Maybe s ∷ ps) f) fs)) at
-      ∙ ap (λ (o : Option ℕ). first_of o (fault_among v (parts_after v (Maybe s ∷ ps) f) fs)) whole
-      ∙ ap (λ (qs : List Part). fault_among v qs fs) after
-      ∙ faultless.1,
+          ∙ ap (λ (t : Sort). first_of (fault_in v t f) (fault_among v (parts_after v (Maybe s ∷ ps) f) fs)) at
+          ∙ ap (λ (o : Option ℕ). first_of o (fault_among v (parts_after v (Maybe s ∷ ps) f) fs)) whole
+          ∙ ap (λ (qs : List Part). fault_among v qs fs) after
+          ∙ faultless.1,
     )
 
 next : (v : Version) (s : Sort) (f : Form) (qs ps : List Part) (fs : Forms) → fault_in v s f ≡ None → AreFaultless v qs fs → sort_at v ps f ≡ s → parts_after v ps f ≡ qs → AreFaultless v ps (form f fs)
 next v s f qs ps fs whole faultless at after = (
   ap (λ (ps : List Part). lacks v ps fs) after ∙ faultless.0,
   parts_walk v ps f fs
-  ∙ ap (λ (t : Sort). first_of (fault_in v t f) (fault_among v (parts_after v ps f) fs)) at
-  ∙ ap (λ (o : Option ℕ). first_of o (fault_among v (parts_after v ps f) fs)) whole
-  ∙ ap (λ (ps : List Part). fault_among v ps fs) after
-  ∙ faultless.1,
+      ∙ ap (λ (t : Sort). first_of (fault_in v t f) (fault_among v (parts_after v ps f) fs)) at
+      ∙ ap (λ (o : Option ℕ). first_of o (fault_among v (parts_after v ps f) fs)) whole
+      ∙ ap (λ (ps : List Part). fault_among v ps fs) after
+      ∙ faultless.1,
 )
 
 -- a part that may be missing among decided parts

@@ -1,19 +1,18 @@
 -- A list has the parts that its head says, exactly where the sort's lists may have them.
-use Rattle.std.proofs.Common.{◌≡◌, ◌⊎◌, inl, inr, ℕ, Bool, true, false, not, ◌&&◌, ◌||◌, cond, map, List, [], ◌∷◌, Option, Some, None, refl, sym, ap, ◌∙◌, subst, arith, bytes_eq}
+use Rattle.std.proofs.Common.{◌≡◌, ◌⊎◌, inl, inr, ℕ, Bool, true, false, not, ◌||◌, cond, map, List, [], ◌∷◌, Option, Some, None, refl, sym, ap, ◌∙◌, subst, arith, bytes_eq}
 use Rattle.std.proofs.lemmas.Bool.{false≢true, true≢false, and_parts}
 use Rattle.std.proofs.lemmas.Slice.Eq.{bytes_eq-Decides}
 use Rattle.pks_terms.specs.Sets.{IsIn}
-use Rattle.pks_text.specs.Forms.{Form, Word, Listing, Forms, no_forms, form}
+use Rattle.pks_text.specs.Forms.{Forms}
 use Rattle.pks_grammar.specs.declared.grammar.Version.{Version}
 use Rattle.pks_grammar.specs.declared.grammar.Sort.{Sort}
 use Rattle.pks_grammar.specs.declared.grammar.Sort.TheVariants.{Name}
 use Rattle.pks_grammar.specs.declared.grammar.Part.{Part}
-use Rattle.pks_grammar.specs.declared.grammar.Part.TheVariants.{One, Maybe, Many}
 use Rattle.pks_grammar.specs.Words.{is_name}
-use Rattle.pks_grammar.specs.Grammar.{Lists, is_allowed, lists, with_head, is_among, production}
+use Rattle.pks_grammar.specs.Grammar.{is_allowed, lists, with_head, is_among, production}
 use Rattle.pks_grammar.specs.Walk.{head_of}
-use Rattle.pks_grammar.specs.Language.{MayHave, IsOf, word, listing, Matches, nothing, one, left_out, there, no_more, again}
-use Rattle.pks_grammar.proofs.Tables.{are_distinct, begins_with_name, are_no_names, is_empty, is_apart, heads_distinct, lists_apart}
+use Rattle.pks_grammar.specs.Language.{MayHave, word, listing, Matches, nothing, one, left_out, there, no_more, again}
+use Rattle.pks_grammar.proofs.Tables.{are_distinct, begins_with_name, are_no_names, is_apart, heads_distinct, lists_apart}
 
 -- ---- from the head to the lists
 
@@ -93,6 +92,7 @@ passed_all head barred (p ∷ fixed) otherwise none named free =
     neither true b e f g = true≢false e
     neither false true e f g = false≢true g
     neither false false e f g = false≢true f
+
     apart : (b : Bool) → (b ≡ true → head ≡ p.0) → (is_among p.0 barred || not (is_name p.0)) ≡ true → b ≡ false
     apart true same e = absurd (neither (is_among p.0 barred) (is_name p.0) (ap (λ (h : List ℕ). is_among h barred) (sym (same refl)) ∙ free) (ap is_name (sym (same refl)) ∙ named) e)
     apart false same e = refl

@@ -1,19 +1,16 @@
 -- The tests of a file's shape find no fault exactly where the file is of the grammar.
-use Rattle.std.proofs.Common.{◌≡◌, ◌↔◌, ℕ, Bool, true, false, cond, List, [], ◌∷◌, Option, Some, None, IsNone, option_map, slice_get, refl, sym, ap, ◌∙◌, subst, arith, codes, bytes_eq}
+use Rattle.std.proofs.Common.{◌≡◌, ℕ, Bool, true, false, cond, List, [], ◌∷◌, Option, Some, None, IsNone, option_map, slice_get, refl, sym, ap, ◌∙◌, subst, arith, codes}
 use Rattle.std.proofs.lemmas.Bool.{false≢true, true≢false}
-use Rattle.pks_text.specs.Forms.{Form, Word, Listing, place_of}
+use Rattle.pks_text.specs.Forms.{Form, place_of}
 use Rattle.pks_grammar.specs.declared.grammar.Version.{Version}
-use Rattle.pks_grammar.specs.declared.grammar.Version.TheVariants.{First, Second}
+use Rattle.pks_grammar.specs.declared.grammar.Version.TheVariants.{First}
 use Rattle.pks_grammar.specs.declared.grammar.Sort.{Sort}
 use Rattle.pks_grammar.specs.declared.grammar.Sort.TheVariants.{Domain, Problem}
-use Rattle.pks_grammar.specs.declared.report.Fault as report
-use Rattle.pks_grammar.specs.Grammar.{Lists, is_allowed, lists, head_of_section}
+use Rattle.pks_grammar.specs.Grammar.{is_allowed, lists, head_of_section}
 use Rattle.pks_grammar.specs.Walk.{head_of, is_headed, fault_in}
 use Rattle.pks_grammar.specs.Language.{IsOf, word, listing, MayBeWorld, IsFile}
 use Rattle.pks_grammar.specs.Files.{Fault, or_else, stated, is_version, version_of, top_fault, rest_fault, walk_fault, shape_fault}
-use Rattle.pks_grammar.specs.FaultViews.{fault_view}
 use Rattle.pks_grammar.proofs.Heads.{has_parts}
-use Rattle.pks_grammar.proofs.Tables.{has_one_head}
 use Rattle.pks_grammar.proofs.Walking.{walked_form}
 use Rattle.pks_grammar.proofs.Deciding.{list_headed, faultless_form}
 

@@ -1,6 +1,6 @@
 -- What the table of the grammar is like: by a form's head one sees where it stands.
-use Rattle.std.proofs.Common.{◌≡◌, ℕ, Bool, true, false, not, ◌&&◌, ◌||◌, cond, map, List, [], ◌∷◌, Option, Some, None, refl, sym, ap, ◌∙◌, subst, arith, bytes_eq}
-use Rattle.std.proofs.lemmas.Bool.{false≢true, and_parts}
+use Rattle.std.proofs.Common.{◌≡◌, ℕ, Bool, true, false, not, ◌&&◌, ◌||◌, map, List, [], ◌∷◌, Option, Some, None, refl}
+use Rattle.std.proofs.lemmas.Bool.{false≢true}
 use Rattle.pks_grammar.specs.declared.grammar.Version.{Version}
 use Rattle.pks_grammar.specs.declared.grammar.Version.TheVariants.{First, Second}
 use Rattle.pks_grammar.specs.declared.grammar.Sort.{Sort}
@@ -8,7 +8,7 @@ use Rattle.pks_grammar.specs.declared.grammar.Sort.TheVariants.{Nothing, Head, N
 use Rattle.pks_grammar.specs.declared.grammar.Part.{Part}
 use Rattle.pks_grammar.specs.declared.grammar.Part.TheVariants.{One, Maybe, Many}
 use Rattle.pks_grammar.specs.Words.{is_name}
-use Rattle.pks_grammar.specs.Grammar.{Lists, is_allowed, lists, with_head, is_among, production, head_of_section}
+use Rattle.pks_grammar.specs.Grammar.{Lists, is_allowed, lists, is_among, production, head_of_section}
 
 -- ---- what is asked of the parts of a list
 

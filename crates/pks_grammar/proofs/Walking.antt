@@ -1,5 +1,5 @@
 -- Where the walk finds no fault, the form is of the sort by the grammar.
-use Rattle.std.proofs.Common.{◌≡◌, ◌⊎◌, inl, inr, ℕ, Bool, true, false, ◌||◌, ◌&&◌, cond, List, [], ◌∷◌, length, nat_lt, Option, Some, None, refl, sym, ap, ◌∙◌, subst, arith}
+use Rattle.std.proofs.Common.{◌≡◌, ℕ, Bool, true, false, ◌||◌, ◌&&◌, cond, List, [], ◌∷◌, length, nat_lt, Option, Some, None, refl, sym, ◌∙◌, arith}
 use Rattle.std.proofs.lemmas.Bool.{false≢true, true≢false}
 use Rattle.pks_text.specs.Forms.{Form, Word, Listing, Forms, no_forms, form}
 use Rattle.pks_grammar.specs.declared.grammar.Version.{Version}
@@ -9,7 +9,7 @@ use Rattle.pks_grammar.specs.declared.grammar.Part.{Part}
 use Rattle.pks_grammar.specs.declared.grammar.Part.TheVariants.{One, Maybe, Many}
 use Rattle.pks_grammar.specs.Grammar.{is_allowed, lists, production, head_of_section}
 use Rattle.pks_grammar.specs.Walk.{head_of, is_headed, sort_at, parts_after, is_wanting, lacks, is_fixed, count, is_miscounted, first_of, fault_in, fault_among}
-use Rattle.pks_grammar.specs.Language.{MayHave, IsOf, word, listing, Matches, nothing, one, left_out, there, no_more, again}
+use Rattle.pks_grammar.specs.Language.{IsOf, word, listing, Matches, nothing, one, left_out, there, no_more, again}
 use Rattle.pks_grammar.proofs.Heads.{may_have, has_parts}
 
 pub some_none : {at : ℕ} → Some at ≡ None → ⊥

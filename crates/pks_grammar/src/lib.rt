@@ -6,8 +6,7 @@ pub mod grammar;
 pub mod report;
 pub mod shape;
 mod table;
-pub mod walk;
-pub mod words;
-
 #[cfg(test)]
 mod tests;
+pub mod walk;
+pub mod words;

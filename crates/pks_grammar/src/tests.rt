@@ -1,6 +1,6 @@
 use crate::report::Fault;
 use crate::shape::{shape_fault, world_shape_fault};
-use pks_text::{forms, FormFault};
+use pks_text::{FormFault, forms};
 use std::alloc::Global;
 
 // The place and the code of the first fault of text or of shape, or of the world's shape; zeros where there is none.
@@ -43,37 +43,121 @@ fn malformed_files_are_refused_at_their_places(rt: HostRuntime) {
         ("(pks 1) (domain) (problem (foo))", 26, 124),
         ("(pks 1) (domain) (problem (init) x)", 33, 124),
         ("(pks 1) (domain) (problem (goal (k (p))) (init))", 41, 124),
-        ("(pks 1) (domain (types a) (types b)) (problem (goal (k (p))))", 26, 124),
-        ("(pks 1) (domain (objects) (types b)) (problem (goal (k (p))))", 26, 124),
-        ("(pks 1) (domain (types a) (bad)) (problem (goal (k (p))))", 26, 124),
-        ("(pks 1) (domain (action (params ()))) (problem (goal (k (p))))", 24, 124),
-        ("(pks 1) (domain (action)) (problem (goal (k (p))))", 16, 124),
-        ("(pks 1) (domain (action a (params (?x)))) (problem (goal (k (p))))", 34, 124),
-        ("(pks 1) (domain) (problem (init (kx (p))) (goal (k (p))))", 32, 124),
+        (
+            "(pks 1) (domain (types a) (types b)) (problem (goal (k (p))))",
+            26,
+            124,
+        ),
+        (
+            "(pks 1) (domain (objects) (types b)) (problem (goal (k (p))))",
+            26,
+            124,
+        ),
+        (
+            "(pks 1) (domain (types a) (bad)) (problem (goal (k (p))))",
+            26,
+            124,
+        ),
+        (
+            "(pks 1) (domain (action (params ()))) (problem (goal (k (p))))",
+            24,
+            124,
+        ),
+        (
+            "(pks 1) (domain (action)) (problem (goal (k (p))))",
+            16,
+            124,
+        ),
+        (
+            "(pks 1) (domain (action a (params (?x)))) (problem (goal (k (p))))",
+            34,
+            124,
+        ),
+        (
+            "(pks 1) (domain) (problem (init (kx (p))) (goal (k (p))))",
+            32,
+            124,
+        ),
         ("(pks 1) (domain) (problem (goal (k (p) (q))))", 32, 124),
         ("(pks 1) (domain) (problem (goal))", 26, 124),
         // heads
         ("(pks 1) (domain) (problem (goal (k (1 a))))", 36, 124),
         ("(pks 1) (domain) (problem (goal (k ((p)))))", 36, 124),
         ("(pks 1) (domain) (problem (goal (k ())))", 35, 124),
-        ("(pks 1) (domain) (problem (goal (k (not (not (p))))))", 40, 124),
+        (
+            "(pks 1) (domain) (problem (goal (k (not (not (p))))))",
+            40,
+            124,
+        ),
         ("(pks 1) (domain) (problem (goal (k (= a))))", 35, 124),
         ("(pks 1) (domain) (problem (goal (k a?b)))", 35, 124),
-        ("(pks 1) (domain (action a (effects (set (not (p)))))) (problem (goal (k (p))))", 40, 124),
-        ("(pks 1) (domain (action a (effects (set (= a b))))) (problem (goal (k (p))))", 41, 124),
-        ("(pks 1) (domain (action a (effects (set (p _))))) (problem (goal (k (p))))", 43, 124),
-        ("(pks 1) (domain (action a (knows (kf (p) (q))))) (problem (goal (k (p))))", 33, 124),
-        ("(pks 1) (domain (action a (pre (bad)))) (problem (goal (k (p))))", 31, 124),
-        ("(pks 1) (domain) (problem (goal (k (p)))) (world (true (not) p))", 61, 300),
-        ("(pks 1) (domain) (problem (goal (k (p)))) (world (values) (true))", 58, 300),
+        (
+            "(pks 1) (domain (action a (effects (set (not (p)))))) (problem (goal (k (p))))",
+            40,
+            124,
+        ),
+        (
+            "(pks 1) (domain (action a (effects (set (= a b))))) (problem (goal (k (p))))",
+            41,
+            124,
+        ),
+        (
+            "(pks 1) (domain (action a (effects (set (p _))))) (problem (goal (k (p))))",
+            43,
+            124,
+        ),
+        (
+            "(pks 1) (domain (action a (knows (kf (p) (q))))) (problem (goal (k (p))))",
+            33,
+            124,
+        ),
+        (
+            "(pks 1) (domain (action a (pre (bad)))) (problem (goal (k (p))))",
+            31,
+            124,
+        ),
+        (
+            "(pks 1) (domain) (problem (goal (k (p)))) (world (true (not) p))",
+            61,
+            300,
+        ),
+        (
+            "(pks 1) (domain) (problem (goal (k (p)))) (world (values) (true))",
+            58,
+            300,
+        ),
         // what the second version adds
-        ("(pks 1) (domain (types a (b a))) (problem (goal (k (p))))", 25, 124),
-        ("(pks 1) (domain (action a (cost 9))) (problem (goal (k (p))))", 26, 124),
+        (
+            "(pks 1) (domain (types a (b a))) (problem (goal (k (p))))",
+            25,
+            124,
+        ),
+        (
+            "(pks 1) (domain (action a (cost 9))) (problem (goal (k (p))))",
+            26,
+            124,
+        ),
         ("(pks 1) (domain) (problem (goal (once (k (p)))))", 32, 124),
-        ("(pks 2) (domain (types a (b a c))) (problem (goal (k (p))))", 25, 124),
-        ("(pks 2) (domain (action a (cost 09))) (problem (goal (k (p))))", 32, 124),
-        ("(pks 2) (domain (action a (params) (cost 9))) (problem (goal (k (p))))", 35, 124),
-        ("(pks 2) (domain) (problem (goal (once (not-derived (k (p))))))", 38, 124),
+        (
+            "(pks 2) (domain (types a (b a c))) (problem (goal (k (p))))",
+            25,
+            124,
+        ),
+        (
+            "(pks 2) (domain (action a (cost 09))) (problem (goal (k (p))))",
+            32,
+            124,
+        ),
+        (
+            "(pks 2) (domain (action a (params) (cost 9))) (problem (goal (k (p))))",
+            35,
+            124,
+        ),
+        (
+            "(pks 2) (domain) (problem (goal (once (not-derived (k (p))))))",
+            38,
+            124,
+        ),
     ];
     for (text, at, code) in rows {
         assert_eq!(rt; fault_of(rt.alloc(), text), (at, code), "in {text}");
@@ -95,7 +179,8 @@ fn files_of_the_grammar_are_taken(rt: HostRuntime) {
 
 #[test]
 fn each_prefix_of_a_file_has_its_fault(rt: HostRuntime) {
-    let door = "(pks 1)\n(domain (predicates (open)))\n(problem (init (kf (open))) (goal (k (open))))\n";
+    let door =
+        "(pks 1)\n(domain (predicates (open)))\n(problem (init (kf (open))) (goal (k (open))))\n";
     assert_eq!(rt; door.len(), 84);
     for n in 0..=84 {
         let wanted = match n {

@@ -1,6 +1,5 @@
-use Rattle.std.proofs.Common.{◌≡◌, IsNone, Option, None, ℕ, ◌∙◌, sym}
+use Rattle.std.proofs.Common.{◌∙◌, sym}
 use Rattle.pks_text.specs.FormViews.{form_view}
-use Rattle.pks_grammar.specs.Language.{IsOf}
 use Rattle.pks_grammar.proofs.Deciding.{of_the_sort, none_same}
 use Rattle.pks_grammar.proofs.walk.fault_in.Goals as goal
 

@@ -1,12 +1,10 @@
-use Rattle.std.proofs.Common.{rules, ◌≡◌, ◌≤◌, ◌<◌, ◌∷◌, ◌++◌, [], List, ℕ, ◌+◌, length, drop, Some, false, true, refl, sym, subst, ap, ◌∙◌}
+use Rattle.std.proofs.Common.{rules, ◌≡◌, ◌≤◌, ◌∷◌, ◌++◌, [], List, ℕ, ◌+◌, drop, refl, sym, subst, ap, ◌∙◌}
 use Rattle.std.proofs.lemmas.Bool.{false≢true}
-use Rattle.pks_text.specs.Gaps.{IsOnlyGap}
 use Rattle.pks_text.specs.Tokens.{BeginsWith, BeginsBad}
-use Rattle.pks_text.specs.Forms.{Mark, Begins, mark_end, SpellsFrom}
-use Rattle.pks_text.specs.Faults.{opened, IsFirstFault, IsFaultOf, IsAnswered}
+use Rattle.pks_text.specs.Forms.{Mark, Begins, mark_end}
+use Rattle.pks_text.specs.Faults.{IsFaultOf, IsAnswered}
 use Rattle.pks_text.specs.Reading.{left_of, place_of, source_of, IsSliceOf}
-use Rattle.pks_text.specs.FormViews.{marks_of, places_of, words_of, spoken, mark_of, fault_of, IsTurned}
-use Rattle.pks_text.specs.declared.tree.FormFault.{FormFault}
+use Rattle.pks_text.specs.FormViews.{marks_of, places_of, words_of, spoken, mark_of, fault_of}
 use Rattle.pks_text.specs.declared.tree.FormFault.TheVariants.{BadByte}
 use Rattle.pks_text.specs.declared.tokens.LexFault.TheVariants as lex
 use Rattle.pks_text.specs.declared.tokens.Token.{Token}

@@ -1,10 +1,9 @@
-use Rattle.std.proofs.Common.{rules, ◌≡◌, ◌∷◌, ◌++◌, [], List, ℕ, ◌+◌, ◌-◌, length, Some, ap, sym, ◌∙◌, subst}
+use Rattle.std.proofs.Common.{rules, ◌≡◌, ◌∷◌, ◌++◌, [], List, ℕ, ◌+◌, ap, sym, ◌∙◌}
 use Rattle.std.specs.List.{flat_map}
-use Rattle.pks_text.specs.declared.tokens.Token.{Token}
 use Rattle.pks_text.specs.declared.tree.Form.{Form as CodeForm}
 use Rattle.pks_text.specs.declared.tree.Form.TheVariants as code
 use Rattle.pks_text.specs.declared.nesting.Open.{Open}
-use Rattle.pks_text.specs.Forms.{Form, form_marks, forms_marks, Mark, Opens, Closes}
+use Rattle.pks_text.specs.Forms.{form_marks, forms_marks, Opens, Closes}
 use Rattle.pks_text.specs.Faults.{opened}
 use Rattle.pks_text.specs.FormViews.{form_view, forms_view, pile_marks, open_places}
 use Rattle.pks_text.proofs.FormLaws.{view_list}
