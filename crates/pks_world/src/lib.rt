@@ -3,4 +3,5 @@
 
 pub mod apply;
 pub mod first;
+pub mod observe;
 pub mod world;
