@@ -1,5 +1,5 @@
 -- What observations of the program say, and how the instances of a pattern are gone through.
-use Rattle.std.specs.Prelude.{ℕ, Bool, ◌≡◌, List, [], ◌∷◌, map, take, Option, Some, None, slice_get, if◌then◌else◌}
+use Rattle.std.specs.Prelude.{ℕ, ◌≡◌, List, [], ◌∷◌, map, take, Option, Some, None, slice_get, if◌then◌else◌}
 use Rattle.std.specs.List.{flat_map}
 use Rattle.pks_terms.specs.Sets.{Each}
 use Rattle.pks_terms.specs.Syntax.{Term, Atom}

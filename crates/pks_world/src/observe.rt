@@ -64,7 +64,14 @@ fn argument_types(s: &Signature, pred: PredId) -> &[TypeId]
 
 impl World {
     /// The objects that may stand at the slot of this number.
-    fn slot_range(&self, alloc: Global, s: &Signature, types: &[TypeId], slots: &[Option<Term>], number: usize) -> Result<Vec<ObjId>, AllocError>
+    fn slot_range(
+        &self,
+        alloc: Global,
+        s: &Signature,
+        types: &[TypeId],
+        slots: &[Option<Term>],
+        number: usize,
+    ) -> Result<Vec<ObjId>, AllocError>
         requires { length s.now.objects ≤ 65536 }
         ensures { IfOk result (λ v. map object_of v.items ≡ slot_range (signature_of s.now) (world_of self.now) (types_of types.now) (map (option_map term_of) slots.now) number) }
     {
@@ -96,7 +103,15 @@ impl World {
     }
 
     /// Adds the true atoms at two objects and each of the others.
-    fn add_row(&self, pred: PredId, n: u8, d: ObjId, e: ObjId, others: &[ObjId], found: &mut Vec<PredAtom>) -> Result<(), AllocError>
+    fn add_row(
+        &self,
+        pred: PredId,
+        n: u8,
+        d: ObjId,
+        e: ObjId,
+        others: &[ObjId],
+        found: &mut Vec<PredAtom>,
+    ) -> Result<(), AllocError>
         ensures { OnOk result (map atom_of found.new.items ≡ map atom_of found.old.items ++ row (world_of self.now) pred.0 n d.0 e.0 (map object_of others.now)) }
     {
         for f in others {
@@ -106,7 +121,15 @@ impl World {
     }
 
     /// Adds the true atoms at an object and each two of the others.
-    fn add_plane(&self, pred: PredId, n: u8, d: ObjId, seconds: &[ObjId], thirds: &[ObjId], found: &mut Vec<PredAtom>) -> Result<(), AllocError>
+    fn add_plane(
+        &self,
+        pred: PredId,
+        n: u8,
+        d: ObjId,
+        seconds: &[ObjId],
+        thirds: &[ObjId],
+        found: &mut Vec<PredAtom>,
+    ) -> Result<(), AllocError>
         ensures { OnOk result (map atom_of found.new.items ≡ map atom_of found.old.items ++ plane (world_of self.now) pred.0 n d.0 (map object_of seconds.now) (map object_of thirds.now)) }
     {
         for e in seconds {
@@ -116,7 +139,15 @@ impl World {
     }
 
     /// Adds the true atoms at each three of these objects.
-    fn add_grid(&self, pred: PredId, n: u8, firsts: &[ObjId], seconds: &[ObjId], thirds: &[ObjId], found: &mut Vec<PredAtom>) -> Result<(), AllocError>
+    fn add_grid(
+        &self,
+        pred: PredId,
+        n: u8,
+        firsts: &[ObjId],
+        seconds: &[ObjId],
+        thirds: &[ObjId],
+        found: &mut Vec<PredAtom>,
+    ) -> Result<(), AllocError>
         ensures { OnOk result (map atom_of found.new.items ≡ map atom_of found.old.items ++ grid (world_of self.now) pred.0 n (map object_of firsts.now) (map object_of seconds.now) (map object_of thirds.now)) }
     {
         for d in firsts {
@@ -126,7 +157,12 @@ impl World {
     }
 
     /// The true instances of the pattern, in the order of atoms.
-    fn instances(&self, alloc: Global, s: &Signature, x: &Pattern) -> Result<Vec<PredAtom>, AllocError>
+    fn instances(
+        &self,
+        alloc: Global,
+        s: &Signature,
+        x: &Pattern,
+    ) -> Result<Vec<PredAtom>, AllocError>
         requires { length s.now.objects ≤ 65536 }
         ensures { IfOk result (λ found. map atom_of found.items ≡ map (ground x.now.pred.0) (filter ((world_of self.now).truth x.now.pred.0) (instances_of (signature_of s.now) (world_of self.now) (predicate_shape (signature_of s.now) x.now.pred.0).arguments (pattern_of x.now).slots))) }
     {
@@ -139,7 +175,14 @@ impl World {
         let firsts = self.slot_range(alloc, s, types, slots, 0)?;
         let seconds = self.slot_range(alloc, s, types, slots, 1)?;
         let thirds = self.slot_range(alloc, s, types, slots, 2)?;
-        self.add_grid(x.pred, slots.len() as u8, &firsts, &seconds, &thirds, &mut found)?;
+        self.add_grid(
+            x.pred,
+            slots.len() as u8,
+            &firsts,
+            &seconds,
+            &thirds,
+            &mut found,
+        )?;
         Ok(found)
     }
 

@@ -20,8 +20,8 @@ loop-f-preserved c =
     let declared : slice_get (map shape_of c.args.s.now.functions) c.loop-f.f ≡ Some (shape_of x) =
     subst (λ (xs : List DShape). slice_get (map shape_of xs) c.loop-f.f ≡ Some (shape_of x)) c.as_slice-shape-items.ensures (shape_at items c.loop-f.f d c.loop-f-test.true) in
     let narrow : Each (λ y. length (shape_of y).arguments ≤ 2) c.args.s.now.functions → length c.front-types.result.now ≤ 2 = λ few.
-      let here = each_at (λ (y : DShape). length (shape_of y).arguments ≤ 2) items c.loop-f.f d (subst (λ (xs : List DShape). Each (λ y. length (shape_of y).arguments ≤ 2) xs) (sym c.as_slice-shape-items.ensures) few) c.loop-f-test.true in
-      subst (λ (ts : List TypeId). length ts ≤ 2) (sym c.front-types.ensures) (subst (λ n. n ≤ 2) (length-map (take x.n x.args) (λ (t : TypeId). t.0)) here) in
+    let here = each_at (λ (y : DShape). length (shape_of y).arguments ≤ 2) items c.loop-f.f d (subst (λ (xs : List DShape). Each (λ y. length (shape_of y).arguments ≤ 2) xs) (sym c.as_slice-shape-items.ensures) few) c.loop-f-test.true in
+    subst (λ (ts : List TypeId). length ts ≤ 2) (sym c.front-types.ensures) (subst (λ n. n ≤ 2) (length-map (take x.n x.args) (λ (t : TypeId). t.0)) here) in
     record {
       least = least_more s c.loop-f.f v c.loop-f.values.entries c.fill.new.values.entries (c.least_of-least.ensures ∙ sym (ap (λ o. option_map_or (λ (y : Shape). first_of (objects_of s y.result)) o 0) declared)) c.in_ok-fill.ensures.only c.loop-f.invariant.least;
       filled = λ few. filled_more s c.loop-f.f v (shape_of x) c.loop-f.values.entries c.fill.new.values.entries declared c.in_ok-fill.ensures.only

@@ -1,4 +1,4 @@
-use Rattle.std.proofs.Common.{◌≡◌, ◌≤◌, ◌∙◌, ap, map, length, sym, arith, min}
+use Rattle.std.proofs.Common.{◌≡◌, ◌≤◌, ◌∙◌, ap, map, length, arith}
 use Rattle.std.proofs.lemmas.List.{length-map}
 use Rattle.pks_terms.specs.Views.{object_of, types_of, signature_of}
 use Rattle.pks_world.proofs.Filling.{rows_only, rows_all}

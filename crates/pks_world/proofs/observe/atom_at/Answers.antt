@@ -1,4 +1,3 @@
-use Rattle.pks_terms.specs.Syntax.{Atom}
 use Rattle.pks_world.proofs.Gathering.{three_viewed}
 use Rattle.pks_world.proofs.observe.atom_at.Goals as goal
 

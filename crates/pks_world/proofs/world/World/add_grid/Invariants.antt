@@ -1,7 +1,7 @@
-use Rattle.std.proofs.Common.{List, [], ◌∷◌, map, take}
+use Rattle.std.proofs.Common.{map}
 use Rattle.pks_terms.specs.Views.{object_of, atom_of}
 use Rattle.pks_world.specs.Contents.{world_of}
-use Rattle.pks_world.specs.Observed.{true_at, row, plane}
+use Rattle.pks_world.specs.Observed.{plane}
 use Rattle.pks_world.proofs.Gathering.{AddedFrom}
 use Rattle.pks_world.proofs.world.World.add_grid.Given as goal
 

@@ -1,7 +1,7 @@
-use Rattle.std.proofs.Common.{ℕ, List, [], ◌∷◌, map, take, refl}
-use Rattle.pks_terms.specs.Views.{object_of, atom_of}
+use Rattle.std.proofs.Common.{ℕ, [], ◌∷◌, map, take}
+use Rattle.pks_terms.specs.Views.{atom_of}
 use Rattle.pks_world.specs.Contents.{world_of}
-use Rattle.pks_world.specs.Observed.{true_at, row, plane}
+use Rattle.pks_world.specs.Observed.{true_at}
 use Rattle.pks_world.proofs.Gathering.{added_more, added_all}
 use Rattle.pks_world.proofs.world.World.add_row.Goals as goal
 

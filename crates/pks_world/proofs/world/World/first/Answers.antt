@@ -1,4 +1,4 @@
-use Rattle.std.proofs.Common.{◌≡◌, ◌≤◌, ◌<◌, ℕ, length, map, subst, sym, ap, ◌∙◌}
+use Rattle.std.proofs.Common.{◌≤◌, ◌<◌, length, subst, sym}
 use Rattle.std.proofs.lemmas.List.{length-map}
 use Rattle.std.proofs.lemmas.Option.{slice_get_within}
 use Rattle.pks_terms.specs.Sets.{Each}

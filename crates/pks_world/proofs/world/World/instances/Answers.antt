@@ -1,4 +1,4 @@
-use Rattle.std.proofs.Common.{◌≡◌, ◌++◌, ◌∙◌, List, length, map, filter, ap, sym}
+use Rattle.std.proofs.Common.{◌++◌, ◌∙◌, List, length, map, filter, ap, sym}
 use Rattle.std.proofs.lemmas.List.{length-map}
 use Rattle.std.specs.Option.{option_map}
 use Rattle.pks_terms.specs.Actions.{instances_of}
