@@ -159,7 +159,8 @@ fn all_values(alloc: Global, s: &Signature) -> Result<BTreeMap<Term, ObjId>, All
 }
 
 impl World {
-    /// The world in which no atom is true and each place has the least object of its result type.
+    /// The world in which no atom is true and each place has the least object of its result type. It asks that objects and functions can be
+    /// numbered. `AllocError` comes for want of memory alone. `docs/RULES.md`, worlds.
     pub fn first(alloc: Global, p: &Problem<'_>) -> Result<World, AllocError>
         requires objects { length p.now.signature.objects ≤ 65536 }
         requires functions { length p.now.signature.functions ≤ 256 }

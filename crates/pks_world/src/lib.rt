@@ -1,4 +1,4 @@
-//! Worlds, what actions do to them, and what is observed in them.
+//! Worlds, what actions do to them, and what is observed in them. `docs/RULES.md` has the rules.
 #![tactic(auto)]
 
 pub mod apply;

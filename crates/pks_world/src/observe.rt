@@ -19,7 +19,7 @@ use pks_terms::sequence::Sequence;
 use pks_terms::term::{Term, front};
 use std::alloc::{AllocError, Global};
 
-/// A list of atoms.
+/// A list of atoms at objects.
 pub type AtomList = Sequence<PredAtom>;
 
 /// What one sense finds: the truth of a conjunction, the value of a term, the true instances of a pattern in order.
@@ -202,7 +202,8 @@ impl World {
         }
     }
 
-    /// What the senses of the action find in this world, which is the one after it: one entry a sense in order, with the instance's arguments put in.
+    /// What the senses of the action find in this world, which is the one after it: one entry a sense in order, with the instance's arguments
+    /// put in. It asks that objects can be numbered. `AllocError` comes for want of memory alone. `docs/RULES.md`, observations.
     pub fn observe(&self, alloc: Global, p: &Problem<'_>, i: &Instance) -> Result<Obs, AllocError>
         requires { length p.now.signature.objects ≤ 65536 }
         ensures seen { IfOk result (λ o. map seen_of o ≡ observations (problem_of p.now) (world_of self.now) (instance_of i.now)) }
