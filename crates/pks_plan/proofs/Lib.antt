@@ -1,5 +1,9 @@
 pub mod Appended
 pub mod Costs
+pub mod Declared
 pub mod Indented
 pub mod Roots
+pub mod TellingParts
+pub mod TellingTrees
 pub mod Variants
+pub mod Words

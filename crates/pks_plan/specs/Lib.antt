@@ -1,3 +1,4 @@
 pub mod Appending
 pub mod Indents
+pub mod Naming
 pub mod TreeViews

@@ -3,6 +3,7 @@
 
 pub mod body;
 mod bytes;
+pub mod laws;
 mod lines;
 mod names;
 pub mod order;
