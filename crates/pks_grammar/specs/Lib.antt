@@ -1,0 +1,4 @@
+pub mod FaultViews
+pub mod Files
+pub mod Walk
+pub mod Words

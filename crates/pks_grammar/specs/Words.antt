@@ -1,0 +1,27 @@
+-- The classes of words.
+use Rattle.std.specs.Prelude.{ℕ, Bool, true, false, not, ◌||◌, ◌&&◌, ◌==◌, List, [], ◌∷◌, codes, bytes_eq}
+use Rattle.std.specs.List.{list_all}
+use Rattle.std.specs.Char.{is_ascii_alphabetic, is_ascii_alphanumeric, is_ascii_digit}
+
+-- letters, digits, `-` and `_`
+abbrev pub is_name_byte : ℕ → Bool
+is_name_byte b = is_ascii_alphanumeric b || ((b == 45) || (b == 95))
+
+-- a letter, then letters, digits, `-` or `_`
+abbrev pub is_name : List ℕ → Bool
+is_name [] = false
+is_name (b ∷ bytes) = is_ascii_alphabetic b && list_all is_name_byte bytes
+
+-- `?` and a name
+abbrev pub is_variable : List ℕ → Bool
+is_variable [] = false
+is_variable (b ∷ bytes) = (b == 63) && is_name bytes
+
+-- `_` alone
+abbrev pub is_wild : List ℕ → Bool
+is_wild text = bytes_eq text (codes "_")
+
+-- digits, the first not `0`
+abbrev pub is_number : List ℕ → Bool
+is_number [] = false
+is_number (b ∷ bytes) = (is_ascii_digit b && not (b == 48)) && list_all is_ascii_digit bytes

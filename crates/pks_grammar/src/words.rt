@@ -1,0 +1,36 @@
+//! The classes of words.
+ghost use Rattle.std.specs.Prelude.{◌≡◌};
+ghost use Rattle.std.specs.List.{list_all};
+ghost use Rattle.pks_grammar.specs.Words.{is_name_byte, is_name, is_variable};
+
+fn is_name_byte(byte: u8) -> bool
+    ensures { result ≡ is_name_byte byte }
+{
+    byte.is_ascii_alphanumeric() || byte == b'-' || byte == b'_'
+}
+
+fn are_name_bytes(bytes: &[u8]) -> bool
+    ensures { result ≡ list_all is_name_byte bytes.now }
+{
+    bytes.iter().all(|b| is_name_byte(*b))
+}
+
+/// A letter, then letters, digits, `-` or `_`.
+pub fn is_name(bytes: &[u8]) -> bool
+    ensures { result ≡ is_name bytes.now }
+{
+    match bytes {
+        [] => false,
+        [first, rest @ ..] => first.is_ascii_alphabetic() && are_name_bytes(rest),
+    }
+}
+
+/// `?` and a name.
+pub fn is_variable(bytes: &[u8]) -> bool
+    ensures { result ≡ is_variable bytes.now }
+{
+    match bytes {
+        [] => false,
+        [first, rest @ ..] => *first == b'?' && is_name(rest),
+    }
+}
