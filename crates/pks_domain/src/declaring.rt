@@ -166,8 +166,8 @@ pub fn each_type(report: &mut Report, types: &Types<'_>, forms: &[Form<'_>])
     }
 }
 
-// The number of a name, which is within a byte.
-fn small_number(types: &Types<'_>, name: &str) -> Option<u8>
+/// The number of a type, which is within a byte.
+pub fn small_number(types: &Types<'_>, name: &str) -> Option<u8>
     requires { length (names_of types.now) ≤ 16 }
     ensures { result ≡ number_of (names_of types.now) name.now }
 {

@@ -1,5 +1,5 @@
 -- The classes of words.
-use Rattle.std.specs.Prelude.{ℕ, Bool, true, false, not, ◌||◌, ◌&&◌, ◌==◌, List, [], ◌∷◌, codes, bytes_eq}
+use Rattle.std.specs.Prelude.{ℕ, Bool, false, not, ◌||◌, ◌&&◌, ◌==◌, List, [], ◌∷◌, codes, bytes_eq}
 use Rattle.std.specs.List.{list_all}
 use Rattle.std.specs.Char.{is_ascii_alphabetic, is_ascii_alphanumeric, is_ascii_digit}
 
@@ -21,7 +21,7 @@ is_variable (b ∷ bytes) = (b == 63) && is_name bytes
 abbrev pub is_wild : List ℕ → Bool
 is_wild text = bytes_eq text (codes "_")
 
--- digits, the first not `0`
+-- digits, the first of which is not `0`
 abbrev pub is_number : List ℕ → Bool
 is_number [] = false
 is_number (b ∷ bytes) = (is_ascii_digit b && not (b == 48)) && list_all is_ascii_digit bytes

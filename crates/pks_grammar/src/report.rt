@@ -1,6 +1,6 @@
-//! Faults.
+//! Faults with their places.
 
-/// A code at a place.
+/// A code at the place of a byte (`docs/FORMAT.md`).
 #[derive(Clone, Copy, Debug, PartialEq, Eq)]
 pub struct Fault {
     pub at: u32,

@@ -1,4 +1,4 @@
--- The first fault of meaning of a file.
+-- The least of some faults, and what a domain declares.
 use Rattle.std.specs.Prelude.{ℕ, Bool, ◌||◌, ◌&&◌, ◌==◌, nat_lt, List, [], ◌∷◌, Option, Some, None, codes, if◌then◌else◌}
 use Rattle.pks_text.specs.Forms.{Forms}
 use Rattle.pks_grammar.specs.Files.{Fault, or_else}
@@ -40,18 +40,3 @@ scope_of version domain =
       functions = functions_in types (section (codes "functions") domain);
       parameters = [];
     }
-
--- the first fault of the declarations. Sections come one behind the other, so the first section that has a fault has the first one
-unfoldable pub declarations_fault : ℕ → Forms → Option Fault
-declarations_fault version domain =
-    let s = scope_of version domain in
-    or_else (least (types_section (section (codes "types") domain)))
-    (or_else (least (objects_section version s.types (section (codes "objects") domain)))
-    (or_else (least (predicates_section s.types (section (codes "predicates") domain)))
-    (least (functions_section s (section (codes "functions") domain)))))
-
--- the first fault of meaning, by the sections of the domain and of the problem
-unfoldable pub meaning_fault : ℕ → Forms → Forms → Option Fault
-meaning_fault version domain problem =
-    let s = scope_of version domain in
-    or_else (declarations_fault version domain) (or_else (least (actions_section s domain)) (least (problem_faults s problem)))

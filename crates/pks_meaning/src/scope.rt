@@ -1,4 +1,4 @@
-//! What is declared.
+//! What is declared, and the types of terms (`docs/FORMAT.md`).
 ghost use Rattle.std.specs.Prelude.{◌≡◌, ℕ, List, [], map, Option, option_map, unwrap_or, slice_get, option_and_then, length, ◌<◌, IfSome};
 ghost use Rattle.pks_terms.specs.Signatures.{parent_of, fits_type};
 ghost use Rattle.pks_terms.specs.Views.{shape_of};
@@ -23,6 +23,7 @@ pub struct Declared<'s> {
 }
 
 /// What is declared at a place: the names of the domain, and the parameters of an action.
+#[derive(Drop)]
 pub struct Scope<'d, 's> {
     pub declared: &'d Declared<'s>,
     pub parameters: &'d IndexMap<&'s str, u8>,
