@@ -1,5 +1,5 @@
 -- Counting forms.
-use Rattle.std.proofs.Common.{◌≡◌, ℕ, suc, ◌+◌, List, [], ◌∷◌, length, map, refl, ap, ◌∙◌, arith}
+use Rattle.std.proofs.Common.{◌≡◌, List, [], ◌∷◌, length, refl, arith}
 use Rattle.pks_text.specs.declared.tree.Form.{Form as CodeForm}
 use Rattle.pks_text.specs.FormViews.{forms_view}
 use Rattle.pks_grammar.specs.Walk.{count}

@@ -1,10 +1,11 @@
 //! The shape of a whole file (`docs/FORMAT.md`).
 
-ghost use Rattle.std.specs.Prelude.{◌≡◌, ◌∷◌, [], codes, map, option_map, slice_get, List, ℕ};
+ghost use Rattle.std.specs.Prelude.{◌≡◌, ◌↔◌, ◌∷◌, [], IsNone, codes, map, option_map, slice_get, List, ℕ};
 ghost use Rattle.pks_text.specs.Forms.{place_of};
 ghost use Rattle.pks_text.specs.FormViews.{form_view, forms_view};
 ghost use Rattle.pks_grammar.specs.Files.{is_word, are_words, is_list_of, stated, is_version, version_of, number_of, or_else, top_fault, rest_fault, shape_fault, walk_fault, world_shape_fault};
 ghost use Rattle.pks_grammar.specs.FaultViews.{fault_view};
+ghost use Rattle.pks_grammar.specs.Language.{IsFile};
 ghost use Rattle.pks_grammar.specs.Walk.{is_headed};
 
 use crate::grammar::{Sort, Version};
@@ -181,9 +182,9 @@ fn walk_fault(code: u16, version: Version, sort: Sort, form: Option<&Form<'_>>) 
     }
 }
 
-/// The first fault of shape, with its code from 120 to 124, of a text of `end` bytes that spells these top forms.
+// The tests of a file's shape in their order.
 #[tactic(auto, unfolding(crate::specs::Files::shape_fault))]
-pub fn shape_fault(end: u32, top: &[Form<'_>]) -> Option<Fault>
+fn first_fault(end: u32, top: &[Form<'_>]) -> Option<Fault>
     ensures { option_map fault_view result ≡ shape_fault end (map form_view top.now) }
 {
     let version = version_of(top);
@@ -195,6 +196,15 @@ pub fn shape_fault(end: u32, top: &[Form<'_>]) -> Option<Fault>
     let problem = or_else(head_fault(122, "problem", end, top_at(top, 2)), rest);
     let domain = or_else(head_fault(121, "domain", end, top_at(top, 1)), problem);
     or_else(version_fault(end, top_at(top, 0)), domain)
+}
+
+/// The first fault of shape, with its code from 120 to 124, of a text of `end` bytes that spells these top forms. There is
+/// none exactly where they are a version, a domain and a problem of the grammar, and then maybe a list headed `world`.
+pub fn shape_fault(end: u32, top: &[Form<'_>]) -> Option<Fault>
+    ensures fault { option_map fault_view result ≡ shape_fault end (map form_view top.now) }
+    ensures none { IsNone result ↔ IsFile (map form_view top.now) }
+{
+    first_fault(end, top)
 }
 
 /// The first form of the world, where there is one, that is not what the grammar has at its place, with the code 300.

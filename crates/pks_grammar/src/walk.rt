@@ -1,9 +1,10 @@
 //! The walk over forms, and the first that is not what the grammar has at its place (`docs/FORMAT.md`).
 
-ghost use Rattle.std.specs.Prelude.{◌≡◌, map, option_map};
+ghost use Rattle.std.specs.Prelude.{◌≡◌, ◌↔◌, IsNone, map, option_map};
 ghost use Rattle.pks_text.specs.FormViews.{form_view, forms_view};
 ghost use Rattle.pks_grammar.specs.Grammar.{is_allowed, production, head_of_section, is_among, with_head};
 ghost use Rattle.pks_grammar.specs.GrammarViews.{headed_view};
+ghost use Rattle.pks_grammar.specs.Language.{IsOf};
 ghost use Rattle.pks_grammar.specs.Walk.{head_of, is_headed, sort_at, parts_after, is_wanting, lacks, is_fixed, is_miscounted, fault_in, fault_among};
 
 use crate::grammar::{Part, Sort, Version};
@@ -176,11 +177,10 @@ fn is_miscounted(version: Version, parts: &[Part], forms: &[Form<'_>]) -> bool
     lacks(version, parts, forms) || (is_fixed(parts) && parts.len() < forms.len())
 }
 
-/// The place of the first form, from the left, that is not what the grammar has at its place within a form of the sort.
-/// There is none exactly where the form is of the sort.
+// The place of the first fault in a form of the sort.
 #[cycle(walking)]
 #[tactic(auto, unfolding(crate::specs::Walk::fault_in))]
-pub fn fault_in(version: Version, sort: Sort, form: &Form<'_>) -> Option<u32>
+fn walk_form(version: Version, sort: Sort, form: &Form<'_>) -> Option<u32>
     ensures { result ≡ fault_in version sort (form_view form.now) }
 {
     match form {
@@ -197,25 +197,35 @@ pub fn fault_in(version: Version, sort: Sort, form: &Form<'_>) -> Option<u32>
                 if is_miscounted(version, wanted, parts) {
                     Some(span.start)
                 } else {
-                    fault_among(version, wanted, parts)
+                    walk_parts(version, wanted, parts)
                 }
             }
         },
     }
 }
 
+// The place of the first fault in the parts of a list.
 #[cycle(walking)]
 #[tactic(auto, unfolding(crate::specs::Walk::fault_among))]
-fn fault_among(version: Version, parts: &[Part], forms: &[Form<'_>]) -> Option<u32>
+fn walk_parts(version: Version, parts: &[Part], forms: &[Form<'_>]) -> Option<u32>
     ensures { result ≡ fault_among version parts.now (forms_view forms.now) }
 {
     let mut rest = parts;
     for form in forms {
-        let fault = fault_in(version, sort_at(version, rest, form), form);
+        let fault = walk_form(version, sort_at(version, rest, form), form);
         if fault.is_some() {
             return fault;
         }
         rest = parts_after(version, rest, form);
     }
     None
+}
+
+/// The place of the first form, from the left and each list before its parts, that is not what the grammar has at its place
+/// where a form of the sort is wanted. There is none exactly where the form is of the sort.
+pub fn fault_in(version: Version, sort: Sort, form: &Form<'_>) -> Option<u32>
+    ensures place { result ≡ fault_in version sort (form_view form.now) }
+    ensures none { IsNone result ↔ IsOf version sort (form_view form.now) }
+{
+    walk_form(version, sort, form)
 }

@@ -1,5 +1,5 @@
 -- What databases answer is so in worlds of which they are true.
-use Rattle.std.proofs.Common.{◌≡◌, ◌&&◌, ◌==◌, Bool, true, false, not, is_eq, is_some, List, [], ◌∷◌, map, refl, sym, ap, ◌∙◌, inl, inr, ⊎_elim, true≢false}
+use Rattle.std.proofs.Common.{◌≡◌, ◌&&◌, ◌==◌, Bool, true, false, cond, not, is_eq, is_some, List, [], ◌∷◌, map, refl, sym, ap, ◌∙◌, inl, inr, ⊎_elim, true≢false}
 use Rattle.std.specs.List.{list_any, list_all}
 use Rattle.std.specs.Cmp.{Equal-is}
 use Rattle.std.specs.FinMap.{slice_cmp-IsAntisymmetric}
@@ -12,7 +12,8 @@ use Rattle.pks_terms.specs.Worlds.{World, value_of, relates, signed, true_in, al
 use Rattle.pks_terms.specs.Databases.{Five, normal, normal_literal, holds}
 use Rattle.pks_terms.specs.Meaning.{IsTrueOf}
 use Rattle.pks_terms.specs.Closure.{normal_conj}
-use Rattle.pks_terms.specs.Queries.{known_value, is_member, has_known_sides, is_decided, known_whether}
+use Rattle.pks_terms.specs.Queries.{Plain, Know, KnowWhether, KnowValue, Query, known_value, is_member, has_known_sides, is_decided, known_whether, answers_plain, answers}
+use Rattle.pks_laws.specs.Saying.{IsSaidOf}
 use Rattle.pks_terms.proofs.ListLaws.{found, found_in, all_set_of, all_alike}
 use Rattle.pks_terms.proofs.OrderLaws.{same_term, literal_cmp_tells}
 use Rattle.pks_laws.proofs.Values.{AllTrue, value_of-normal}
@@ -106,3 +107,12 @@ module _ {s : Signature} (w w' : World) (d : Five) (m : IsTrueOf s w w' d) where
       all_false_at w c f.0 f.1 (denied_false w d m.first f.0 f.2) ∙ sym (all_false_at w' c f.0 f.1 (denied_false w' d m.second f.0 f.2)))
       (all_decided_alike c) (or_cases (list_any (λ l. holds s d (negated l)) c) _ e))
       (or_cases (is_member d c) _ h)
+
+-- what an answered query says is so
+pub answered_said : {s : Signature} (w w' : World) (d : Five) → IsTrueOf s w w' d → (q : Query) → q.denied ≡ false → answers s d q ≡ true → IsSaidOf w w' q.asks
+answered_said {s = s} w w' d m q not_denied h = said q.asks (sym (ap (λ b. cond b (not (answers_plain s d q.asks)) (answers_plain s d q.asks)) not_denied) ∙ h)
+  where
+    said : (x : Plain) → answers_plain s d x ≡ true → IsSaidOf w w' x
+    said (Know l) k = (holds_true w d m.first l k, holds_true w' d m.second l k)
+    said (KnowWhether c) k = known_whether_alike w w' d m c k
+    said (KnowValue t) k = known_value_alike w w' d m t k

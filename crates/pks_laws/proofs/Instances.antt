@@ -12,7 +12,7 @@ use Rattle.pks_terms.specs.Branching.{as_inner, candidates, is_allowed, instance
 use Rattle.pks_terms.proofs.ListLaws.{each_append, each_in, each_of, each_map, each_filter_map, in_mapped, in_filtered, in_flat_mapped, each_choice, values_of_all_some}
 use Rattle.pks_laws.proofs.Values.{inner_object_value}
 
-in_numbered : {X : Type 0} (xs : List X) (n : ℕ) (q : ℕ × X) → IsIn q (numbered n xs) → (k : ℕ) × (q.0 ≡ n + k) × (slice_get xs k ≡ Some q.1)
+pub in_numbered : {X : Type 0} (xs : List X) (n : ℕ) (q : ℕ × X) → IsIn q (numbered n xs) → (k : ℕ) × (q.0 ≡ n + k) × (slice_get xs k ≡ Some q.1)
 in_numbered [] n q i = absurd i
 in_numbered {X} (x ∷ xs) n q (inl e) = (0, sym (ap (λ (r : ℕ × X). r.0) e) ∙ omega arith, ap (λ (r : ℕ × X). Some r.1) e)
 in_numbered (x ∷ xs) n q (inr i) = let r = in_numbered xs (n + 1) q i in let k = r.0 in let e : q.0 ≡ n + suc k = r.1 ∙ omega arith in (suc k, e, r.2)

@@ -67,7 +67,7 @@ within_filter_map h xs ys w y i = let r = in_filter_mapped h xs y i in in_filter
 
 -- ---- the order of an equation's sides
 
-in_order_swapped : (a b : Term) → in_order Equality (a ∷ b ∷ []) ≡ in_order Equality (b ∷ a ∷ [])
+pub in_order_swapped : (a b : Term) → in_order Equality (a ∷ b ∷ []) ≡ in_order Equality (b ∷ a ∷ [])
 in_order_swapped a b =
     elim (term_cmp a b) as (λ r. term_cmp a b ≡ r → cond (is_lt r) (b ∷ a ∷ []) (a ∷ b ∷ []) ≡ cond (is_lt (term_cmp b a)) (a ∷ b ∷ []) (b ∷ a ∷ [])) [
       | Less ↦ λ e. sym (ap (λ r. cond (is_lt r) (a ∷ b ∷ []) (b ∷ a ∷ [])) (term_cmp_total.antisymm b a ∙ ap ordering_reverse e))
@@ -75,7 +75,7 @@ in_order_swapped a b =
       | Greater ↦ λ e. sym (ap (λ r. cond (is_lt r) (a ∷ b ∷ []) (b ∷ a ∷ [])) (term_cmp_total.antisymm b a ∙ ap ordering_reverse e))
     ] refl
 
-in_order-map : (f : Term → Term) (r : Relation) (ts : List Term) → in_order r (map f (in_order r ts)) ≡ in_order r (map f ts)
+pub in_order-map : (f : Term → Term) (r : Relation) (ts : List Term) → in_order r (map f (in_order r ts)) ≡ in_order r (map f ts)
 in_order-map f Equality (t ∷ u ∷ []) =
     elim (is_lt (term_cmp t u)) as (λ b. in_order Equality (map f (cond b (u ∷ t ∷ []) (t ∷ u ∷ []))) ≡ in_order Equality (f t ∷ f u ∷ [])) [ true ↦ in_order_swapped (f u) (f t) | false ↦ refl ]
 in_order-map f Equality [] = refl
@@ -83,11 +83,11 @@ in_order-map f Equality (t ∷ []) = refl
 in_order-map f Equality (t ∷ u ∷ x ∷ ts) = refl
 in_order-map f (Named p) ts = refl
 
-literal_eq_itself : (l k : Literal) → l ≡ k → literal_eq l k ≡ true
+pub literal_eq_itself : (l k : Literal) → l ≡ k → literal_eq l k ≡ true
 unfolding literal_eq
 literal_eq_itself l k e = ap (λ k. is_eq (literal_cmp l k)) (sym e) ∙ ap is_eq (tied_itself literal_cmp_total l)
 
-term_eq_itself : (t u : Term) → t ≡ u → term_eq t u ≡ true
+pub term_eq_itself : (t u : Term) → t ≡ u → term_eq t u ≡ true
 unfolding term_eq
 term_eq_itself t u e = ap (λ u. is_eq (term_cmp t u)) (sym e) ∙ ap is_eq (tied_itself term_cmp_total t)
 
@@ -106,7 +106,7 @@ module _ (s : Signature) (small big : List Literal) (within : Within small big)
   least_is_in : (es : List ℕ) (e : ℕ) → least es ≡ Some e → IsIn e es
   least_is_in es e h = least_in (λ x. IsIn x es) es e (each_of (λ x. IsIn x es) es (λ x i. i)) h
 
-  least_one : (f : ℕ) (ds : List ℕ) (e : ℕ) → IsIn e (values_at big f ds) → least (values_at big f ds) ≡ Some e
+  pub least_one : (f : ℕ) (ds : List ℕ) (e : ℕ) → IsIn e (values_at big f ds) → least (values_at big f ds) ≡ Some e
   least_one f ds e i =
       elim (least (values_at big f ds)) as (λ o. least (values_at big f ds) ≡ o → o ≡ Some e) [
         | None ↦ λ q. absurd (not_empty (values_at big f ds) e i q)
@@ -155,14 +155,14 @@ module _ (s : Signature) (small big : List Literal) (within : Within small big)
   object_fixed (Parameter i) d h = absurd (none-some d h)
   object_fixed (Apply f ds) d h = absurd (none-some d h)
 
-  normal_again : (t : Term) → normal big (normal small t) ≡ normal big t
+  pub normal_again : (t : Term) → normal big (normal small t) ≡ normal big t
   unfolding normal
   normal_again = form_again as_object (inner_normal small) (inner_normal big) inner_again object_fixed
 
   normals_again : (ts : List Term) → map (normal big) (map (normal small) ts) ≡ map (normal big) ts
   normals_again ts = map-map (normal small) (normal big) ts ∙ map_alike (λ t. normal big (normal small t)) (normal big) normal_again ts
 
-  normal_literal_again : (l : Literal) → normal_literal big (normal_literal small l) ≡ normal_literal big l
+  pub normal_literal_again : (l : Literal) → normal_literal big (normal_literal small l) ≡ normal_literal big l
   unfolding normal_literal literal
   normal_literal_again l = λ i. record {
     relation = l.relation;
@@ -341,7 +341,7 @@ module _ (s : Signature) (big : Five) (inhabited : HasValues s) (saturated : IsS
   unfolding first_clash
   no_denial l i h = none_found (λ l. holds s big (negated l)) big.kf fine l i h
 
-  addition_in : (l k : Literal) → IsIn l big.kf → IsIn k (by_value big.kf l) → IsIn k big.kf
+  pub addition_in : (l k : Literal) → IsIn l big.kf → IsIn k (by_value big.kf l) → IsIn k big.kf
   unfolding additions
   addition_in l k i j = saturated k (in_left (flat_map (by_value big.kf) big.kf) _ k (in_flat (by_value big.kf) big.kf l k i j))
 
@@ -376,7 +376,7 @@ module _ (s : Signature) (big : Five) (inhabited : HasValues s) (saturated : IsS
       (in_flat (by_range s big) (flat_map applications_in (place f ds ∷ object e ∷ [])) (place f ds) l
       (in_left (applications_in (place f ds)) (flat_map applications_in (object e ∷ [])) (place f ds) (inl refl)) j))))
 
-  value_in : (f : ℕ) (ds : List ℕ) (a : ℕ) → IsIn (equation (place f ds) (object a)) big.kf → IsIn a (values_at big.kf f ds)
+  pub value_in : (f : ℕ) (ds : List ℕ) (a : ℕ) → IsIn (equation (place f ds) (object a)) big.kf → IsIn a (values_at big.kf f ds)
   unfolding values_at told literal term_cmp
   value_in f ds a i =
       in_filter_map (λ l. option_and_then (value_if_at f ds) (told l.relation l.arguments l.positive)) big.kf (equation (place f ds) (object a)) a i
@@ -386,7 +386,7 @@ module _ (s : Signature) (big : Five) (inhabited : HasValues s) (saturated : IsS
   objects_stay [] = refl
   objects_stay (d ∷ ds) = λ i. Object d ∷ objects_stay ds i
 
-  value_is : (f : ℕ) (ds : List ℕ) (e : ℕ) → IsIn e (values_at big.kf f ds) → normal big.kf (place f ds) ≡ object e
+  pub value_is : (f : ℕ) (ds : List ℕ) (e : ℕ) → IsIn e (values_at big.kf f ds) → normal big.kf (place f ds) ≡ object e
   unfolding normal
   value_is f ds e i =
       ap (applied as_object big.kf f) (objects_stay ds) ∙ ap (λ o. option_map_or Object (option_and_then (λ ds. least (values_at big.kf f ds)) o) (place f ds)) (objects_all ds)
@@ -480,7 +480,7 @@ module _ (s : Signature) (big : Five) (inhabited : HasValues s) (saturated : IsS
   round_within d w g r l i =
       ⊎_elim (w l) (additions_within d w g r l) (in_added literal_cmp_total literal_cmp_tells d.kf (additions s d) l i)
 
-  rounds_keep : (n : ℕ) (d : Five) → ((rounds s n d).kx ≡ d.kx) × ((rounds s n d).lcw ≡ d.lcw)
+  pub rounds_keep : (n : ℕ) (d : Five) → ((rounds s n d).kx ≡ d.kx) × ((rounds s n d).lcw ≡ d.lcw)
   unfolding round
   rounds_keep zero d = (refl, refl)
   rounds_keep (suc n) d = rounds_keep n d

@@ -48,7 +48,7 @@ module _ (s : Signature) (w : World) (i : IsWorld s w) where
       (in_appended (map Object (objects_of s a)) (filter_map (λ x. cond (has_type s x a) (as_inner x) None) d.kv) t j)
 
   -- the arguments of an instance
-  abbrev AreTyped : List ℕ → List Inner → Type 0
+  abbrev pub AreTyped : List ℕ → List Inner → Type 0
   AreTyped params given = (k b : ℕ) → slice_get params k ≡ Some b → IsIn (inner_value w (argument given k)) (objects_of s b)
 
   arguments_typed : (d : Five) (params : List ℕ) (given : List Inner) → IsIn given (choices_from (map (candidates s d) params)) → AreTyped params given
@@ -95,7 +95,7 @@ module _ (s : Signature) (w : World) (i : IsWorld s w) where
     writes_value (Unset a) f ds e y q m h = absurd (none-some e h)
     writes_value (Clear x) f ds e y q m h = absurd (none-some e h)
 
-    still_world : (effects : List Effect) → Each (λ e. IsTypedTarget s params e.target) effects → IsWorld s (applied_to w (map (effect_at given) effects))
+    pub still_world : (effects : List Effect) → Each (λ e. IsTypedTarget s params e.target) effects → IsWorld s (applied_to w (map (effect_at given) effects))
     unfolding applied_to
     still_world effects all = record {
       atoms = λ p ds h.

@@ -65,7 +65,7 @@ first_met p v h = all_now p.goal v.aims
 -- ---- between terms of one type, an application and an object are never told apart by their types
 
 -- of an object of the function's result type
-own_value : (s : Signature) (f d a : ℕ) → option_map (λ (x : Shape). x.result) (slice_get s.functions f) ≡ Some a → slice_get s.objects d ≡ Some a → is_foreign s f d ≡ false
+pub own_value : (s : Signature) (f d a : ℕ) → option_map (λ (x : Shape). x.result) (slice_get s.functions f) ≡ Some a → slice_get s.objects d ≡ Some a → is_foreign s f d ≡ false
 unfolding is_foreign object_is_of
 own_value s f d a r o =
     elim (slice_get s.functions f) as (λ x. option_map (λ (x : Shape). x.result) x ≡ Some a → option_map_or (λ (x : Shape). not (option_map_or (λ own. fits_type s own x.result) (slice_get s.objects d) false)) x false ≡ false) [
@@ -124,7 +124,7 @@ module _ (s : Signature) (none : Each (λ o. o ≡ None) s.parents) where
       ])
       (each_map P (Apply f) (one_replaced (inner_steps kf) ts) (each_of (λ us. P (Apply f us)) (one_replaced (inner_steps kf) ts) (λ us i. h)))
 
-  ordered_typed : (t u : Term) (b : Bool) (a : ℕ) → type_of s t ≡ Some a → type_of s u ≡ Some a → T (literal Equality (t ∷ u ∷ []) b)
+  pub ordered_typed : (t u : Term) (b : Bool) (a : ℕ) → type_of s t ≡ Some a → type_of s u ≡ Some a → T (literal Equality (t ∷ u ∷ []) b)
   unfolding literal
   ordered_typed t u b a p q = elim (is_lt (term_cmp t u)) as (λ c. AreOneTyped s Equality (cond c (u ∷ t ∷ []) (t ∷ u ∷ []))) [ true ↦ (a, q, p) | false ↦ (a, p, q) ]
 
@@ -160,7 +160,7 @@ module _ (s : Signature) (none : Each (λ o. o ≡ None) s.parents) where
       let k = each_in (λ q. T q.0 × Each T q.1) (with_others g) q (others_typed g a) i in
       each_append T (cond (list_all (λ m. holds s d (negated m)) q.1) (q.0 ∷ []) []) (cond (holds s d q.0) (map negated q.1) []) (if_typed _ (q.0 ∷ []) (k.0, tt)) (if_typed (holds s d q.0) (map negated q.1) (each_map T negated q.1 k.1)))
 
-  own_type : (a d : ℕ) → IsIn d (objects_of s a) → slice_get s.objects d ≡ Some a
+  pub own_type : (a d : ℕ) → IsIn d (objects_of s a) → slice_get s.objects d ≡ Some a
   unfolding object_is_of
   own_type a d i = go (slice_get s.objects d) refl
     where
@@ -188,17 +188,20 @@ module _ (s : Signature) (none : Each (λ o. o ≡ None) s.parents) where
   all_applications (Parameter i) = tt
   all_applications (Apply f ts) = (refl, each_filter (λ u. is_application u ≡ true) is_application (map term_of ts) (λ u i k. k))
 
-  pub round_typed : (d : Five) → Each T d.kf → Each (Each T) d.kx → Each T (round s d).kf
-  unfolding round additions by_value
-  round_typed d typed groups =
-      each_added T literal_cmp d.kf (flat_map (by_value d.kf) d.kf ++ (flat_map (by_group s d) d.kx ++ flat_map (λ l. flat_map (by_range s d) (flat_map applications_in l.arguments)) d.kf)) typed
-      (each_append T (flat_map (by_value d.kf) d.kf) (flat_map (by_group s d) d.kx ++ flat_map (λ l. flat_map (by_range s d) (flat_map applications_in l.arguments)) d.kf)
+  pub additions_typed : (d : Five) → Each T d.kf → Each (Each T) d.kx → Each T (additions s d)
+  unfolding additions by_value
+  additions_typed d typed groups =
+      each_append T (flat_map (by_value d.kf) d.kf) (flat_map (by_group s d) d.kx ++ flat_map (λ l. flat_map (by_range s d) (flat_map applications_in l.arguments)) d.kf)
       (each_flat_map T (by_value d.kf) d.kf (λ l i. each_map T (λ ts. literal l.relation ts l.positive) (one_replaced (term_steps d.kf) l.arguments) (value_typed d.kf typed l.relation l.arguments l.positive (each_in T d.kf l typed i))))
       (each_append T (flat_map (by_group s d) d.kx) (flat_map (λ l. flat_map (by_range s d) (flat_map applications_in l.arguments)) d.kf)
       (each_flat_map T (by_group s d) d.kx (λ g i. group_typed d g (each_in (Each T) d.kx g groups i)))
       (each_flat_map T (λ l. flat_map (by_range s d) (flat_map applications_in l.arguments)) d.kf (λ l i.
       each_flat_map T (by_range s d) (flat_map applications_in l.arguments) (λ t j.
-      range_typed d t (each_in (λ u. is_application u ≡ true) (flat_map applications_in l.arguments) t (each_flat_map (λ u. is_application u ≡ true) applications_in l.arguments (λ u k. all_applications u)) j))))))
+      range_typed d t (each_in (λ u. is_application u ≡ true) (flat_map applications_in l.arguments) t (each_flat_map (λ u. is_application u ≡ true) applications_in l.arguments (λ u k. all_applications u)) j)))))
+
+  pub round_typed : (d : Five) → Each T d.kf → Each (Each T) d.kx → Each T (round s d).kf
+  unfolding round
+  round_typed d typed groups = each_added T literal_cmp d.kf (additions s d) typed (additions_typed d typed groups)
 
   -- so in closing no two terms are told apart by their types
   pub rounds_typed : (n : ℕ) (d : Five) → Each T d.kf → Each (Each T) d.kx → Each T (rounds s n d).kf

@@ -1,0 +1,5 @@
+pub mod Lookup
+pub mod OfSignature
+pub mod OneTyped
+pub mod Saying
+pub mod Worked

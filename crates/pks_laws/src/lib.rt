@@ -1,4 +1,5 @@
 //! The laws over the definitions of a contingent planner.
 #![tactic(auto)]
 
+pub mod examples;
 pub mod laws;

@@ -5,3 +5,4 @@ pub mod Types
 pub mod ListLaws
 pub mod OrderLaws
 pub mod SetLaws
+pub mod Kept

@@ -1,5 +1,5 @@
 -- What the program's values say, apart from how they lie in memory.
-use Rattle.std.specs.Prelude.{ℕ, ◌≤◌, true, false, List, [], ◌∷◌, map, take, option_map}
+use Rattle.std.specs.Prelude.{ℕ, true, false, List, [], ◌∷◌, map, take, option_map}
 use Rattle.pks_terms.specs.declared.ids.ObjId.{ObjId}
 use Rattle.pks_terms.specs.declared.ids.TypeId.{TypeId}
 use Rattle.pks_terms.specs.declared.term.Inner as inner
@@ -121,15 +121,6 @@ query_of (query_is.Kv t) = record { asks = KnowValue (term_of t); denied = false
 query_of (query_is.NotK l) = record { asks = Know (literal_of l); denied = true }
 query_of (query_is.NotKw c) = record { asks = KnowWhether (conj_of c); denied = true }
 query_of (query_is.NotKv t) = record { asks = KnowValue (term_of t); denied = true }
-
--- the counts in a query are within their arrays
-abbrev pub HasCount : query.Query → Type 0
-HasCount (query_is.K l) = Unit {0}
-HasCount (query_is.Kw c) = c.n ≤ 4
-HasCount (query_is.Kv t) = Unit {0}
-HasCount (query_is.NotK l) = Unit {0}
-HasCount (query_is.NotKw c) = c.n ≤ 4
-HasCount (query_is.NotKv t) = Unit {0}
 
 -- the place of an assignment is an application
 abbrev pub target_of : target.Target → Target

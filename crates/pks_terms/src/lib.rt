@@ -1,3 +1,4 @@
+//! Terms, literals, actions and problems, with their orders, and in `specs/` the definitions of all rules over plain lists.
 #![tactic(auto)]
 
 pub mod group;
@@ -8,3 +9,5 @@ pub mod putting;
 pub mod schema;
 pub mod sequence;
 pub mod term;
+#[cfg(test)]
+mod tests;

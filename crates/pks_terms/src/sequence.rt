@@ -3,7 +3,7 @@ ghost use Rattle.std.specs.Prelude.{◌≡◌, List, length, ◌==◌};
 
 use std::marker::Model;
 
-/// Items in order.
+/// Items in order, of which contracts see the list.
 #[derive(Drop)]
 pub struct Sequence<T> {
     items: Vec<T>,
@@ -53,3 +53,6 @@ impl<T> Sequence<T> {
         self.items.is_empty()
     }
 }
+
+/// A list of numbers.
+pub type NumberList = Sequence<u32>;

@@ -1,17 +1,12 @@
 -- A text goes on with one token at one place.
-use Rattle.std.proofs.Common.{◌≡◌, true, false, ◌⊎◌, inl, inr, ℕ, suc, ◌<◌, ◌≤◌, ◌+◌, ◌-◌, nat_lt, Bool, cond, List, [], ◌∷◌, ◌++◌, length, take, drop, Option, Some, None, refl, sym, ◌∙◌, ap, subst, arith, append_assoc, length-append, length-drop, length-take, bytes_eq, codes}
-use Rattle.std.proofs.lemmas.List.{append-nil}
-use Rattle.std.proofs.lemmas.Bool.{true≢false}
+use Rattle.std.proofs.Common.{◌≡◌, true, false, ℕ, ◌≤◌, ◌+◌, nat_lt, Bool, cond, List, [], ◌∷◌, ◌++◌, length, Some, None, refl, sym, ◌∙◌, ap, subst, arith, append_assoc, length-append, codes}
 use Rattle.std.proofs.lemmas.Bool.Decides.{nat_tests}
 use Rattle.pks_text.specs.Bytes.{is_paren, is_word_byte}
 use Rattle.pks_text.specs.Gaps.{IsOnlyGap}
-use Rattle.pks_text.specs.Tokens.{IsWord, IsToken, BeginsWith, BeginsBad}
+use Rattle.pks_text.specs.Tokens.{IsWord, BeginsWith, BeginsBad}
 use Rattle.pks_text.specs.Found.{Ends, Fails, GoesOn}
-use Rattle.pks_text.specs.Reading.{IsSliceOf}
 use Rattle.pks_text.specs.Forms.{Mark, Said, Opens, Closes, mark_text, mark_end, IsOfClass, Begins, SpellsFrom}
 use Rattle.pks_text.specs.Faults.{opened, Stops, StopsAfter, IsFirstFault}
-use Rattle.pks_text.specs.FormViews.{mark_of}
-use Rattle.pks_text.specs.declared.tokens.Token.{Token}
 use Rattle.pks_text.specs.declared.tree.FormFault.{FormFault}
 use Rattle.pks_text.specs.declared.tree.FormFault.TheVariants.{BadByte, Unclosed, Unopened, TooDeep, Memory}
 use Rattle.pks_text.proofs.Classes.{goes_on, token_stops}

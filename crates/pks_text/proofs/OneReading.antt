@@ -1,7 +1,7 @@
 -- A text spells one list of forms.
-use Rattle.std.proofs.Common.{◌≡◌, ℕ, List, [], ◌∷◌, ◌++◌, refl, sym, ◌∙◌, ap, subst, arith, append_assoc}
-use Rattle.pks_text.specs.Forms.{Form, Word, Listing, Forms, no_forms, form, Mark, Said, Opens, Closes, mark_end, Begins, SpellsFrom, Spells, form_marks, forms_marks}
-use Rattle.pks_text.proofs.Marks.{IsNext, is_next}
+use Rattle.std.proofs.Common.{◌≡◌, ℕ, List, [], ◌∷◌, ◌++◌, refl, sym, ◌∙◌, ap, subst, append_assoc}
+use Rattle.pks_text.specs.Forms.{Word, Listing, Forms, no_forms, form, Mark, Said, Opens, Closes, mark_end, SpellsFrom, Spells, form_marks, forms_marks}
+use Rattle.pks_text.proofs.Marks.{is_next}
 
 -- ---- the text determines its tokens
 

@@ -1,9 +1,9 @@
 -- The tokens and the open lists of a pile.
-use Rattle.std.proofs.Common.{◌≡◌, ℕ, suc, Bool, true, cond, Some, None, nat_lt, ◌+◌, ◌-◌, List, [], ◌∷◌, ◌++◌, length, map, refl, sym, ◌∙◌, ap, append_assoc, add-one, arith}
+use Rattle.std.proofs.Common.{◌≡◌, ℕ, Bool, true, cond, Some, None, nat_lt, ◌+◌, List, [], ◌∷◌, ◌++◌, length, map, refl, sym, ◌∙◌, ap, append_assoc, arith}
 use Rattle.std.proofs.lemmas.List.{append-nil, map_push}
 use Rattle.pks_text.specs.declared.tree.Form.{Form as CodeForm}
 use Rattle.pks_text.specs.declared.nesting.Open.{Open}
-use Rattle.pks_text.specs.Forms.{Form, Forms, Word, Listing, forms_of, Mark, Said, Opens, Closes, form_marks, forms_marks}
+use Rattle.pks_text.specs.Forms.{Form, forms_of, Mark, Opens, Closes, form_marks, forms_marks}
 use Rattle.pks_text.specs.Faults.{opened}
 use Rattle.pks_text.specs.FormViews.{form_view, forms_view, pile_marks, open_places}
 

@@ -1,17 +1,16 @@
 -- What the end of a text, a bad byte and a token that is turned away say of the text.
-use Rattle.std.proofs.Common.{◌≡◌, true, false, ◌⊎◌, inl, inr, ℕ, suc, ◌<◌, ◌≤◌, ◌+◌, ◌-◌, nat_lt, Bool, cond, List, [], ◌∷◌, ◌++◌, length, take, drop, Option, Some, None, Result, Ok, Err, IfOk, IfErr, OnOk, IsOk, refl, sym, ◌∙◌, ap, subst, arith, length-append, length-drop, length-take, bytes_eq, codes, if◌then◌else◌}
+use Rattle.std.proofs.Common.{◌≡◌, true, false, ◌⊎◌, inl, inr, ℕ, ◌<◌, ◌≤◌, ◌+◌, ◌-◌, nat_lt, Bool, cond, List, [], ◌∷◌, ◌++◌, length, drop, Some, None, Result, Ok, Err, IfOk, IfErr, OnOk, IsOk, refl, sym, ◌∙◌, ap, subst, arith, length-append, length-drop, length-take, bytes_eq, codes, if◌then◌else◌}
 use Rattle.std.proofs.lemmas.List.{append-nil}
-use Rattle.std.proofs.lemmas.Bool.{true≢false, false≢true}
+use Rattle.std.proofs.lemmas.Bool.{false≢true}
 use Rattle.std.proofs.lemmas.Bool.{cond_both}
 use Rattle.std.proofs.lemmas.Bool.Decides.{nat_tests}
 use Rattle.std.proofs.lemmas.Slice.Eq.{bytes_eq-Decides}
 use Rattle.pks_text.specs.Bytes.{is_paren}
 use Rattle.pks_text.specs.Gaps.{IsOnlyGap}
 use Rattle.pks_text.specs.Tokens.{IsWord, IsToken, BeginsWith, BeginsBad}
-use Rattle.pks_text.specs.Found.{Ends, Fails}
 use Rattle.pks_text.specs.Reading.{IsSliceOf}
 use Rattle.pks_text.specs.Forms.{Mark, Said, Opens, Closes, mark_text, mark_end, IsOfClass, Begins, SpellsFrom, forms_marks, Spells, SpellsNoOther}
-use Rattle.pks_text.specs.Faults.{opened, Stops, StopsAfter, IsFirstFault, IsFaultOf, IsAnswered}
+use Rattle.pks_text.specs.Faults.{opened, StopsAfter, IsFirstFault, IsFaultOf, IsAnswered}
 use Rattle.pks_text.specs.FormViews.{mark_of, forms_view, IsTurned, IsOpen}
 use Rattle.pks_text.specs.declared.tokens.Token.{Token}
 use Rattle.pks_text.specs.declared.tree.Forms.{Forms}
@@ -19,7 +18,7 @@ use Rattle.pks_text.specs.declared.tree.FormFault.{FormFault}
 use Rattle.pks_text.specs.declared.tree.FormFault.TheVariants.{BadByte, Unclosed, Unopened, TooDeep, Memory}
 use Rattle.pks_text.proofs.Classes.{gap_ends, bad_fails}
 use Rattle.pks_text.proofs.OneReading.{one_forms}
-use Rattle.pks_text.proofs.Marks.{IsNext, is_next, IsRead, taken, after_end, after_bad}
+use Rattle.pks_text.proofs.Marks.{IsNext, is_next, IsRead, after_end, after_bad}
 
 -- ---- a token as a mark
 

@@ -1,5 +1,7 @@
 -- Forms as they lie in memory.
 use Rattle.std.specs.Prelude.{◌≡◌, ◌≤◌, ℕ, ◌+◌, List, [], ◌∷◌, ◌++◌, length, map, codes, bytes_eq, if◌then◌else◌}
+use Rattle.std.specs.List.{flat_map, AllByRecursion}
+use Rattle.pks_text.specs.Reading.{IsSliceOf}
 use Rattle.pks_text.specs.Forms.{Form, Word, Listing, Forms, forms_of, Mark, Said, Opens, Closes, forms_marks}
 use Rattle.pks_text.specs.declared.tokens.Token.{Token}
 use Rattle.pks_text.specs.declared.tokens.LexFault.{LexFault}
@@ -21,6 +23,18 @@ form_view = fold-Form Form form_step
 abbrev pub forms_view : List CodeForm → Forms
 forms_view fs = forms_of (map form_view fs)
 
+abbrev pub words_step : Form-F (List Token) → List Token
+words_step (Form-F.Name token) = token ∷ []
+words_step (Form-F.List parts span) = flat_map (λ ws. ws) parts.items
+
+-- the words of a form, in order
+abbrev pub words_in : CodeForm → List Token
+words_in = fold-Form (List Token) words_step
+
+-- each word of the forms is the slice of the source at its span
+abbrev pub AreSlices : List ℕ → List CodeForm → Type 0
+AreSlices source fs = AllByRecursion (λ t. IsSliceOf source t) (flat_map words_in fs)
+
 -- the tokens of what stands before a list that is open, with its parenthesis
 abbrev pub pile_marks : List Open → List Mark
 pile_marks [] = []
@@ -29,6 +43,10 @@ pile_marks (o ∷ os) = forms_marks (forms_view o.parts.items) ++ Opens o.start 
 -- the tokens that were read
 abbrev pub marks_of : Pile → List Mark
 marks_of p = pile_marks p.outer.items ++ forms_marks (forms_view p.parts.items)
+
+-- the words that were read
+abbrev pub words_of : Pile → List Token
+words_of p = flat_map (λ (o : Open). flat_map words_in o.parts.items) p.outer.items ++ flat_map words_in p.parts.items
 
 -- the places of the lists that are open, behind those that are given
 abbrev pub open_places : List ℕ → List Open → List ℕ
@@ -60,3 +78,7 @@ IsOpen ps Memory = ⊥
 
 abbrev pub fault_of : LexFault → FormFault
 fault_of (lex.BadByte at) = BadByte at
+
+-- the token where it is a word
+abbrev pub spoken : Token → List Token
+spoken t = if bytes_eq t.text.now (codes "(") then [] else (if bytes_eq t.text.now (codes ")") then [] else t ∷ [])

@@ -3,7 +3,7 @@ ghost use Rattle.std.specs.Prelude.{◌≡◌, ◌≤◌, ◌<◌, ◌+◌, ◌�
 ghost use Rattle.pks_text.specs.declared.tree.FormFault.TheVariants.{Memory};
 ghost use Rattle.pks_text.specs.Forms.{Spells, SpellsNoOther};
 ghost use Rattle.pks_text.specs.Faults.{IsFirstFault, IsFaultOf, IsAnswered};
-ghost use Rattle.pks_text.specs.FormViews.{forms_view, fault_of};
+ghost use Rattle.pks_text.specs.FormViews.{forms_view, fault_of, AreSlices};
 ghost use Rattle.pks_text.specs.declared.tree.FormFault.{FormFault};
 
 use crate::tokens::{LexFault, Token, Tokens};
@@ -29,13 +29,15 @@ pub struct Pile<'s> {
 impl<'s> Pile<'s> {
     ghost use Rattle.pks_text.specs.Forms.{Said, Opens, Closes, forms_marks};
     ghost use Rattle.pks_text.specs.Faults.{opened};
-    ghost use Rattle.pks_text.specs.FormViews.{marks_of, places_of, mark_of, forms_view, IsTurned, IsOpen};
+    ghost use Rattle.pks_text.specs.FormViews.{marks_of, places_of, words_of, words_in, spoken, mark_of, forms_view, IsTurned, IsOpen};
+    ghost use Rattle.std.specs.List.{flat_map};
 
     // A word.
     #[tactic(auto, using(crate::proofs::Piles::said))]
     fn say(&mut self, token: Token<'s>) -> Result<(), FormFault>
         ensures marks { OnOk result (marks_of self.new ≡ marks_of self.old ++ Said token.entry.text.now token.entry.span.start ∷ []) }
         ensures places { OnOk result (places_of self.new ≡ places_of self.old) }
+        ensures words { OnOk result (words_of self.new ≡ words_of self.old ++ token.entry ∷ []) }
         ensures err { IfErr result (λ e. e ≡ Memory) }
     {
         self.parts.push(Form::Name(token))?;
@@ -47,6 +49,7 @@ impl<'s> Pile<'s> {
     fn open(&mut self, alloc: Global, at: u32) -> Result<(), FormFault>
         ensures marks { OnOk result (marks_of self.new ≡ marks_of self.old ++ Opens at ∷ []) }
         ensures places { OnOk result (opened (places_of self.old) (Opens at) ≡ Some (places_of self.new)) }
+        ensures words { OnOk result (words_of self.new ≡ words_of self.old) }
         ensures err { IfErr result (λ e. IsTurned (places_of self.old) (Opens at) e) }
     {
         if self.outer.len() >= 12 {
@@ -62,6 +65,7 @@ impl<'s> Pile<'s> {
         requires { at < 262144 }
         ensures marks { OnOk result (marks_of self.new ≡ marks_of self.old ++ Closes (at + 1) ∷ []) }
         ensures places { OnOk result (opened (places_of self.old) (Closes (at + 1)) ≡ Some (places_of self.new)) }
+        ensures words { OnOk result (words_of self.new ≡ words_of self.old) }
         ensures err { IfErr result (λ e. IsTurned (places_of self.old) (Closes (at + 1)) e) }
     {
         match self.outer.pop() {
@@ -82,6 +86,7 @@ impl<'s> Pile<'s> {
         requires { token.span.start < 262144 }
         ensures marks { OnOk result (marks_of self.new ≡ marks_of self.old ++ mark_of token.entry ∷ []) }
         ensures places { OnOk result (opened (places_of self.old) (mark_of token.entry) ≡ Some (places_of self.new)) }
+        ensures words { OnOk result (words_of self.new ≡ words_of self.old ++ spoken token.entry) }
         ensures err { IfErr result (λ e. IsTurned (places_of self.old) (mark_of token.entry) e) }
     {
         if token.text == "(" {
@@ -97,6 +102,7 @@ impl<'s> Pile<'s> {
     fn end(self) -> Result<Forms<'s>, FormFault>
         ensures marks { IfOk result (λ fs. marks_of self.entry ≡ forms_marks (forms_view fs.top.items)) }
         ensures places { OnOk result (places_of self.entry ≡ []) }
+        ensures words { IfOk result (λ fs. words_of self.entry ≡ flat_map words_in fs.top.items) }
         ensures err { IfErr result (λ e. IsOpen (places_of self.entry) e) }
     {
         let Pile { outer, parts } = self;
@@ -125,6 +131,9 @@ pub fn forms<'s>(alloc: Global, source: &'s str) -> Result<Forms<'s>, FormFault>
     // The forms are those that the text spells, and it spells no others.
     ensures spelled { IfOk result (λ fs. Spells source.now (forms_view fs.top.items)) }
     ensures alone { IfOk result (λ fs. SpellsNoOther source.now (forms_view fs.top.items)) }
+
+    // Each word is lent from the text: it is the slice at its span.
+    ensures slices { IfOk result (λ fs. AreSlices source.now fs.top.items) }
 
     // A fault is the first of the text, and where there is one the answer is that fault, or want of memory.
     ensures fault { IfErr result (λ e. IsFaultOf source.now e) }

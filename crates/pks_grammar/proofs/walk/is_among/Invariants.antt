@@ -1,4 +1,4 @@
-use Rattle.std.proofs.Common.{◌≡◌, drop, map, option_map, ℕ, List}
+use Rattle.std.proofs.Common.{◌≡◌, drop, map}
 use Rattle.pks_grammar.specs.Grammar.{is_among}
 use Rattle.pks_grammar.proofs.walk.is_among.Given as goal
 

@@ -1,4 +1,4 @@
-use Rattle.std.proofs.Common.{◌≡◌, drop, map, option_map, ℕ, List}
+use Rattle.std.proofs.Common.{◌≡◌, drop}
 use Rattle.pks_grammar.specs.Walk.{is_fixed}
 use Rattle.pks_grammar.proofs.walk.is_fixed.Given as goal
 

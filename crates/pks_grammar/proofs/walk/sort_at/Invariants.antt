@@ -1,5 +1,5 @@
-use Rattle.std.proofs.Common.{◌≡◌, drop, map, option_map, ℕ, List}
-use Rattle.pks_text.specs.FormViews.{form_view, forms_view}
+use Rattle.std.proofs.Common.{◌≡◌, drop}
+use Rattle.pks_text.specs.FormViews.{form_view}
 use Rattle.pks_grammar.specs.Walk.{sort_at}
 use Rattle.pks_grammar.proofs.walk.sort_at.Given as goal
 

@@ -1,4 +1,4 @@
-use Rattle.std.proofs.Common.{◌≡◌, drop, map, option_map, ℕ, List}
+use Rattle.std.proofs.Common.{◌≡◌, drop, map, option_map}
 use Rattle.pks_grammar.specs.Grammar.{with_head}
 use Rattle.pks_grammar.specs.GrammarViews.{headed_view}
 use Rattle.pks_grammar.proofs.walk.with_head.Given as goal

@@ -1,16 +1,16 @@
-use Rattle.std.proofs.Common.{rules, ◌≡◌, ◌≤◌, ◌<◌, ◌∷◌, ◌++◌, [], List, ℕ, ◌+◌, length, drop, Some, false, true, refl, sym, subst, ap, ◌∙◌}
+use Rattle.std.proofs.Common.{rules, ◌≡◌, ◌≤◌, ◌∷◌, ◌++◌, [], List, ℕ, ◌+◌, drop, refl, sym, subst, ap, ◌∙◌}
 use Rattle.std.proofs.lemmas.Bool.{false≢true}
-use Rattle.pks_text.specs.Gaps.{IsOnlyGap}
 use Rattle.pks_text.specs.Tokens.{BeginsWith, BeginsBad}
-use Rattle.pks_text.specs.Forms.{Mark, Begins, mark_end, SpellsFrom}
-use Rattle.pks_text.specs.Faults.{opened, IsFirstFault, IsFaultOf, IsAnswered}
+use Rattle.pks_text.specs.Forms.{Mark, Begins, mark_end}
+use Rattle.pks_text.specs.Faults.{IsFaultOf, IsAnswered}
 use Rattle.pks_text.specs.Reading.{left_of, place_of, source_of, IsSliceOf}
-use Rattle.pks_text.specs.FormViews.{marks_of, places_of, mark_of, fault_of, IsTurned}
-use Rattle.pks_text.specs.declared.tree.FormFault.{FormFault}
+use Rattle.pks_text.specs.FormViews.{marks_of, places_of, words_of, spoken, mark_of, fault_of}
 use Rattle.pks_text.specs.declared.tree.FormFault.TheVariants.{BadByte}
 use Rattle.pks_text.specs.declared.tokens.LexFault.TheVariants as lex
 use Rattle.pks_text.specs.declared.tokens.Token.{Token}
 use Rattle.pks_text.specs.declared.tokens.Tokens.{Tokens}
+use Rattle.std.specs.List.{AllByRecursion}
+use Rattle.pks_text.proofs.Lent.{all_both, spoken_slices, ended_slices}
 use Rattle.pks_text.proofs.Marks.{IsRead, at_start, taken, is_next}
 use Rattle.pks_text.proofs.TextEnds.{ended_spelled, spelled_alone, ended_fault, ended_only, bad_only, turned_fault, turned_only, token_begins, shorter}
 use Rattle.pks_text.proofs.nesting.forms.Goals as goal
@@ -19,10 +19,14 @@ pub loop-pile-init : goal.loop-pile-init
 loop-pile-init c =
     let marks : marks_of (record { outer = c.new.result; parts = c.new-2.result }) ≡ [] = search rules in
     let places : places_of (record { outer = c.new.result; parts = c.new-2.result }) ≡ [] = search rules in
-    (subst5 marks places c.new-tokens.ensures.left c.new-tokens.ensures.place (at_start c.args.source.now), c.new-tokens.ensures.source)
+    let words : words_of (record { outer = c.new.result; parts = c.new-2.result }) ≡ [] = search rules in
+    (subst5 marks places c.new-tokens.ensures.left c.new-tokens.ensures.place (at_start c.args.source.now), c.new-tokens.ensures.source, no_words words)
   where
     subst5 : {ms : List Mark} {ps left source : List ℕ} {at : ℕ} → ms ≡ [] → ps ≡ [] → left ≡ source → at ≡ 0 → IsRead source [] [] source 0 → IsRead source ms ps left at
     subst5 a b d e read = rw (a, b, d, e) read
+
+    no_words : {ws : List Token} → ws ≡ [] → AllByRecursion (λ t. IsSliceOf c.args.source.now t) ws
+    no_words e = subst (λ (ws : List Token). AllByRecursion (λ t. IsSliceOf c.args.source.now t) ws) (sym e) tt
 
 pub returns-in-None-clause-spelled : goal.returns-in-None-clause-spelled
 returns-in-None-clause-spelled c = ended_spelled c.args.source.now (marks_of c.loop-pile.pile) (places_of c.loop-pile.pile) (left_of c.loop-pile.tokens) (place_of c.loop-pile.tokens) c.loop-pile.invariant.0 (c.in-None.ensures.none.0 refl) c.end.result c.end.ensures.marks
@@ -30,6 +34,9 @@ returns-in-None-clause-spelled c = ended_spelled c.args.source.now (marks_of c.l
 pub returns-in-None-clause-alone : goal.returns-in-None-clause-alone
 returns-in-None-clause-alone c =
     spelled_alone c.args.source.now c.end.result (ended_spelled c.args.source.now (marks_of c.loop-pile.pile) (places_of c.loop-pile.pile) (left_of c.loop-pile.tokens) (place_of c.loop-pile.tokens) c.loop-pile.invariant.0 (c.in-None.ensures.none.0 refl) c.end.result c.end.ensures.marks)
+
+pub returns-in-None-clause-slices : goal.returns-in-None-clause-slices
+returns-in-None-clause-slices c = ended_slices c.args.source.now (words_of c.loop-pile.pile) c.end.result c.loop-pile.invariant.2 c.end.ensures.words
 
 pub returns-in-None-clause-fault : goal.returns-in-None-clause-fault
 returns-in-None-clause-fault c = ended_fault c.args.source.now (marks_of c.loop-pile.pile) (places_of c.loop-pile.pile) (left_of c.loop-pile.tokens) (place_of c.loop-pile.tokens) c.loop-pile.invariant.0 (c.in-None.ensures.none.0 refl) c.end.result c.end.ensures.err
@@ -78,6 +85,9 @@ loop-pile-preserved c =
       subst (λ (ms : List Mark). IsRead c.args.source.now ms (places_of c.take.new.self) (left_of c.next.new.self) (place_of c.next.new.self)) (sym c.in-Ok.ensures.marks)
           (subst (λ (at : ℕ). IsRead c.args.source.now (marks_of c.loop-pile.pile ++ mark_of c.in-Some-Ok.token ∷ []) (places_of c.take.new.self) (left_of c.next.new.self) at) t.1 next),
       c.in-Some-Ok.ensures.source ∙ c.loop-pile.invariant.1,
+      subst (λ (ws : List Token). AllByRecursion (λ t. IsSliceOf c.args.source.now t) ws) (sym c.in-Ok.ensures.words)
+          (all_both (λ t. IsSliceOf c.args.source.now t) (words_of c.loop-pile.pile) (spoken c.in-Some-Ok.token) c.loop-pile.invariant.2
+          (spoken_slices c.args.source.now c.in-Some-Ok.token (subst (λ (source : List ℕ). IsSliceOf source c.in-Some-Ok.token) c.loop-pile.invariant.1 slice))),
     )
 
 pub returns-in-Err-clause-fault : goal.returns-in-Err-clause-fault

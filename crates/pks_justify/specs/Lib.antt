@@ -1,0 +1,4 @@
+pub mod Asked
+pub mod Effects
+pub mod Cases
+pub mod Places

@@ -1,0 +1,12 @@
+//! Whether the text of an action justifies each of its adds, and by which case (`docs/RULES.md`, "Justified adds").
+#![tactic(auto)]
+
+mod cases;
+mod deciding;
+mod fitting;
+mod given;
+#[cfg(test)]
+mod tests;
+mod undoing;
+
+pub use cases::{Case, Unjustified, case_of, case_with, justify};

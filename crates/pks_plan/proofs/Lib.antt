@@ -1,0 +1,5 @@
+pub mod Appended
+pub mod Costs
+pub mod Indented
+pub mod Roots
+pub mod Variants

@@ -1,0 +1,11 @@
+//! Conditional plans: their depth, their cost, which of two is better, and their text.
+#![tactic(auto)]
+
+pub mod body;
+mod bytes;
+mod lines;
+mod names;
+pub mod order;
+mod parts;
+pub mod text;
+pub mod tree;

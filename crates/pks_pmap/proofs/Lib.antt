@@ -1,0 +1,6 @@
+pub mod AtFork
+pub mod Below
+pub mod Building
+pub mod Heights
+pub mod Kept
+pub mod Order

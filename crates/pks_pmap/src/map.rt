@@ -1,0 +1,180 @@
+//! The map.
+ghost use Rattle.std.specs.Prelude.{◌≡◌, ℕ, ◌+◌, ◌*◌, ◌≤◌, List, [], ◌∷◌, length, IfOk, OnOk, IsNone};
+ghost use Rattle.std.specs.Option.{option_map};
+ghost use Rattle.std.specs.Iterator.{YieldsFirstBy, item_count};
+ghost use Rattle.pks_pmap.specs.Entries.{IsAscending, get, first_from, insert, remove};
+ghost use Rattle.pks_pmap.specs.Sides.{IsGreatestHeight, raised_by};
+ghost use Rattle.pks_pmap.specs.Keeping.{TakesKeys, AnswersKey, Keeps};
+
+use crate::steps::Steps;
+use crate::tree::Tree;
+use std::alloc::{AllocError, Global};
+use std::marker::Model;
+use std::rc::Rc;
+
+/// A map in the order of its keys, whose versions share their nodes and pairs.
+#[derive(Drop)]
+pub struct PMap<K: Ord, V> {
+    tree: Tree<K, V>,
+}
+
+impl<K: Ord, V> Model for PMap<K, V> {
+    ghost use Rattle.std.specs.Prelude.{List};
+
+    ghost Value = { List (K × V) };
+
+    ghost view = { λ m. m.tree.0 };
+}
+
+/// The keys and values of a map in the order of the keys.
+#[derive(Drop)]
+pub struct PIter<'a, K: Ord, V> {
+    tree: &'a Tree<K, V>,
+    at: usize,
+}
+
+impl<'a, K: Ord, V> Model for PIter<'a, K, V> {
+    ghost use Rattle.std.specs.Prelude.{List, drop};
+
+    ghost Value = { List (K × V) };
+
+    ghost view = { λ i. drop i.at i.tree.now.0 };
+}
+
+impl<K: Ord, V> PMap<K, V> {
+    /// The map with no entries.
+    pub fn empty() -> PMap<K, V>
+        ensures { result ≡ [] }
+    {
+        PMap {
+            tree: Tree::empty(),
+        }
+    }
+
+    /// The value at the key.
+    pub fn get(&self, key: &K) -> Option<&V>
+        ensures { option_map (λ v. v.now) result ≡ get K.cmp key.now self.now }
+    {
+        self.tree.get(key)
+    }
+
+    /// The first entry whose key is not below the key.
+    pub fn first_from(&self, key: &K) -> Option<(&K, &V)>
+        ensures { option_map (λ p. (p.0.now, p.1.now)) result ≡ first_from K.cmp key.now self.now }
+    {
+        let pair = self.tree.first_from(key)?;
+        Some((&pair.0, &pair.1))
+    }
+
+    /// How many entries there are.
+    pub fn len(&self) -> usize
+        ensures count { result ≡ length self.now }
+        ensures ascending { IsAscending K.cmp self.now }
+    {
+        self.tree.len()
+    }
+
+    /// The entries in the order of the keys.
+    pub fn iter(&self) -> PIter<'_, K, V>
+        ensures entries { result ≡ self.now }
+        ensures ascending { IsAscending K.cmp self.now }
+    {
+        let _len = self.tree.len();
+        PIter {
+            tree: &self.tree,
+            at: 0,
+        }
+    }
+}
+
+impl<K: Ord + Drop, V: Drop> PMap<K, V> {
+    /// The same map.
+    pub fn share(&self) -> Result<PMap<K, V>, AllocError>
+        ensures { IfOk result (λ map. map ≡ self.now) }
+    {
+        let tree = self.tree.share()?;
+        Ok(PMap { tree })
+    }
+
+    /// The map of these entries, made in a time that grows as their number.
+    pub fn from_ordered(
+        alloc: Global,
+        entries: Vec<(K, V)>,
+        steps: &mut Steps,
+    ) -> Result<PMap<K, V>, AllocError>
+        requires { IsAscending K.cmp entries.items }
+        ensures entries { IfOk result (λ map. map ≡ entries.items) }
+        ensures counted { OnOk result (steps.new.made ≡ raised_by (length entries.items) steps.old.made) }
+    {
+        let mut entries = entries;
+        let count = entries.len();
+        let tree = Tree::build(alloc, &mut entries, count, steps)?;
+        Ok(PMap { tree })
+    }
+
+    /// The map with the value at the key.
+    pub fn insert(
+        &self,
+        alloc: Global,
+        key: K,
+        value: V,
+        steps: &mut Steps,
+    ) -> Result<PMap<K, V>, AllocError>
+        ensures entries { IfOk result (λ map. map ≡ insert K.cmp (key, value) self.now) }
+        ensures few { (h : ℕ) → IsGreatestHeight (length self.now) h → steps.new.made ≤ steps.old.made + (2 * h + 2) }
+    {
+        let pair = Rc::new(alloc, (key, value))?;
+        let tree = self.tree.insert(alloc, pair, steps)?;
+        Ok(PMap { tree })
+    }
+
+    /// The map with no value at the key.
+    pub fn remove(
+        &self,
+        alloc: Global,
+        key: &K,
+        steps: &mut Steps,
+    ) -> Result<PMap<K, V>, AllocError>
+        ensures entries { IfOk result (λ map. map ≡ remove K.cmp key.now self.now) }
+        ensures missing { IsNone (get K.cmp key.now self.now) → steps.new.made ≡ steps.old.made }
+    {
+        if self.tree.get(key).is_none() {
+            return self.share();
+        }
+        let tree = self.tree.remove(alloc, key, steps)?;
+        Ok(PMap { tree })
+    }
+
+    /// The map of the entries whose keys pass the test.
+    pub fn kept<F: Fn(&K) -> bool>(
+        &self,
+        alloc: Global,
+        test: F,
+        steps: &mut Steps,
+    ) -> Result<PMap<K, V>, AllocError>
+        requires { TakesKeys F.Fn test self.now }
+        ensures entries { IfOk result (λ map. Keeps (AnswersKey F.Fn test) self.now map) }
+        ensures shared { IfOk result (λ map. length map ≡ length self.now → steps.new.made ≡ steps.old.made) }
+    {
+        let tree = self.tree.kept(alloc, &test, steps)?;
+        Ok(PMap { tree })
+    }
+}
+
+impl<'a, K: Ord, V> Iterator for PIter<'a, K, V> {
+    type Item = (&'a K, &'a V);
+
+    ghost next_gives = { YieldsFirstBy (λ p. (p.0.now, p.1.now)) (λ s. s) };
+
+    ghost remaining = { item_count (λ s. s) };
+
+    fn next(&mut self) -> Option<(&'a K, &'a V)> {
+        let tree = self.tree;
+        if self.at >= tree.len() {
+            return None;
+        }
+        let pair = tree.nth(self.at);
+        self.at += 1;
+        Some((&pair.0, &pair.1))
+    }
+}

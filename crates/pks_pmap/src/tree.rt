@@ -1,0 +1,463 @@
+//! A balanced tree, seen as its entries in order and its height.
+ghost use Rattle.std.specs.Prelude.{◌≡◌, ℕ, ◌+◌, ◌*◌, ◌^◌, ◌<◌, ◌≤◌, max, [], ◌∷◌, ◌++◌, length, drop, IfOk, OnOk, OnErr, is_ok, if◌then◌else◌};
+ghost use Rattle.pks_pmap.specs.Entries.{IsAscending, get, first_from, insert, remove};
+ghost use Rattle.std.specs.Option.{option_map};
+ghost use Rattle.pks_pmap.specs.Sides.{DifferByAtMost, IsFull, IsBalancing, IsInsertion, IsRemoval, IsTakingFirst, IsGluing, IsJoining, IsBuilt, raised};
+ghost use Rattle.pks_pmap.specs.Keeping.{TakesKeys, AnswersKey, IsKeeping};
+
+use crate::steps::Steps;
+use std::alloc::{AllocError, Global};
+use std::cmp::Ordering;
+use std::marker::Model;
+use std::rc::Rc;
+
+#[cycle(tree)]
+#[derive(Drop)]
+pub(crate) struct Tree<K: Ord, V> {
+    link: Link<K, V>,
+}
+
+#[cycle(tree)]
+#[derive(Drop)]
+enum Link<K: Ord, V> {
+    Leaf,
+    Fork(Rc<Node<K, V>>),
+}
+
+#[cycle(tree)]
+#[derive(Drop)]
+struct Node<K: Ord, V> {
+    left: Tree<K, V>,
+    pair: Rc<(K, V)>,
+    right: Tree<K, V>,
+    height: usize,
+    len: usize,
+}
+
+impl<K: Ord, V> Model for Tree<K, V> {
+    ghost use Rattle.std.specs.Prelude.{ℕ, List, length};
+
+    ghost Value = { List (K × V) × ℕ };
+
+    ghost use Rattle.pks_pmap.specs.Balance.{entries_and_height, IsBalanced};
+
+    ghost view = { λ t. entries_and_height t.link };
+
+    ghost invariant = { λ t. IsBalanced K.cmp t.link };
+
+    ghost size = { λ d. length d.0 };
+
+    ghost use Rattle.std.proofs.Common.{arith, length-append};
+
+    ghost size_decreases = { λ t h. Prim.grind (arith, length-append) };
+}
+
+impl<K: Ord, V> Tree<K, V> {
+    pub(crate) fn empty() -> Tree<K, V>
+        ensures { result ≡ ([], 0) }
+    {
+        Tree { link: Link::Leaf }
+    }
+
+    pub(crate) fn len(&self) -> usize
+        ensures count { result ≡ length self.now.0 }
+        ensures ascending { IsAscending K.cmp self.now.0 }
+        ensures full { IsFull self.now.1 (length self.now.0) }
+    {
+        match &self.link {
+            Link::Leaf => 0,
+            Link::Fork(node) => node.len,
+        }
+    }
+
+    pub(crate) fn get(&self, key: &K) -> Option<&V>
+        ensures { option_map (λ v. v.now) result ≡ get K.cmp key.now self.now.0 }
+    {
+        match &self.link {
+            Link::Leaf => None,
+            Link::Fork(node) => match key.cmp(&node.pair.0) {
+                Ordering::Less => node.left.get(key),
+                Ordering::Equal => Some(&node.pair.1),
+                Ordering::Greater => node.right.get(key),
+            },
+        }
+    }
+
+    // The first pair whose key is not below the key.
+    pub(crate) fn first_from(&self, key: &K) -> Option<&(K, V)>
+        ensures { option_map (λ p. p.now) result ≡ first_from K.cmp key.now self.now.0 }
+    {
+        let Link::Fork(node) = &self.link else {
+            return None;
+        };
+        match key.cmp(&node.pair.0) {
+            Ordering::Less => match node.left.first_from(key) {
+                Some(first) => Some(first),
+                None => Some(&node.pair),
+            },
+            Ordering::Equal => Some(&node.pair),
+            Ordering::Greater => node.right.first_from(key),
+        }
+    }
+
+    // The pair that has so many before it.
+    pub(crate) fn nth(&self, at: usize) -> &(K, V)
+        requires { at < length self.now.0 }
+        ensures { drop at self.now.0 ≡ result.now ∷ drop (at + 1) self.now.0 }
+    {
+        let Link::Fork(node) = &self.link else {
+            unreachable!()
+        };
+        let before = node.left.len();
+        if at < before {
+            return node.left.nth(at);
+        }
+        if at == before {
+            return &node.pair;
+        }
+        node.right.nth(at - before - 1)
+    }
+
+    fn height(&self) -> usize
+        ensures is { result ≡ self.now.1 }
+        ensures full { IsFull self.now.1 (length self.now.0) }
+    {
+        match &self.link {
+            Link::Leaf => 0,
+            Link::Fork(node) => node.height,
+        }
+    }
+}
+
+impl<K: Ord + Drop, V: Drop> Tree<K, V> {
+    pub(crate) fn share(&self) -> Result<Tree<K, V>, AllocError>
+        ensures { IfOk result (λ t. t ≡ self.now) }
+    {
+        match &self.link {
+            Link::Leaf => Ok(Tree { link: Link::Leaf }),
+            Link::Fork(node) => {
+                let node = node.clone()?;
+                Ok(Tree {
+                    link: Link::Fork(node),
+                })
+            }
+        }
+    }
+
+    // The one maker of nodes.
+    fn make(
+        alloc: Global,
+        left: Tree<K, V>,
+        pair: Rc<(K, V)>,
+        right: Tree<K, V>,
+        steps: &mut Steps,
+    ) -> Result<Tree<K, V>, AllocError>
+        requires ascending { IsAscending K.cmp (left.0 ++ pair.value ∷ right.0) }
+        requires balanced { DifferByAtMost 1 left.1 right.1 }
+        ensures made { IfOk result (λ t. t ≡ (left.0 ++ pair.value ∷ right.0, max left.1 right.1 + 1)) }
+        ensures raised { OnOk result (steps.new.made ≡ raised steps.old.made) }
+        ensures at_most { steps.new.made ≤ steps.old.made + (if is_ok result then 1 else 0) }
+    {
+        let height = left.height().max(right.height());
+        let below = left.len().checked_add(right.len());
+        let Some(len) = below.and_then(|n| n.checked_add(1)) else {
+            return Err(AllocError);
+        };
+        let node = Rc::new(
+            alloc,
+            Node {
+                left,
+                pair,
+                right,
+                height: height + 1,
+                len,
+            },
+        )?;
+        steps.raise();
+        Ok(Tree {
+            link: Link::Fork(node),
+        })
+    }
+
+    // A tree of two sides whose heights differ by at most two.
+    fn balance(
+        alloc: Global,
+        left: Tree<K, V>,
+        pair: Rc<(K, V)>,
+        right: Tree<K, V>,
+        steps: &mut Steps,
+    ) -> Result<Tree<K, V>, AllocError>
+        requires ascending { IsAscending K.cmp (left.0 ++ pair.value ∷ right.0) }
+        requires near { DifferByAtMost 2 left.1 right.1 }
+        ensures balancing { IfOk result (IsBalancing left pair.value right steps.old.made steps.new.made) }
+        ensures at_most { steps.new.made ≤ steps.old.made + (if is_ok result then 3 else 2) }
+    {
+        let (l, r) = (left.height(), right.height());
+        if l.saturating_sub(r) > 1 {
+            return Tree::lean_left(alloc, left, pair, right, steps);
+        }
+        if r.saturating_sub(l) > 1 {
+            return Tree::lean_right(alloc, left, pair, right, steps);
+        }
+        Tree::make(alloc, left, pair, right, steps)
+    }
+
+    fn lean_left(
+        alloc: Global,
+        left: Tree<K, V>,
+        pair: Rc<(K, V)>,
+        right: Tree<K, V>,
+        steps: &mut Steps,
+    ) -> Result<Tree<K, V>, AllocError>
+        requires ascending { IsAscending K.cmp (left.0 ++ pair.value ∷ right.0) }
+        requires two_higher { left.1 ≡ right.1 + 2 }
+        ensures balancing { IfOk result (IsBalancing left pair.value right steps.old.made steps.new.made) }
+        ensures at_most { steps.new.made ≤ steps.old.made + (if is_ok result then 3 else 2) }
+    {
+        let Link::Fork(top) = &left.link else {
+            unreachable!()
+        };
+        let (low, high) = (&top.left, &top.right);
+        if low.height() >= high.height() {
+            let inner = high.share()?;
+            let inner = Tree::make(alloc, inner, pair, right, steps)?;
+            let outer = low.share()?;
+            let middle = top.pair.clone()?;
+            return Tree::make(alloc, outer, middle, inner, steps);
+        }
+        let Link::Fork(middle) = &high.link else {
+            unreachable!()
+        };
+        let outer = low.share()?;
+        let first = top.pair.clone()?;
+        let before = middle.left.share()?;
+        let before = Tree::make(alloc, outer, first, before, steps)?;
+        let after = middle.right.share()?;
+        let after = Tree::make(alloc, after, pair, right, steps)?;
+        let middle = middle.pair.clone()?;
+        Tree::make(alloc, before, middle, after, steps)
+    }
+
+    fn lean_right(
+        alloc: Global,
+        left: Tree<K, V>,
+        pair: Rc<(K, V)>,
+        right: Tree<K, V>,
+        steps: &mut Steps,
+    ) -> Result<Tree<K, V>, AllocError>
+        requires ascending { IsAscending K.cmp (left.0 ++ pair.value ∷ right.0) }
+        requires two_higher { right.1 ≡ left.1 + 2 }
+        ensures balancing { IfOk result (IsBalancing left pair.value right steps.old.made steps.new.made) }
+        ensures at_most { steps.new.made ≤ steps.old.made + (if is_ok result then 3 else 2) }
+    {
+        let Link::Fork(top) = &right.link else {
+            unreachable!()
+        };
+        let (low, high) = (&top.left, &top.right);
+        if high.height() >= low.height() {
+            let inner = low.share()?;
+            let inner = Tree::make(alloc, left, pair, inner, steps)?;
+            let outer = high.share()?;
+            let middle = top.pair.clone()?;
+            return Tree::make(alloc, inner, middle, outer, steps);
+        }
+        let Link::Fork(middle) = &low.link else {
+            unreachable!()
+        };
+        let before = middle.left.share()?;
+        let before = Tree::make(alloc, left, pair, before, steps)?;
+        let after = middle.right.share()?;
+        let last = top.pair.clone()?;
+        let outer = high.share()?;
+        let after = Tree::make(alloc, after, last, outer, steps)?;
+        let middle = middle.pair.clone()?;
+        Tree::make(alloc, before, middle, after, steps)
+    }
+
+    pub(crate) fn insert(
+        &self,
+        alloc: Global,
+        pair: Rc<(K, V)>,
+        steps: &mut Steps,
+    ) -> Result<Tree<K, V>, AllocError>
+        ensures inserted { IfOk result (IsInsertion K.cmp pair.value self.now steps.old.made steps.new.made) }
+        ensures at_most { steps.new.made ≤ steps.old.made + (2 * self.now.1 + 2) }
+        ensures full { IsFull self.now.1 (length self.now.0) }
+    {
+        let _height = self.height();
+        let Link::Fork(node) = &self.link else {
+            return Tree::make(alloc, Tree::empty(), pair, Tree::empty(), steps);
+        };
+        match pair.0.cmp(&node.pair.0) {
+            Ordering::Less => {
+                let left = node.left.insert(alloc, pair, steps)?;
+                let middle = node.pair.clone()?;
+                let right = node.right.share()?;
+                Tree::balance(alloc, left, middle, right, steps)
+            }
+            Ordering::Equal => {
+                let left = node.left.share()?;
+                let right = node.right.share()?;
+                Tree::make(alloc, left, pair, right, steps)
+            }
+            Ordering::Greater => {
+                let right = node.right.insert(alloc, pair, steps)?;
+                let middle = node.pair.clone()?;
+                let left = node.left.share()?;
+                Tree::balance(alloc, left, middle, right, steps)
+            }
+        }
+    }
+
+    // The first pair, and the tree without it.
+    fn take_first(
+        &self,
+        alloc: Global,
+        steps: &mut Steps,
+    ) -> Result<(Rc<(K, V)>, Tree<K, V>), AllocError>
+        requires { 0 < length self.now.0 }
+        ensures { IfOk result (λ p. IsTakingFirst self.now p.0.value p.1) }
+    {
+        let Link::Fork(node) = &self.link else {
+            unreachable!()
+        };
+        let middle = node.pair.clone()?;
+        let right = node.right.share()?;
+        if node.left.len() == 0 {
+            return Ok((middle, right));
+        }
+        let (first, left) = node.left.take_first(alloc, steps)?;
+        let rest = Tree::balance(alloc, left, middle, right, steps)?;
+        Ok((first, rest))
+    }
+
+    // A tree of two sides of any heights.
+    fn join(
+        alloc: Global,
+        left: Tree<K, V>,
+        pair: Rc<(K, V)>,
+        right: Tree<K, V>,
+        steps: &mut Steps,
+    ) -> Result<Tree<K, V>, AllocError>
+        requires { IsAscending K.cmp (left.0 ++ pair.value ∷ right.0) }
+        ensures { IfOk result (IsJoining left pair.value right) }
+    {
+        let (l, r) = (left.height(), right.height());
+        if l.saturating_sub(r) > 2 {
+            let Link::Fork(top) = &left.link else {
+                unreachable!()
+            };
+            let inner = top.right.share()?;
+            let inner = Tree::join(alloc, inner, pair, right, steps)?;
+            let outer = top.left.share()?;
+            let middle = top.pair.clone()?;
+            return Tree::balance(alloc, outer, middle, inner, steps);
+        }
+        if r.saturating_sub(l) > 2 {
+            let Link::Fork(top) = &right.link else {
+                unreachable!()
+            };
+            let inner = top.left.share()?;
+            let inner = Tree::join(alloc, left, pair, inner, steps)?;
+            let outer = top.right.share()?;
+            let middle = top.pair.clone()?;
+            return Tree::balance(alloc, inner, middle, outer, steps);
+        }
+        Tree::balance(alloc, left, pair, right, steps)
+    }
+
+    // A tree of two sides with no pair between them.
+    fn glue(
+        alloc: Global,
+        left: &Tree<K, V>,
+        right: &Tree<K, V>,
+        steps: &mut Steps,
+    ) -> Result<Tree<K, V>, AllocError>
+        requires { IsAscending K.cmp (left.now.0 ++ right.now.0) }
+        ensures { IfOk result (IsGluing left.now right.now) }
+    {
+        let left = left.share()?;
+        if right.len() == 0 {
+            return Ok(left);
+        }
+        let (first, rest) = right.take_first(alloc, steps)?;
+        Tree::join(alloc, left, first, rest, steps)
+    }
+
+    // The tree of the pairs whose keys pass the test. A side in which all pass is shared.
+    pub(crate) fn kept<F: Fn(&K) -> bool>(
+        &self,
+        alloc: Global,
+        test: &F,
+        steps: &mut Steps,
+    ) -> Result<Tree<K, V>, AllocError>
+        requires { TakesKeys F.Fn test.now self.now.0 }
+        ensures { IfOk result (IsKeeping (AnswersKey F.Fn test.now) self.now steps.old.made steps.new.made) }
+    {
+        let Link::Fork(node) = &self.link else {
+            return Ok(Tree::empty());
+        };
+        let left = node.left.kept(alloc, test, steps)?;
+        let right = node.right.kept(alloc, test, steps)?;
+        if !test(&node.pair.0) {
+            return Tree::glue(alloc, &left, &right, steps);
+        }
+        if left.len() == node.left.len() && right.len() == node.right.len() {
+            return self.share();
+        }
+        let middle = node.pair.clone()?;
+        Tree::join(alloc, left, middle, right, steps)
+    }
+
+    pub(crate) fn remove(
+        &self,
+        alloc: Global,
+        key: &K,
+        steps: &mut Steps,
+    ) -> Result<Tree<K, V>, AllocError>
+        ensures { IfOk result (IsRemoval K.cmp key.now self.now) }
+    {
+        let Link::Fork(node) = &self.link else {
+            return Ok(Tree::empty());
+        };
+        match key.cmp(&node.pair.0) {
+            Ordering::Less => {
+                let left = node.left.remove(alloc, key, steps)?;
+                let middle = node.pair.clone()?;
+                let right = node.right.share()?;
+                Tree::balance(alloc, left, middle, right, steps)
+            }
+            Ordering::Equal => Tree::glue(alloc, &node.left, &node.right, steps),
+            Ordering::Greater => {
+                let right = node.right.remove(alloc, key, steps)?;
+                let middle = node.pair.clone()?;
+                let left = node.left.share()?;
+                Tree::balance(alloc, left, middle, right, steps)
+            }
+        }
+    }
+
+    // The tree of the last so many entries, which are taken off the list.
+    pub(crate) fn build(
+        alloc: Global,
+        entries: &mut Vec<(K, V)>,
+        count: usize,
+        steps: &mut Steps,
+    ) -> Result<Tree<K, V>, AllocError>
+        requires { IsAscending K.cmp entries.now.items × (count ≤ length entries.now.items) }
+        ensures { IfOk result (IsBuilt count entries.old.items entries.new.items steps.old.made steps.new.made) }
+    {
+        if count == 0 {
+            return Ok(Tree::empty());
+        }
+        let after = count / 2;
+        let right = Tree::build(alloc, entries, after, steps)?;
+        let Some(entry) = entries.pop() else {
+            unreachable!()
+        };
+        let left = Tree::build(alloc, entries, count - 1 - after, steps)?;
+        let pair = Rc::new(alloc, entry)?;
+        let tree = Tree::make(alloc, left, pair, right, steps)?;
+        Ok(tree)
+    }
+}

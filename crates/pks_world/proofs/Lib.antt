@@ -1,0 +1,6 @@
+pub mod Keeping
+pub mod Filling
+pub mod Typing
+pub mod Clearing
+pub mod Writing
+pub mod Effects

@@ -1,0 +1,9 @@
+use Rattle.pks_terms.specs.Views.{signature_of}
+use Rattle.pks_world.specs.First.{AreLeast, AreFilled}
+use Rattle.pks_world.proofs.first.all_values.Given as goal
+
+abbrev pub invariant-loop-f : goal.invariant-loop-f
+invariant-loop-f l = record {
+  least : AreLeast (signature_of l.s) l.values.entries;
+  filled : AreFilled (signature_of l.s) l.f l.values.entries;
+}

@@ -1,0 +1,18 @@
+use Rattle.std.proofs.Common.{◌≤◌, length, arith, rules, subst, map, take, ◌∷◌, [], sym}
+use Rattle.pks_terms.specs.Syntax.{Term, place}
+use Rattle.pks_terms.specs.Orders.{term_eq}
+use Rattle.pks_terms.specs.declared.ids.ObjId.{ObjId}
+use Rattle.pks_terms.specs.Views.{object_of}
+use Rattle.pks_world.specs.First.{Writes, is_in_row}
+use Rattle.pks_world.proofs.Filling.{kept_more, kept_all}
+use Rattle.pks_world.proofs.first.keep_rows.Goals as goal
+
+pub loop-first-preserved : goal.loop-first-preserved
+loop-first-preserved c =
+    let p = λ (d : ObjId). is_in_row c.args.fun.0 c.args.n d c.args.seconds.now in
+    kept_more p c.args.firsts.now c.args.d.0 c.args.values.now.entries c.loop-first.first-index _ c.loop-first.values.entries c.keep_row.new.values.entries c.loop-first-test.true c.in_ok-keep_row.ensures c.loop-first.invariant
+
+pub returns : goal.returns
+returns c =
+    let p = λ (d : ObjId). is_in_row c.args.fun.0 c.args.n d c.args.seconds.now in
+    kept_all p c.args.firsts.now c.args.d.0 c.args.values.now.entries c.loop-first.first-index c.loop-first.values.entries c.loop-first-test.false c.loop-first.invariant
