@@ -1,2 +1,5 @@
 //! The problem that a file without a fault states.
 #![tactic(auto)]
+
+mod literals;
+mod terms;
