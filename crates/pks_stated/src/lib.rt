@@ -2,4 +2,5 @@
 #![tactic(auto)]
 
 mod literals;
+mod sentences;
 mod terms;

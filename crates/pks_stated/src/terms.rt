@@ -1,8 +1,9 @@
 //! The terms and atoms that forms without a fault state.
-ghost use Rattle.std.specs.Prelude.{◌≡◌, ◌≤◌, map, take, length};
+ghost use Rattle.std.specs.Prelude.{◌≡◌, ◌≤◌, [], map, take, length};
 ghost use Rattle.pks_terms.specs.Sets.{Each};
 ghost use Rattle.pks_terms.specs.Syntax.{Apply};
 ghost use Rattle.pks_terms.specs.Counts.{InnerCounts, TermCounts, ArgumentCounts, AtomCounts};
+ghost use Rattle.pks_terms.specs.ValidProblems.{IsApplication};
 ghost use Rattle.pks_terms.specs.Views.{object_of, inner_of, term_of, arguments_in, atom_of, shape_of};
 ghost use Rattle.pks_text.specs.FormViews.{form_view, forms_view};
 ghost use Rattle.pks_grammar.specs.Words.{is_variable};
@@ -142,6 +143,7 @@ fn inners(scope: &Scope<'_, '_>, forms: &[Form<'_>]) -> (u8, [Inner; 2])
 fn term_of(fun: FnId, of: (u8, [Inner; 2])) -> Term
     ensures says { term_of result ≡ Apply fun.0 (map inner_of (take of.0 of.1)) }
     ensures counts { (of.0 ≤ 2) × Each InnerCounts (take of.0 of.1) → TermCounts result }
+    ensures place { IsApplication result }
 {
     let (n, args) = of;
     Term::App { fun, n, args }
@@ -151,9 +153,19 @@ pub(crate) fn term_place(scope: &Scope<'_, '_>, parts: &[Form<'_>]) -> Term
     requires { IsSmall (scope_view scope.now) }
     ensures says { term_of result ≡ place_in (scope_view scope.now) (inner_in (scope_view scope.now)) (forms_view parts.now) }
     ensures counts { TermCounts result }
+    ensures place { IsApplication result }
 {
     let fun = FnId(function_number(scope, head_of(parts)));
     term_of(fun, inners(scope, behind(parts)))
+}
+
+// Function 0 without arguments.
+pub(crate) fn no_place() -> Term
+    ensures says { term_of result ≡ Apply 0 [] }
+    ensures counts { TermCounts result }
+    ensures place { IsApplication result }
+{
+    term_of(FnId(0), (0, [NO_INNER, NO_INNER]))
 }
 
 pub(crate) fn term_word(scope: &Scope<'_, '_>, text: &str) -> Term
