@@ -1,5 +1,5 @@
 -- In a tree of a problem each name is there.
-use Rattle.std.proofs.Common.{◌≡◌, ◌<◌, ◌^◌, ◌&&◌, ℕ, Bool, true, false, List, [], ◌∷◌, length, Option, Some, None, slice_get, refl, sym, ◌∙◌, subst, true≢false}
+use Rattle.std.proofs.Common.{◌≡◌, ◌<◌, ◌&&◌, ℕ, Bool, true, false, List, [], ◌∷◌, length, Option, Some, None, slice_get, refl, sym, ◌∙◌, subst, true≢false}
 use Rattle.std.proofs.lemmas.List.{length-map}
 use Rattle.std.specs.Option.{option_map_or}
 use Rattle.std.proofs.lemmas.Bool.{and_parts}
@@ -9,7 +9,7 @@ use Rattle.pks_terms.specs.Syntax.{Form, Object, Parameter, Apply, Inner, Term, 
 use Rattle.pks_terms.specs.Signatures.{Signature, fits_type, object_is_of}
 use Rattle.pks_terms.specs.Actions.{Instance}
 use Rattle.pks_terms.specs.Problems.{Problem, schema_of}
-use Rattle.pks_terms.specs.Trees.{Tree, Goal, Impossible, Do, Branch, Cases, Chain, End, More, depth}
+use Rattle.pks_terms.specs.Trees.{Tree, Goal, Impossible, Do, Branch, Cases, Chain, End, More}
 use Rattle.pks_terms.specs.Valid.{all_fit, form_fits, inner_fits, term_fits, type_in, is_term, is_related, is_literal}
 use Rattle.pks_terms.specs.Handed.{IsStepOf, IsConjOf, IsTreeOf, IsChainOf}
 use Rattle.pks_terms.specs.Printed.{Names, tree_text}
@@ -103,8 +103,8 @@ module _ (p : Problem) (names : Names) (c : AreNamesOf p names) where
     chain_named End h = tt
     chain_named (More d t k) h = (object_there d h.0, tree_named t h.1, chain_named k h.2)
 
-  pub same_text_same_tree : (t u : Tree) → IsTreeOf p t → IsTreeOf p u → depth t < 2 ^ 64 → depth u < 2 ^ 64 → tree_text names t ≡ tree_text names u → t ≡ u
-  same_text_same_tree t u h k m n e = tree_tells names (proper p names c) t u (tree_named t h) (tree_named u k) m n e
+  pub same_text_same_tree : (t u : Tree) → IsTreeOf p t → IsTreeOf p u → tree_text names t ≡ tree_text names u → t ≡ u
+  same_text_same_tree t u h k e = tree_tells names (proper p names c) t u (tree_named t h) (tree_named u k) e
 
 -- ---- the names of valid problems
 

@@ -1,9 +1,8 @@
 -- The text of a tree tells the tree, whatever follows that is no case of it.
-use Rattle.std.proofs.Common.{◌≡◌, ◌<◌, ◌^◌, ℕ, false, ◌==◌, [], ◌∷◌, ◌++◌, length, codes, decimal, append_assoc, append-nil, refl, sym, ap, ◌∙◌, subst, true≢false, arith}
+use Rattle.std.proofs.Common.{◌≡◌, ◌<◌, ℕ, false, ◌==◌, [], ◌∷◌, ◌++◌, length, codes, decimal, append_assoc, append-nil, refl, sym, ap, ◌∙◌, subst, true≢false, arith}
 use Rattle.std.proofs.lemmas.Bool.{eq-eqb}
-use Rattle.std.proofs.lemmas.Fmt.{decimal_is_IsNumeral}
-use Rattle.std.proofs.lemmas.Str.Parse.{digit_from_value}
-use Rattle.std.specs.Str.Parse.{AllDigits}
+use Rattle.std.specs.Fmt.{digit_glyph, digits, digits_onto}
+use Rattle.std.specs.Prelude.{nat_lt, if◌then◌else◌, true, zero, suc, ◌+◌, ◌/◌, ◌%◌}
 use Rattle.pks_terms.specs.Sets.{Each}
 use Rattle.pks_terms.specs.Trees.{Tree, Goal, Impossible, Do, Branch, Cases, Chain, End, More, depth}
 use Rattle.pks_terms.specs.Printed.{Text, Names, name_in, line, term_text, conj_text, instance_text, body_text, cases_text, tree_text}
@@ -206,21 +205,28 @@ line_ends [] (y ∷ ys) r s a b e = absurd (b.0 (sym (ap first e)))
 line_ends (x ∷ xs) [] r s a b e = absurd (a.0 (ap first e))
 line_ends (x ∷ xs) (y ∷ ys) r s a b e = line_ends xs ys r s a.1 b.1 (ap rest e)
 
-digits_no_feed : (ds : Text) → AllDigits 10 ds → HasNoFeed ds
-digits_no_feed [] d = tt
-digits_no_feed (c ∷ ds) d = ((λ e. omega (arith, digit_from_value c d.0, e)), digits_no_feed ds d.1)
+glyph_no_feed : (d : ℕ) → digit_glyph false d ≡ 10 → ⊥
+glyph_no_feed d = elim (nat_lt d 10) as (λ b. (if b then 48 + d else (if false then 55 + d else 87 + d)) ≡ 10 → ⊥) [ true ↦ λ e. omega (arith, e) | false ↦ λ e. omega (arith, e) ]
 
-depth_no_feed : (n : ℕ) → n < 2 ^ 64 → HasNoFeed (decimal n)
-depth_no_feed n h = digits_no_feed (decimal n) (decimal_is_IsNumeral n h).0.1
+onto_no_feed : (k n : ℕ) (ds : Text) → HasNoFeed ds → HasNoFeed (digits_onto k 10 false n ds)
+onto_no_feed zero n ds h = h
+onto_no_feed (suc k) n ds h =
+    let g : ℕ = digit_glyph false (n % 10) in
+    let more : HasNoFeed (g ∷ ds) = (glyph_no_feed (n % 10), h) in
+    elim (n / 10 == 0) as (λ b. HasNoFeed (if b then g ∷ ds else digits_onto k 10 false (n / 10) (g ∷ ds))) [ true ↦ more | false ↦ onto_no_feed k (n / 10) (g ∷ ds) more ]
+
+decimal_no_feed : (n : ℕ) → HasNoFeed (decimal n)
+unfolding digits
+decimal_no_feed n = onto_no_feed 64 n [] tt
 
 tree_is : (names : Names) (t : Tree) → tree_text names t ≡ codes "plan depth " ++ (decimal (depth t) ++ 10 ∷ body_text names [] t)
 unfolding tree_text
 tree_is names t = append_assoc (codes "plan depth " ++ decimal (depth t)) (10 ∷ []) (body_text names [] t)
 
-pub tree_tells : (names : Names) → AreProper names → (t u : Tree) → IsNamedTree names t → IsNamedTree names u → depth t < 2 ^ 64 → depth u < 2 ^ 64 → tree_text names t ≡ tree_text names u → t ≡ u
-tree_tells names a t u h k m n e =
+pub tree_tells : (names : Names) → AreProper names → (t u : Tree) → IsNamedTree names t → IsNamedTree names u → tree_text names t ≡ tree_text names u → t ≡ u
+tree_tells names a t u h k e =
     let x : Text = decimal (depth t) ++ 10 ∷ body_text names [] t in
     let y : Text = decimal (depth u) ++ 10 ∷ body_text names [] u in
     let l = drop_same (codes "plan depth ") x y (sym (tree_is names t) ∙ (e ∙ tree_is names u)) in
-    let body = line_ends (decimal (depth t)) (decimal (depth u)) (body_text names [] t) (body_text names [] u) (depth_no_feed (depth t) m) (depth_no_feed (depth u) n) l in
+    let body = line_ends (decimal (depth t)) (decimal (depth u)) (body_text names [] t) (body_text names [] u) (decimal_no_feed (depth t)) (decimal_no_feed (depth u)) l in
     (same_tree names a [] t u [] [] h k tt tt (append-nil (body_text names [] t) ∙ (body ∙ sym (append-nil (body_text names [] u))))).0
