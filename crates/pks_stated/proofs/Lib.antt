@@ -1,2 +1,3 @@
 pub mod FirstForms
+pub mod Growing
 pub mod Seen

@@ -196,18 +196,20 @@ abbrev pub cost_in : Forms → ℕ
 cost_in no_forms = 1
 cost_in (form f fs) = numeral 0 (take 4 (text_of f))
 
+-- an action, by its parts, where its parameters are declared
+unfoldable pub stated_in : Scope → Forms → Schema
+stated_in s fs = record {
+  cost = cost_in (section (codes "cost") fs);
+  parameters = entries_of s.parameters;
+  pre = all (query_in s) (section (codes "pre") fs);
+  effects = all (effect_in s) (section (codes "effects") fs);
+  senses = all (sense_in s) (section (codes "senses") fs);
+  adds = all (add_in s) (section (codes "knows") fs);
+}
+
 -- an action, by its parts
-unfoldable pub schema_in : Scope → Forms → Schema
-schema_in s fs =
-    let inner = within s fs in
-    record {
-      cost = cost_in (section (codes "cost") fs);
-      parameters = entries_of inner.parameters;
-      pre = all (query_in inner) (section (codes "pre") fs);
-      effects = all (effect_in inner) (section (codes "effects") fs);
-      senses = all (sense_in inner) (section (codes "senses") fs);
-      adds = all (add_in inner) (section (codes "knows") fs);
-    }
+abbrev pub schema_in : Scope → Forms → Schema
+schema_in s fs = stated_in (within s fs) fs
 
 -- an initial item; the literals of a group stand in order
 unfoldable pub start_in : Scope → Form → Start
