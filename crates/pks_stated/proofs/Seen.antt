@@ -23,6 +23,14 @@ pub shapes_shown : {X Y : Type 0} (v : X → Y) (es : List (Bor (List ℕ) × X)
 shapes_shown v [] = refl
 shapes_shown {Y = Y} v (e ∷ es) = ap (λ (ys : List Y). v e.1 ∷ ys) (shapes_shown v es)
 
-pub length_shown : {X : Type 0} (es : List (Bor (List ℕ) × X)) → length (map (λ e. (e.0.now, e.1)) es) ≡ length es
+pub length_shown : {X : Type 0} (es : List (Bor (List ℕ) × X)) → length {A = List ℕ × X} (map (λ e. (e.0.now, e.1)) es) ≡ length es
 length_shown [] = refl
 length_shown (e ∷ es) = ap suc (length_shown es)
+
+-- the names of a table of shapes
+pub names_seen : {X Y : Type 0} (v : X → Y) (es : Table X) → keys_of (seen v es) ≡ keys_of es
+names_seen v [] = refl
+names_seen v (e ∷ es) = ap (λ (ks : List (List ℕ)). e.0 ∷ ks) (names_seen v es)
+
+pub names_shown : {X Y : Type 0} (v : X → Y) (es : Table X) (ks : List (List ℕ)) → ks ≡ keys_of es → ks ≡ keys_of (seen v es)
+names_shown v es ks is = is ∙ sym (names_seen v es)

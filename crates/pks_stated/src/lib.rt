@@ -3,5 +3,8 @@
 
 mod lists;
 mod literals;
+mod problems;
+mod schemas;
 mod sentences;
+mod tables;
 mod terms;

@@ -1,5 +1,5 @@
 //! Lists of what forms without a fault state.
-ghost use Rattle.std.specs.Prelude.{◌≡◌, ◌≤◌, map, length, IfOk};
+ghost use Rattle.std.specs.Prelude.{◌≡◌, ◌≤◌, map, length, IfOk, OnOk};
 ghost use Rattle.pks_terms.specs.Sets.{Each};
 ghost use Rattle.pks_terms.specs.Orders.{literal_cmp};
 ghost use Rattle.pks_terms.specs.Closure.{put_in, in_sequence};
@@ -97,24 +97,6 @@ pub fn aims(alloc: Global, scope: &Scope<'_, '_>, forms: &[Form<'_>]) -> Result<
     Ok(AimList::of(aims))
 }
 
-// The literals that forms state, in written order.
-#[tactic(auto, using(crate::proofs::Growing::pushed, crate::proofs::Growing::each_pushed, crate::proofs::Growing::to_the_end))]
-fn literals(
-    alloc: Global,
-    scope: &Scope<'_, '_>,
-    forms: &[Form<'_>],
-) -> Result<Vec<Literal>, AllocError>
-    requires { IsSmall (scope_view scope.now) }
-    ensures says { IfOk result (λ v. map literal_of v.items ≡ all (literal_in (scope_view scope.now)) (forms_view forms.now)) }
-    ensures counts { IfOk result (λ v. Each LiteralCounts v.items) }
-{
-    let mut literals = Vec::new(alloc);
-    for i in 0..forms.len() {
-        literals.push(literal(scope, &forms[i]))?;
-    }
-    Ok(literals)
-}
-
 // How many literals at the front are below `l`.
 fn place(literals: &[Literal], l: &Literal) -> usize
     ensures place { result ≡ count_below literal_cmp (literal_of l.now) (map literal_of literals.now) }
@@ -126,4 +108,84 @@ fn place(literals: &[Literal], l: &Literal) -> usize
         }
     }
     literals.len()
+}
+
+#[tactic(auto, using(crate::proofs::Ordering::put_in_place, crate::proofs::Ordering::each_put_in))]
+fn put_in(literals: &mut Vec<Literal>, l: Literal) -> Result<(), AllocError>
+    ensures says { OnOk result (map literal_of literals.new.items ≡ put_in (literal_of l) (map literal_of literals.old.items)) }
+    ensures counts { Each LiteralCounts literals.old.items → LiteralCounts l → OnOk result (Each LiteralCounts literals.new.items) }
+{
+    let at = place(literals.as_slice(), &l);
+    literals.insert(at, l)?;
+    Ok(())
+}
+
+// The literals that forms state, in order; equal ones stay as often as they come.
+fn in_sequence(
+    alloc: Global,
+    scope: &Scope<'_, '_>,
+    forms: &[Form<'_>],
+) -> Result<Vec<Literal>, AllocError>
+    requires { IsSmall (scope_view scope.now) }
+    ensures says { IfOk result (λ v. map literal_of v.items ≡ in_sequence (all (literal_in (scope_view scope.now)) (forms_view forms.now))) }
+    ensures counts { IfOk result (λ v. Each LiteralCounts v.items) }
+{
+    let mut literals = Vec::new(alloc);
+    for i in 0..forms.len() {
+        put_in(&mut literals, literal(scope, &forms[i]))?;
+    }
+    Ok(literals)
+}
+
+fn group(alloc: Global, scope: &Scope<'_, '_>, forms: &[Form<'_>]) -> Result<Group, AllocError>
+    requires { IsSmall (scope_view scope.now) }
+    ensures says { IfOk result (λ group. literals_in group ≡ in_sequence (all (literal_in (scope_view scope.now)) (forms_view forms.now))) }
+    ensures counts { IfOk result (λ group. Each LiteralCounts group) }
+{
+    let literals = in_sequence(alloc, scope, forms)?;
+    let group = Group::of(alloc, literals.as_slice())?;
+    Ok(group)
+}
+
+// What an initial item states.
+#[tactic(auto, unfolding(crate::specs::Stated::start_in))]
+fn start(alloc: Global, scope: &Scope<'_, '_>, form: &Form<'_>) -> Result<Init, AllocError>
+    requires { IsSmall (scope_view scope.now) }
+    ensures says { IfOk result (λ i. start_of i ≡ start_in (scope_view scope.now) (form_view form.now)) }
+    ensures counts { IfOk result (λ i. InitCounts i) }
+{
+    if is_headed("kf", form) {
+        Ok(Init::Kf(only_literal(scope, behind_head(form))))
+    } else if is_headed("kv", form) {
+        Ok(Init::Kv(only_term(scope, behind_head(form))))
+    } else if is_headed("lcw", form) {
+        Ok(Init::Lcw(only_pattern(scope, behind_head(form))))
+    } else if is_headed("kx", form) {
+        Ok(Init::Kx(group(alloc, scope, behind_head(form))?))
+    } else {
+        Ok(Init::Kw(conj(scope, behind_head(form))))
+    }
+}
+
+/// The initial items that forms state, and where each stands. The one error is want of memory.
+#[tactic(auto, using(crate::proofs::Growing::pushed, crate::proofs::Growing::each_pushed, crate::proofs::Growing::to_the_end))]
+pub fn starts(
+    alloc: Global,
+    scope: &Scope<'_, '_>,
+    forms: &[Form<'_>],
+) -> Result<InitList, AllocError>
+    requires { IsSmall (scope_view scope.now) }
+    ensures says { IfOk result (λ xs. map (λ i. start_of i.start) xs ≡ all (start_in (scope_view scope.now)) (forms_view forms.now)) }
+    ensures counts { IfOk result (λ xs. Each (λ i. InitCounts i.start) xs) }
+    ensures spans { IfOk result (λ xs. map (λ i. bytes_in i.span) xs ≡ all bytes_of (forms_view forms.now)) }
+{
+    let mut starts = Vec::new(alloc);
+    for i in 0..forms.len() {
+        let start = start(alloc, scope, &forms[i])?;
+        starts.push(InitItem {
+            start,
+            span: span_of(&forms[i]),
+        })?;
+    }
+    Ok(InitList::of(starts))
 }
