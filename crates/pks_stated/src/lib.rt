@@ -8,3 +8,5 @@ mod schemas;
 mod sentences;
 mod tables;
 mod terms;
+
+pub use problems::problem;

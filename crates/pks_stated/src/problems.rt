@@ -189,3 +189,36 @@ fn wanted<'s>(
     let goal = aims(alloc, &scope, section("goal", parts))?;
     Ok(goal)
 }
+
+/// The problem of this version that the parts of a domain, which declares these names, and a problem state, as
+/// `docs/FORMAT.md` says. It asks for a file without a fault. The one error is want of memory.
+#[tactic(auto, using(crate::proofs::Whole::problem_says), unfolding(crate::specs::Stated::named_by))]
+pub fn problem<'s>(
+    alloc: Global,
+    version: u8,
+    declared: &Declared<'s>,
+    domain: &[Form<'s>],
+    form: &Form<'s>,
+) -> Result<Problem<'s>, Memory>
+    requires { IsSmall (declared_view declared.now) }
+    ensures says { IfOk result (λ p. problem_of p ≡ problem_by version (declared_view declared.now) (forms_view domain.now) (behind_head (form_view form.now))) }
+    ensures named { IfOk result (λ p. named_of p ≡ named_by (declared_view declared.now) (forms_view domain.now) (form_view form.now)) }
+    ensures counts { IfOk result (λ p. SignatureCounts p.signature → ProblemCounts p) }
+    ensures places { IfOk result (λ p. Each (λ x. Each (λ e. AssignsToPlace e.target) x.effects) p.schemas) }
+{
+    let signature = signature(alloc, declared)?;
+    let actions = all_actions(alloc, declared, actions_among(domain))?;
+    let names = declared_names(alloc, declared, actions.params)?;
+    let init = known(alloc, declared, behind_head(form))?;
+    let goal = wanted(alloc, declared, behind_head(form))?;
+    Ok(Problem {
+        version,
+        signature,
+        names,
+        schemas: actions.schemas,
+        init,
+        init_span: section_span("init", behind_head(form)),
+        problem_span: span_of(form),
+        goal,
+    })
+}
