@@ -7,7 +7,7 @@ mod domain;
 mod functions;
 mod sections;
 
-pub use actions::actions_among;
+pub use actions::{actions_among, parameters};
 pub use declaring::{Memory, first_in, name_of, second_in};
 pub use domain::{Domain, declarations, meaning};
 

@@ -1,2 +1,6 @@
+pub mod Few
 pub mod FirstForms
+pub mod Growing
+pub mod Ordering
 pub mod Seen
+pub mod Whole

@@ -196,18 +196,20 @@ abbrev pub cost_in : Forms → ℕ
 cost_in no_forms = 1
 cost_in (form f fs) = numeral 0 (take 4 (text_of f))
 
+-- an action, by its parts, where its parameters are declared
+unfoldable pub stated_in : Scope → Forms → Schema
+stated_in s fs = record {
+  cost = cost_in (section (codes "cost") fs);
+  parameters = entries_of s.parameters;
+  pre = all (query_in s) (section (codes "pre") fs);
+  effects = all (effect_in s) (section (codes "effects") fs);
+  senses = all (sense_in s) (section (codes "senses") fs);
+  adds = all (add_in s) (section (codes "knows") fs);
+}
+
 -- an action, by its parts
-unfoldable pub schema_in : Scope → Forms → Schema
-schema_in s fs =
-    let inner = within s fs in
-    record {
-      cost = cost_in (section (codes "cost") fs);
-      parameters = entries_of inner.parameters;
-      pre = all (query_in inner) (section (codes "pre") fs);
-      effects = all (effect_in inner) (section (codes "effects") fs);
-      senses = all (sense_in inner) (section (codes "senses") fs);
-      adds = all (add_in inner) (section (codes "knows") fs);
-    }
+abbrev pub schema_in : Scope → Forms → Schema
+schema_in s fs = stated_in (within s fs) fs
 
 -- an initial item; the literals of a group stand in order
 unfoldable pub start_in : Scope → Form → Start
@@ -228,17 +230,19 @@ aim_in s f =
     else (if is_headed (codes "always") f then Always (only_query s (behind_head f))
     else (if is_headed (codes "once") f then Once (only_query s (behind_head f)) else Now (record { asks = plain_in s f; denied = false })))
 
+-- a problem of this version, by what is declared and the parts of its domain and its problem
+unfoldable pub problem_by : ℕ → Scope → Forms → Forms → Problem
+problem_by version s domain problem = record {
+  version = version;
+  signature = signature_in s;
+  schemas = all (λ f. schema_in s (behind_head f)) (actions_among domain);
+  init = all (start_in s) (section (codes "init") problem);
+  goal = all (aim_in s) (section (codes "goal") problem);
+}
+
 -- the problem of a file of this version, by the parts of its domain and its problem
-unfoldable pub problem_in : ℕ → Forms → Forms → Problem
-problem_in version domain problem =
-    let s = scope_of version domain in
-    record {
-      version = version;
-      signature = signature_in s;
-      schemas = all (λ f. schema_in s (behind_head f)) (actions_among domain);
-      init = all (start_in s) (section (codes "init") problem);
-      goal = all (aim_in s) (section (codes "goal") problem);
-    }
+abbrev pub problem_in : ℕ → Forms → Forms → Problem
+problem_in version domain problem = problem_by version (scope_of version domain) domain problem
 
 -- ---- names and places, which the problem doesn't have
 
@@ -269,19 +273,33 @@ pub record Named : Type 0 where
   pub init : Bytes
   pub problem : Bytes
 
--- those of a domain and of a problem
-unfoldable pub named_in : ℕ → Forms → Form → Named
-named_in version domain problem =
-    let s = scope_of version domain in
-    record {
-      types = keys_of s.types;
-      objects = keys_of s.objects;
-      predicates = keys_of s.predicates;
-      functions = keys_of s.functions;
-      actions = all (λ f. text_of (second_in f)) (actions_among domain);
-      parameters = all (λ f. keys_of (within s (behind_head f)).parameters) (actions_among domain);
-      adds = all (λ f. all bytes_of (section (codes "knows") (behind_head f))) (actions_among domain);
-      items = all bytes_of (section (codes "init") (behind_head problem));
-      init = section_bytes (codes "init") (behind_head problem);
-      problem = bytes_of problem;
-    }
+-- the name of an action
+abbrev pub action_name : Form → List ℕ
+action_name f = text_of (second_in f)
+
+-- the names of its parameters
+abbrev pub parameter_names : Scope → Form → List (List ℕ)
+parameter_names s f = keys_of (within s (behind_head f)).parameters
+
+-- the places of its adds
+abbrev pub add_places : Form → List Bytes
+add_places f = all bytes_of (section (codes "knows") (behind_head f))
+
+-- those of a domain and of a problem, by what is declared
+unfoldable pub named_by : Scope → Forms → Form → Named
+named_by s domain problem = record {
+  types = keys_of s.types;
+  objects = keys_of s.objects;
+  predicates = keys_of s.predicates;
+  functions = keys_of s.functions;
+  actions = all action_name (actions_among domain);
+  parameters = all (parameter_names s) (actions_among domain);
+  adds = all add_places (actions_among domain);
+  items = all bytes_of (section (codes "init") (behind_head problem));
+  init = section_bytes (codes "init") (behind_head problem);
+  problem = bytes_of problem;
+}
+
+-- those of a file of this version
+abbrev pub named_in : ℕ → Forms → Form → Named
+named_in version domain problem = named_by (scope_of version domain) domain problem
