@@ -1,0 +1,193 @@
+//! What a domain declares, and the first fault of meaning of a file.
+ghost use Rattle.std.specs.Prelude.{◌≡◌, ℕ, ◌≤◌, [], length, IfOk, option_map, codes};
+ghost use Rattle.pks_terms.specs.Views.{shape_of};
+ghost use Rattle.pks_text.specs.FormViews.{forms_view};
+ghost use Rattle.pks_grammar.specs.Files.{or_else};
+ghost use Rattle.pks_grammar.specs.FaultViews.{fault_view};
+ghost use Rattle.pks_meaning.specs.Parts.{section};
+ghost use Rattle.pks_meaning.specs.Sentences.{problem_faults};
+ghost use Rattle.pks_meaning.specs.Declarations.{types_in, types_section, objects_from, objects_faults, most_objects, predicates_in, predicates_section, functions_in, functions_section, actions_section};
+ghost use Rattle.pks_meaning.specs.Meaning.{least, scope_of};
+ghost use Rattle.pks_meaning.specs.Views.{names_of, seen, scope_view};
+ghost use Rattle.pks_domain.specs.FirstFault.{declarations_fault, meaning_fault};
+ghost use Rattle.pks_domain.specs.Views.{declared_view};
+
+use crate::actions::actions;
+use crate::declaring::{Memory, Types};
+use crate::functions::functions;
+use crate::sections::{objects, predicates, types};
+use indexmap::IndexMap;
+use pks_grammar::report::Fault;
+use pks_meaning::parts::section;
+use pks_meaning::report::Report;
+use pks_meaning::scope::{Declared, Scope};
+use pks_meaning::sentences::problem;
+use pks_terms::problem::Shape;
+use pks_text::Form;
+use std::alloc::Global;
+
+/// What a domain declares, and the first fault of its declarations or of the whole file.
+#[derive(Drop)]
+pub struct Domain<'s> {
+    pub declared: Declared<'s>,
+    pub fault: Option<Fault>,
+}
+
+fn or_else(first: Option<Fault>, later: Option<Fault>) -> Option<Fault>
+    ensures { option_map fault_view result ≡ or_else (option_map fault_view first) (option_map fault_view later) }
+{
+    match first {
+        None => later,
+        Some(fault) => Some(fault),
+    }
+}
+
+#[tactic(auto, using(crate::proofs::Steps::types_few))]
+fn first_types<'s>(alloc: Global, forms: &[Form<'s>]) -> Result<(Types<'s>, Option<Fault>), Memory>
+    ensures table { IfOk result (λ r. names_of r.0 ≡ types_in (forms_view forms.now)) }
+    ensures few { IfOk result (λ r. length (names_of r.0) ≤ 16) }
+    ensures fault { IfOk result (λ r. option_map fault_view r.1 ≡ least (types_section (forms_view forms.now))) }
+{
+    let mut report = Report::new();
+    let table = types(alloc, &mut report, forms)?;
+    Ok((table, report.least))
+}
+
+fn first_objects<'s>(
+    alloc: Global,
+    types: &Types<'s>,
+    n: usize,
+    forms: &[Form<'s>],
+) -> Result<(IndexMap<&'s str, u8>, Option<Fault>), Memory>
+    requires { length (names_of types.now) ≤ 16 }
+    ensures table { IfOk result (λ r. names_of r.0 ≡ objects_from (names_of types.now) n [] (forms_view forms.now)) }
+    ensures fault { IfOk result (λ r. option_map fault_view r.1 ≡ least (objects_faults (names_of types.now) n [] (forms_view forms.now))) }
+{
+    let mut report = Report::new();
+    let table = objects(alloc, &mut report, types, n, forms)?;
+    Ok((table, report.least))
+}
+
+fn first_predicates<'s>(
+    alloc: Global,
+    types: &Types<'s>,
+    forms: &[Form<'s>],
+) -> Result<(IndexMap<&'s str, Shape>, Option<Fault>), Memory>
+    requires { length (names_of types.now) ≤ 16 }
+    ensures table { IfOk result (λ r. seen shape_of (names_of r.0) ≡ predicates_in (names_of types.now) (forms_view forms.now)) }
+    ensures fault { IfOk result (λ r. option_map fault_view r.1 ≡ least (predicates_section (names_of types.now) (forms_view forms.now))) }
+{
+    let mut report = Report::new();
+    let table = predicates(alloc, &mut report, types, forms)?;
+    Ok((table, report.least))
+}
+
+fn first_functions<'s>(
+    alloc: Global,
+    declared: &Declared<'s>,
+    forms: &[Form<'s>],
+) -> Result<(IndexMap<&'s str, Shape>, Option<Fault>), Memory>
+    requires { length (names_of declared.now.types) ≤ 16 }
+    ensures table { IfOk result (λ r. seen shape_of (names_of r.0) ≡ functions_in (names_of declared.now.types) (forms_view forms.now)) }
+    ensures fault { IfOk result (λ r. option_map fault_view r.1 ≡ least (functions_section (declared_view declared.now) (forms_view forms.now))) }
+{
+    let mut report = Report::new();
+    let none = IndexMap::new(alloc);
+    let scope = Scope {
+        declared,
+        parameters: &none,
+    };
+    let table = functions(alloc, &mut report, &scope, forms)?;
+    Ok((table, report.least))
+}
+
+fn most_objects(version: u8) -> usize
+    ensures { result ≡ most_objects version }
+{
+    if version == 1 { 64 } else { 256 }
+}
+
+/// What a domain of this version declares, and the first fault of its declarations. `domain` has its parts behind the
+/// head. Memory may be wanting.
+#[tactic(auto, unfolding(crate::specs::FirstFault::declarations_fault, pks_meaning::specs::Meaning::scope_of, pks_meaning::specs::Declarations::objects_section))]
+pub fn declarations<'s>(alloc: Global, version: u8, domain: &[Form<'s>]) -> Result<Domain<'s>, Memory>
+    ensures declared { IfOk result (λ d. declared_view d.declared ≡ scope_of version (forms_view domain.now)) }
+    ensures fault { IfOk result (λ d. option_map fault_view d.fault ≡ declarations_fault version (forms_view domain.now)) }
+    ensures few { IfOk result (λ d. length (names_of d.declared.types) ≤ 16) }
+{
+    let (types, first) = first_types(alloc, section("types", domain))?;
+    let (objects, second) = first_objects(alloc, &types, most_objects(version), section("objects", domain))?;
+    let (predicates, third) = first_predicates(alloc, &types, section("predicates", domain))?;
+    let before = Declared {
+        types,
+        objects,
+        predicates,
+        functions: IndexMap::new(alloc),
+    };
+    let (functions, fourth) = first_functions(alloc, &before, section("functions", domain))?;
+    let declared = Declared {
+        types: before.types,
+        objects: before.objects,
+        predicates: before.predicates,
+        functions,
+    };
+    let fault = or_else(first, or_else(second, or_else(third, fourth)));
+    Ok(Domain { declared, fault })
+}
+
+fn first_action<'s>(alloc: Global, scope: &Scope<'_, 's>, domain: &[Form<'s>]) -> Result<Option<Fault>, Memory>
+    requires { length (scope_view scope.now).types ≤ 16 }
+    ensures { IfOk result (λ f. option_map fault_view f ≡ least (actions_section (scope_view scope.now) (forms_view domain.now))) }
+{
+    let mut report = Report::new();
+    let _names = actions(alloc, &mut report, scope, domain)?;
+    Ok(report.least)
+}
+
+fn first_problem<'s>(scope: &Scope<'_, 's>, forms: &[Form<'s>]) -> Option<Fault>
+    ensures { option_map fault_view result ≡ least (problem_faults (scope_view scope.now) (forms_view forms.now)) }
+{
+    let mut report = Report::new();
+    problem(&mut report, scope, forms);
+    report.least
+}
+
+// The first fault behind the declarations.
+fn later_fault<'s>(
+    alloc: Global,
+    declared: &Declared<'s>,
+    domain: &[Form<'s>],
+    forms: &[Form<'s>],
+) -> Result<Option<Fault>, Memory>
+    requires { length (names_of declared.now.types) ≤ 16 }
+    ensures { IfOk result (λ f. option_map fault_view f ≡ or_else (least (actions_section (declared_view declared.now) (forms_view domain.now))) (least (problem_faults (declared_view declared.now) (forms_view forms.now)))) }
+{
+    let none = IndexMap::new(alloc);
+    let scope = Scope {
+        declared,
+        parameters: &none,
+    };
+    let first = first_action(alloc, &scope, domain)?;
+    Ok(or_else(first, first_problem(&scope, forms)))
+}
+
+/// What the domain of a file of this version declares, and the first fault of meaning of the file (200 to 211, as
+/// `docs/FORMAT.md` says). `domain` and `problem` have the parts behind their heads. Memory may be wanting.
+#[tactic(auto, unfolding(crate::specs::FirstFault::meaning_fault))]
+pub fn meaning<'s>(
+    alloc: Global,
+    version: u8,
+    domain: &[Form<'s>],
+    problem: &[Form<'s>],
+) -> Result<Domain<'s>, Memory>
+    ensures declared { IfOk result (λ d. declared_view d.declared ≡ scope_of version (forms_view domain.now)) }
+    ensures fault { IfOk result (λ d. option_map fault_view d.fault ≡ meaning_fault version (forms_view domain.now) (forms_view problem.now)) }
+{
+    let read = declarations(alloc, version, domain)?;
+    let later = later_fault(alloc, &read.declared, domain, problem)?;
+    let fault = or_else(read.fault, later);
+    Ok(Domain {
+        declared: read.declared,
+        fault,
+    })
+}

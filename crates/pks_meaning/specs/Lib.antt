@@ -1,0 +1,10 @@
+pub mod Declarations
+pub mod Heights
+pub mod Leasts
+pub mod Meaning
+pub mod Parts
+pub mod Scopes
+pub mod Sentences
+pub mod Tables
+pub mod Terms
+pub mod Views

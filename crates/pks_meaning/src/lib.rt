@@ -1,0 +1,10 @@
+//! The faults of meaning of terms, literals, queries, effects, senses, adds, initial items and aims, where names are
+//! declared (`docs/FORMAT.md`).
+#![tactic(auto)]
+
+pub mod parts;
+pub mod report;
+mod same;
+pub mod scope;
+pub mod sentences;
+mod terms;

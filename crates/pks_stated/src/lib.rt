@@ -1,0 +1,2 @@
+//! The problem that a file without a fault states.
+#![tactic(auto)]
