@@ -1,0 +1,159 @@
+-- Terms without a fault are terms of the signature.
+use Rattle.std.proofs.Common.{◌≡◌, ◌⊎◌, inl, inr, ℕ, zero, suc, ◌+◌, ◌==◌, ◌≤◌, ◌<◌, nat_lt, max, Bool, true, false, ◌||◌, ◌&&◌, cond, List, [], ◌∷◌, ◌++◌, length, Option, Some, None, option_map, refl, sym, ap, ◌∙◌, subst, bytes_eq, arith, slice_get}
+use Rattle.std.specs.Prelude.{codes}
+use Rattle.std.specs.Option.{option_map_or}
+use Rattle.std.proofs.lemmas.Option.{none-some, same_Some}
+use Rattle.std.proofs.lemmas.Bool.{true≢false, false≢true, and_from, eqb-true, or_parts}
+use Rattle.std.proofs.lemmas.Slice.Eq.{bytes_eq-Decides}
+use Rattle.std.proofs.lemmas.Bool.Decides.{nat_tests}
+use Rattle.pks_terms.specs.Sets.{Each}
+use Rattle.pks_terms.specs.Syntax.{Object, Parameter, Apply, Inner, Term}
+use Rattle.pks_terms.specs.Syntax as syntax
+use Rattle.pks_terms.specs.Signatures.{Shape, Signature, fits_type, object_is_of}
+use Rattle.pks_terms.specs.Signatures as signatures
+use Rattle.pks_terms.specs.Valid.{all_fit, form_fits, inner_fits, term_fits, type_in, is_term}
+use Rattle.pks_terms.proofs.Types.{fits_itself}
+use Rattle.pks_text.specs.Forms.{Form, Word, Listing, Forms, no_forms, form, place_of}
+use Rattle.pks_grammar.specs.declared.grammar.Version.{Version}
+use Rattle.pks_grammar.specs.declared.grammar.Sort.{Sort}
+use Rattle.pks_grammar.specs.declared.grammar.Sort.TheVariants as sort
+use Rattle.pks_grammar.specs.declared.grammar.Part.TheVariants.{One, Maybe, Many}
+use Rattle.pks_grammar.specs.Words.{is_name, is_variable, is_wild}
+use Rattle.pks_grammar.specs.Grammar.{lists, is_allowed}
+use Rattle.pks_grammar.specs.Walk.{head_of, count}
+use Rattle.pks_grammar.specs.Files.{Fault}
+use Rattle.pks_grammar.specs.Language.{IsOf, Matches}
+use Rattle.pks_meaning.specs.Tables.{Table, number_of, entry_of, entries_of, too_long, unknown}
+use Rattle.pks_meaning.specs.Scopes.{Scope, signature_in, fits, name_in, type_of}
+use Rattle.pks_meaning.specs.Parts.{text_of, behind}
+use Rattle.pks_meaning.specs.Terms.{mistyped, height, highest, too_high, miscounted, wanted_by, first_wanted, rest_wanted, applied_faults, word_faults, term_faults, arguments_faults, terms_faults}
+use Rattle.pks_stated.specs.Stated.{first, or_zero, object_in, word_in, place_in, inner_in, term_in}
+use Rattle.pks_accepted.specs.Facts.{EachForm, HasShapes}
+use Rattle.pks_accepted.proofs.Shapes.{IsWord, name_is, one_first, one_missing, each_of, of_sort}
+use Rattle.pks_accepted.proofs.Numbers.{nil_parts, unless, when, known, numbered, each_got, each_forms}
+
+-- ---- forms
+
+-- a name with forms of a sort behind it
+abbrev pub IsApplied : Version → Sort → Forms → Type 0
+IsApplied v s no_forms = ⊥
+IsApplied v s (form head args) = IsWord is_name head × EachForm (IsOf v s) args
+
+pub applied_is : (v : Version) (s : Sort) (parts : Forms) → Matches v (One sort.Name ∷ Many s ∷ []) parts → IsApplied v s parts
+applied_is v s no_forms m = absurd (one_missing m)
+applied_is v s (form head args) m = let both = one_first m in (name_is v head both.0, each_of v s args both.1)
+
+-- a word that is a name or a variable, or a name with terms behind it
+abbrev pub IsTermForm : Version → Form → Type 0
+IsTermForm v (Word text at) = is_wild text ≡ false
+IsTermForm v (Listing parts at end) = IsApplied v sort.Term parts
+
+not_wild : (text : List ℕ) → (is_name text || is_variable text) ≡ true → is_wild text ≡ false
+not_wild text allowed = by_test (is_wild text) (λ e. (bytes_eq-Decides text (codes "_")).0 e)
+  where
+    by_test : (b : Bool) → (b ≡ true → text ≡ codes "_") → b ≡ false
+    by_test false e = refl
+    by_test true e = absurd (true≢false (sym allowed ∙ ap (λ (w : List ℕ). is_name w || is_variable w) (e refl)))
+
+pub term_form : (v : Version) (f : Form) → IsOf v sort.Term f → IsTermForm v f
+unfolding lists is_allowed
+term_form v = of_sort v (IsTermForm v) sort.Term (λ text at allowed. not_wild text allowed) tt (λ parts at end free m. applied_is v sort.Term parts m)
+
+-- ---- heights
+
+heights : (n : ℕ) (fs : Forms) → nat_lt n (highest fs) ≡ false → EachForm (λ f. nat_lt n (height f) ≡ false) fs
+heights n no_forms e = tt
+heights n (form f fs) e = (left n (height f) (highest fs) e, heights n fs (right n (height f) (highest fs) e))
+  where
+    left : (n a b : ℕ) → nat_lt n (max a b) ≡ false → nat_lt n a ≡ false
+    left n a b e = grind (arith, nat_tests)
+
+    right : (n a b : ℕ) → nat_lt n (max a b) ≡ false → nat_lt n b ≡ false
+    right n a b e = grind (arith, nat_tests)
+
+lower : (n h : ℕ) → nat_lt (suc n) (h + 1) ≡ false → nat_lt n h ≡ false
+lower n h e = grind (arith, nat_tests)
+
+never_lowest : (h : ℕ) → nat_lt 0 (h + 1) ≡ false → ⊥
+never_lowest h e = grind (arith, nat_tests)
+
+-- ---- words
+
+module _ (s : Scope) where
+  -- the types of the parameters
+  abbrev pub own_types : List ℕ
+  own_types = entries_of s.parameters
+
+  -- a parameter with its number and type
+  record IsParameter (text : List ℕ) (i own : ℕ) : Type 0 where
+    test : is_variable text ≡ true
+    entry : entry_of s.parameters (name_in text) ≡ Some own
+    number : number_of s.parameters (name_in text) ≡ Some i
+    typed : slice_get own_types i ≡ Some own
+
+  -- an object with its number and type
+  record IsObject (text : List ℕ) (d own : ℕ) : Type 0 where
+    test : is_variable text ≡ false
+    entry : entry_of s.objects text ≡ Some own
+    number : number_of s.objects text ≡ Some d
+    typed : slice_get (entries_of s.objects) d ≡ Some own
+
+  word_cases : (text : List ℕ) (at : ℕ) → is_wild text ≡ false → word_faults s text at ≡ [] → ((i : ℕ) × (own : ℕ) × IsParameter text i own) ⊎ ((d : ℕ) × (own : ℕ) × IsObject text d own)
+  word_cases text at tame e =
+      let plain : cond (is_variable text) (too_long (name_in text) at ++ unknown at 204 (entry_of s.parameters (name_in text))) (too_long text at ++ unknown at 203 (entry_of s.objects text)) ≡ [] =
+          sym (ap (λ (b : Bool). cond b [] (cond (is_variable text) (too_long (name_in text) at ++ unknown at 204 (entry_of s.parameters (name_in text))) (too_long text at ++ unknown at 203 (entry_of s.objects text)))) tame) ∙ e in
+      by_test (is_variable text) refl plain
+    where
+      by_test : (b : Bool) → is_variable text ≡ b → ◌≡◌ {A = List Fault} (cond b (too_long (name_in text) at ++ unknown at 204 (entry_of s.parameters (name_in text))) (too_long text at ++ unknown at 203 (entry_of s.objects text))) []
+          → ((i : ℕ) × (own : ℕ) × IsParameter text i own) ⊎ ((d : ℕ) × (own : ℕ) × IsObject text d own)
+      by_test true same h =
+          let r = known at 204 (entry_of s.parameters (name_in text)) (nil_parts (too_long (name_in text) at) (unknown at 204 (entry_of s.parameters (name_in text))) h).1 in
+          let n = numbered s.parameters (name_in text) r.0 r.1 in
+          inl (n.0, r.0, record { test = same; entry = r.1; number = n.1; typed = n.2 })
+      by_test false same h =
+          let r = known at 203 (entry_of s.objects text) (nil_parts (too_long text at) (unknown at 203 (entry_of s.objects text)) h).1 in
+          let n = numbered s.objects text r.0 r.1 in
+          inr (n.0, r.0, record { test = same; entry = r.1; number = n.1; typed = n.2 })
+
+  -- ---- what a term without a fault is
+
+  -- the type of a term as the text has it
+  abbrev pub typed_in : {A : Type 0} → syntax.Form A → Option ℕ
+  typed_in (Parameter i) = slice_get own_types i
+  typed_in (Object d) = slice_get (entries_of s.objects) d
+  typed_in (Apply f ts) = option_map (λ x. x.result) (slice_get (entries_of s.functions) f)
+
+  -- it has the type that the form has, and may stand where this fits
+  pub record Stands {A : Type 0} (fitting : ℕ → A → Bool) (f : Form) (t : syntax.Form A) : Type 0 where
+    pub own : ℕ
+    pub found : type_of s f ≡ Some own
+    pub typed : typed_in t ≡ Some own
+    pub stands : (wanted : ℕ) → fits s own wanted ≡ true → form_fits fitting (signature_in s) own_types wanted t ≡ true
+
+  mistyped_fits : (own wanted : ℕ) (f : Form) → type_of s f ≡ Some own → mistyped s (Some wanted) f ≡ [] → fits s own wanted ≡ true
+  mistyped_fits own wanted f found e =
+      unless (place_of f, 206) (fits s own wanted) (sym (ap (λ (o : Option ℕ). elim o as (λ _. List Fault) [ None ↦ [] | Some a ↦ cond (fits s a wanted) [] ((place_of f, 206) ∷ []) ]) found) ∙ e)
+
+  pub stands_wanted : {A : Type 0} (fitting : ℕ → A → Bool) (f : Form) (t : syntax.Form A) → Stands fitting f t → (wanted : ℕ) → mistyped s (Some wanted) f ≡ [] → form_fits fitting (signature_in s) own_types wanted t ≡ true
+  stands_wanted fitting f t st wanted e = st.stands wanted (mistyped_fits st.own wanted f st.found e)
+
+  word_stands : {A : Type 0} (fitting : ℕ → A → Bool) (text : List ℕ) (at : ℕ) → is_wild text ≡ false → word_faults s text at ≡ [] → Stands fitting (Word text at) (word_in s text)
+  unfolding object_is_of
+  word_stands {A} fitting text at tame e = elim (word_cases text at tame e) [
+    | inl r ↦ let is = r.2 in
+      let same : ◌≡◌ {A = syntax.Form A} (word_in s text) (Parameter r.0) = ap (λ (b : Bool). cond b (Parameter (or_zero (number_of s.parameters (name_in text)))) (Object (or_zero (number_of s.objects text)))) is.test ∙ ap (λ (o : Option ℕ). Parameter (or_zero o)) is.number in
+      subst (λ (t : syntax.Form A). Stands fitting (Word text at) t) (sym same) (record {
+        own = r.1;
+        found = ap (λ (b : Bool). cond b (entry_of s.parameters (name_in text)) (entry_of s.objects text)) is.test ∙ is.entry;
+        typed = is.typed;
+        stands = λ wanted h. ap (λ (o : Option ℕ). option_map_or (λ own. fits_type (signature_in s) own wanted) o false) is.typed ∙ h;
+      })
+    | inr r ↦ let is = r.2 in
+      let same : ◌≡◌ {A = syntax.Form A} (word_in s text) (Object r.0) = ap (λ (b : Bool). cond b (Parameter (or_zero (number_of s.parameters (name_in text)))) (Object (or_zero (number_of s.objects text)))) is.test ∙ ap (λ (o : Option ℕ). Object (or_zero o)) is.number in
+      subst (λ (t : syntax.Form A). Stands fitting (Word text at) t) (sym same) (record {
+        own = r.1;
+        found = ap (λ (b : Bool). cond b (entry_of s.parameters (name_in text)) (entry_of s.objects text)) is.test ∙ is.entry;
+        typed = is.typed;
+        stands = λ wanted h. ap (λ (o : Option ℕ). option_map_or (λ own. fits_type (signature_in s) own wanted) o false) is.typed ∙ h;
+      })
+  ]
