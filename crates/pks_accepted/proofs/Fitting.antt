@@ -157,3 +157,132 @@ module _ (s : Scope) where
         stands = λ wanted h. ap (λ (o : Option ℕ). option_map_or (λ own. fits_type (signature_in s) own wanted) o false) is.typed ∙ h;
       })
   ]
+
+  -- ---- arguments
+
+  -- an argument without a fault may stand wherever its type fits
+  abbrev pub Reads : {A : Type 0} → (ℕ → A → Bool) → (Form → A) → Form → Type 0
+  Reads fitting read f = term_faults s f ≡ [] → (wanted : ℕ) → mistyped s (Some wanted) f ≡ [] → fitting wanted (read f) ≡ true
+
+  arguments_fit : {A : Type 0} (fitting : ℕ → A → Bool) (read : Form → A) (n : ℕ) (wanted : List ℕ) (args : Forms)
+      → length wanted ≡ count args → length wanted ≤ n → EachForm (Reads fitting read) args → terms_faults s wanted args ≡ [] → all_fit fitting wanted (first n read args) ≡ true
+  arguments_fit fitting read zero [] no_forms same few reads e = refl
+  arguments_fit fitting read (suc n) [] no_forms same few reads e = refl
+  arguments_fit fitting read n [] (form f fs) same few reads e = absurd (omega (arith, same))
+  arguments_fit fitting read n (w ∷ ws) no_forms same few reads e = absurd (omega (arith, same))
+  arguments_fit fitting read zero (w ∷ ws) (form f fs) same few reads e = absurd (omega (arith, few))
+  arguments_fit fitting read (suc n) (w ∷ ws) (form f fs) same few reads e =
+      let both = nil_parts (mistyped s (Some w) f ++ term_faults s f) (terms_faults s ws fs) e in
+      let own = nil_parts (mistyped s (Some w) f) (term_faults s f) both.0 in
+      and_from (fitting w (read f)) (all_fit fitting ws (first n read fs)) (reads.0 own.1 w own.0) (arguments_fit fitting read n ws fs (omega (arith, same)) (omega (arith, few)) reads.1 both.1)
+
+  -- a declared name at arguments that fit
+  pub record AppliesTo {A : Type 0} (fitting : ℕ → A → Bool) (table : Table Shape) (n : ℕ) (read : Form → A) (head : List ℕ) (args : Forms) : Type 0 where
+    pub shape : Shape
+    pub entry : entry_of table head ≡ Some shape
+    pub declared : slice_get (entries_of table) (or_zero (number_of table head)) ≡ Some shape
+    pub fitted : all_fit fitting shape.arguments (first n read args) ≡ true
+
+  pub applies : {A : Type 0} (fitting : ℕ → A → Bool) (table : Table Shape) (n : ℕ) (read : Form → A) (head : List ℕ) (a at : ℕ) (args : Forms)
+      → Each (λ (x : Shape). length x.arguments ≤ n) (entries_of table) → EachForm (Reads fitting read) args
+      → applied_faults (entry_of table head) (form (Word head a) args) at ≡ [] → terms_faults s (wanted_by (entry_of table head)) args ≡ [] → AppliesTo fitting table n read head args
+  applies fitting table n read head a at args few reads e faultless =
+      let both = nil_parts (too_long head a) (unknown a 203 (entry_of table head) ++ miscounted (entry_of table head) args at) e in
+      let rest = nil_parts (unknown a 203 (entry_of table head)) (miscounted (entry_of table head) args at) both.1 in
+      let r = known a 203 (entry_of table head) rest.0 in
+      let m = numbered table head r.0 r.1 in
+      let x : Shape = r.0 in
+      let counted : (length x.arguments == count args) ≡ true = unless (at, 205) (length x.arguments == count args) (sym (ap (λ (o : Option Shape). miscounted o args at) r.1) ∙ rest.1) in
+      record {
+        shape = x;
+        entry = r.1;
+        declared = ap (λ (o : Option ℕ). slice_get (entries_of table) (or_zero o)) m.1 ∙ m.2;
+        fitted = arguments_fit fitting read n x.arguments args (eqb-true (length x.arguments) (count args) counted) (each_got (λ (y : Shape). length y.arguments ≤ n) (entries_of table) m.0 x few m.2) reads
+            (sym (ap (λ (o : Option Shape). terms_faults s (wanted_by o) args) r.1) ∙ faultless);
+      }
+
+  -- ---- applications
+
+  module _ (shapes : HasShapes s) where
+    place_stands : {A : Type 0} (fitting : ℕ → A → Bool) (read : Form → A) (head : List ℕ) (a at end : ℕ) (args : Forms)
+        → EachForm (Reads fitting read) args → term_faults s (Listing (form (Word head a) args) at end) ≡ [] → Stands fitting (Listing (form (Word head a) args) at end) (place_in s read (form (Word head a) args))
+    place_stands fitting read head a at end args reads e =
+        let shape = entry_of s.functions head in
+        let both = nil_parts (too_high (Listing (form (Word head a) args) at end) ++ applied_faults shape (form (Word head a) args) at) (terms_faults s (wanted_by shape) args) e in
+        let own = nil_parts (too_high (Listing (form (Word head a) args) at end)) (applied_faults shape (form (Word head a) args) at) both.0 in
+        let is = applies fitting s.functions 2 read head a at args shapes.functions reads own.1 both.1 in
+        record {
+          own = is.shape.result;
+          found = ap (option_map (λ (x : Shape). x.result)) is.entry;
+          typed = ap (option_map (λ (x : Shape). x.result)) is.declared;
+          stands = λ wanted h. ap (λ (o : Option Shape). option_map_or (λ x. all_fit fitting x.arguments (first 2 read args) && fits_type (signature_in s) x.result wanted) o false) is.declared
+              ∙ and_from (all_fit fitting is.shape.arguments (first 2 read args)) (fits_type (signature_in s) is.shape.result wanted) is.fitted h;
+        }
+
+    height_of : (head : List ℕ) (a at end : ℕ) (args : Forms) (n : ℕ) → nat_lt (suc n) (height (Listing (form (Word head a) args) at end)) ≡ false → EachForm (λ f. nat_lt n (height f) ≡ false) args
+    height_of head a at end args n e = (heights n (form (Word head a) args) (lower n (highest (form (Word head a) args)) e)).1
+
+    -- an argument of an argument
+    object_reads : (v : Version) (f : Form) → IsOf v sort.Term f → nat_lt 0 (height f) ≡ false → Reads (object_is_of (signature_in s)) (object_in s) f
+    unfolding object_is_of
+    object_reads v (Word text at) is low e wanted m = by_case (word_cases text at (term_form v (Word text at) is) e)
+      where
+        by_case : ((i : ℕ) × (own : ℕ) × IsParameter text i own) ⊎ ((d : ℕ) × (own : ℕ) × IsObject text d own) → object_is_of (signature_in s) wanted (object_in s (Word text at)) ≡ true
+        by_case (inl r) = absurd (true≢false (sym (ap (λ (b : Bool). nat_lt 0 (cond b 1 0)) r.2.test) ∙ low))
+        by_case (inr r) =
+            let found : type_of s (Word text at) ≡ Some r.1 = ap (λ (b : Bool). cond b (entry_of s.parameters (name_in text)) (entry_of s.objects text)) r.2.test ∙ r.2.entry in
+            ap (λ (o : Option ℕ). object_is_of (signature_in s) wanted (or_zero o)) r.2.number
+            ∙ ap (λ (o : Option ℕ). option_map_or (λ own. fits_type (signature_in s) own wanted) o false) r.2.typed
+            ∙ mistyped_fits r.1 wanted (Word text at) found m
+    object_reads v (Listing parts at end) is low e wanted m = absurd (never_lowest (highest parts) low)
+
+    -- an argument
+    pub inner_stands : (v : Version) (f : Form) → IsOf v sort.Term f → nat_lt 1 (height f) ≡ false → term_faults s f ≡ [] → Stands (object_is_of (signature_in s)) f (inner_in s f)
+    unfolding inner_in
+    inner_stands v (Word text at) is low e = word_stands (object_is_of (signature_in s)) text at (term_form v (Word text at) is) e
+    inner_stands v (Listing no_forms at end) is low e = absurd (term_form v (Listing no_forms at end) is)
+    inner_stands v (Listing (form (Listing ps b z) args) at end) is low e = absurd (term_form v (Listing (form (Listing ps b z) args) at end) is).0
+    inner_stands v (Listing (form (Word head a) args) at end) is low e =
+        place_stands (object_is_of (signature_in s)) (object_in s) head a at end args
+        (each_forms (IsOf v sort.Term) (λ f. nat_lt 0 (height f) ≡ false) (Reads (object_is_of (signature_in s)) (object_in s)) (λ f of low. object_reads v f of low) args (term_form v (Listing (form (Word head a) args) at end) is).1 (height_of head a at end args 0 low))
+        e
+
+    inner_reads : (v : Version) (f : Form) → IsOf v sort.Term f → nat_lt 1 (height f) ≡ false → Reads (inner_fits (signature_in s) own_types) (inner_in s) f
+    inner_reads v f is low e wanted m = stands_wanted (object_is_of (signature_in s)) f (inner_in s f) (inner_stands v f is low e) wanted m
+
+    -- a name at arguments, as a term
+    pub application_stands : (v : Version) (head : List ℕ) (a at end : ℕ) (args : Forms) → EachForm (IsOf v sort.Term) args → term_faults s (Listing (form (Word head a) args) at end) ≡ []
+        → Stands (inner_fits (signature_in s) own_types) (Listing (form (Word head a) args) at end) (place_in s (inner_in s) (form (Word head a) args))
+    application_stands v head a at end args are e =
+        let shape = entry_of s.functions head in
+        let both = nil_parts (too_high (Listing (form (Word head a) args) at end) ++ applied_faults shape (form (Word head a) args) at) (terms_faults s (wanted_by shape) args) e in
+        let own = nil_parts (too_high (Listing (form (Word head a) args) at end)) (applied_faults shape (form (Word head a) args) at) both.0 in
+        place_stands (inner_fits (signature_in s) own_types) (inner_in s) head a at end args
+        (each_forms (IsOf v sort.Term) (λ f. nat_lt 1 (height f) ≡ false) (Reads (inner_fits (signature_in s) own_types) (inner_in s)) (λ f of low. inner_reads v f of low) args are (height_of head a at end args 1 (when (at, 207) (nat_lt 2 (height (Listing (form (Word head a) args) at end))) own.0)))
+        e
+
+    -- a term
+    pub term_stands : (v : Version) (f : Form) → IsOf v sort.Term f → term_faults s f ≡ [] → Stands (inner_fits (signature_in s) own_types) f (term_in s f)
+    unfolding term_in
+    term_stands v (Word text at) is e = word_stands (inner_fits (signature_in s) own_types) text at (term_form v (Word text at) is) e
+    term_stands v (Listing no_forms at end) is e = absurd (term_form v (Listing no_forms at end) is)
+    term_stands v (Listing (form (Listing ps b z) args) at end) is e = absurd (term_form v (Listing (form (Listing ps b z) args) at end) is).0
+    term_stands v (Listing (form (Word head a) args) at end) is e = application_stands v head a at end args (term_form v (Listing (form (Word head a) args) at end) is).1 e
+
+  -- ---- what is asked of terms
+
+  same_type : (t : Term) → type_in (signature_in s) own_types t ≡ typed_in t
+  same_type (Object d) = refl
+  same_type (Parameter i) = refl
+  same_type (Apply f ts) = refl
+
+  pub stands_typed : (f : Form) (t : Term) → (st : Stands (inner_fits (signature_in s) own_types) f t) → type_in (signature_in s) own_types t ≡ Some st.own
+  stands_typed f t st = same_type t ∙ st.typed
+
+  pub stands_term : (f : Form) (t : Term) → Stands (inner_fits (signature_in s) own_types) f t → is_term (signature_in s) own_types t ≡ true
+  unfolding term_fits
+  stands_term f t st = ap (λ (o : Option ℕ). option_map_or (λ own. term_fits (signature_in s) own_types own t) o false) (stands_typed f t st) ∙ st.stands st.own (fits_itself (signature_in s) st.own)
+
+  pub stands_fits : (f : Form) (t : Term) → Stands (inner_fits (signature_in s) own_types) f t → (wanted : ℕ) → mistyped s (Some wanted) f ≡ [] → term_fits (signature_in s) own_types wanted t ≡ true
+  unfolding term_fits
+  stands_fits f t st wanted m = stands_wanted (inner_fits (signature_in s) own_types) f t st wanted m
