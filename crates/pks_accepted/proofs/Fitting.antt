@@ -261,6 +261,18 @@ module _ (s : Scope) where
         (each_forms (IsOf v sort.Term) (λ f. nat_lt 1 (height f) ≡ false) (Reads (inner_fits (signature_in s) own_types) (inner_in s)) (λ f of low. inner_reads v f of low) args are (height_of head a at end args 1 (when (at, 207) (nat_lt 2 (height (Listing (form (Word head a) args) at end))) own.0)))
         e
 
+    -- a word that isn't a wildcard
+    pub tame_stands : (text : List ℕ) (at : ℕ) → is_wild text ≡ false → word_faults s text at ≡ [] → Stands (inner_fits (signature_in s) own_types) (Word text at) (term_in s (Word text at))
+    unfolding term_in
+    tame_stands text at tame e = word_stands (inner_fits (signature_in s) own_types) text at tame e
+
+    -- a list
+    pub listing_stands : (v : Version) (parts : Forms) (at end : ℕ) → IsApplied v sort.Term parts → term_faults s (Listing parts at end) ≡ [] → Stands (inner_fits (signature_in s) own_types) (Listing parts at end) (term_in s (Listing parts at end))
+    unfolding term_in
+    listing_stands v no_forms at end is e = absurd is
+    listing_stands v (form (Listing ps b z) args) at end is e = absurd is.0
+    listing_stands v (form (Word head a) args) at end is e = application_stands v head a at end args is.1 e
+
     -- a term
     pub term_stands : (v : Version) (f : Form) → IsOf v sort.Term f → term_faults s f ≡ [] → Stands (inner_fits (signature_in s) own_types) f (term_in s f)
     unfolding term_in

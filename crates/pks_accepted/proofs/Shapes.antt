@@ -121,3 +121,45 @@ module _ (v : Version) (P : Form → Type 0) where
       by_may : MayHave (lists v s) (head_of parts) ps → P (Listing parts at end)
       by_may (inl found) = found_holds (lists v s).fixed fixed (head_of parts) ps found parts at end refl matches
       by_may (inr rest) = others_hold (lists v s).other (lists v s).barred others ps rest.0 parts at end rest.1 matches
+
+-- at least one form of a sort
+pub some_of : (v : Version) (s : Sort) (fs : Forms) → Matches v (One s ∷ Many s ∷ []) fs → EachForm (IsOf v s) fs
+some_of v s no_forms m = tt
+some_of v s (form f fs) m = let both = one_first m in (both.0, each_of v s fs both.1)
+
+-- at least two
+pub two_of : (v : Version) (s : Sort) (fs : Forms) → Matches v (One s ∷ One s ∷ Many s ∷ []) fs → EachForm (IsOf v s) fs
+two_of v s no_forms m = tt
+two_of v s (form f fs) m = let both = one_first m in (both.0, some_of v s fs both.1)
+
+-- a single form
+abbrev pub Alone : (Form → Type 0) → Forms → Type 0
+Alone P no_forms = ⊥
+Alone P (form f no_forms) = P f
+Alone P (form f (form g fs)) = ⊥
+
+pub alone : (v : Version) (s : Sort) (fs : Forms) → Matches v (One s ∷ []) fs → Alone (IsOf v s) fs
+alone v s no_forms m = one_missing m
+alone v s (form f no_forms) m = (one_first m).0
+alone v s (form f (form g fs)) m = none_left (one_first m).1
+
+-- two forms
+abbrev pub Both : (Form → Type 0) → (Form → Type 0) → Forms → Type 0
+Both P Q no_forms = ⊥
+Both P Q (form f no_forms) = ⊥
+Both P Q (form f (form g no_forms)) = P f × Q g
+Both P Q (form f (form g (form h fs))) = ⊥
+
+pub both_of : (v : Version) (s t : Sort) (fs : Forms) → Matches v (One s ∷ One t ∷ []) fs → Both (IsOf v s) (IsOf v t) fs
+both_of v s t no_forms m = one_missing m
+both_of v s t (form f no_forms) m = one_missing (one_first m).1
+both_of v s t (form f (form g no_forms)) m = let first = one_first m in (first.0, (one_first first.1).0)
+both_of v s t (form f (form g (form h fs))) m = none_left (one_first (one_first m).1).1
+
+-- a name is no other word
+pub no_name : (text head : List ℕ) → is_name text ≡ true → is_name head ≡ false → bytes_eq text head ≡ false
+no_name text head named other = by_test (bytes_eq text head) (λ e. (bytes_eq-Decides text head).0 e)
+  where
+    by_test : (b : Bool) → (b ≡ true → text ≡ head) → b ≡ false
+    by_test false e = refl
+    by_test true e = absurd (true≢false (sym named ∙ ap (λ (w : List ℕ). is_name w) (e refl) ∙ other))
