@@ -2,3 +2,5 @@ pub mod Shapes
 pub mod Numbers
 pub mod Fitting
 pub mod Literals
+pub mod Sequences
+pub mod Sentences

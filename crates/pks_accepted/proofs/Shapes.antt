@@ -163,3 +163,12 @@ no_name text head named other = by_test (bytes_eq text head) (λ e. (bytes_eq-De
     by_test : (b : Bool) → (b ≡ true → text ≡ head) → b ≡ false
     by_test false e = refl
     by_test true e = absurd (true≢false (sym named ∙ ap (λ (w : List ℕ). is_name w) (e refl) ∙ other))
+
+-- the head has a byte
+abbrev pub has_byte : List ℕ → Bool
+has_byte [] = false
+has_byte (b ∷ bs) = true
+
+pub headed : (v : Version) (P : Form → Type 0) (head : List ℕ) (ps : List Part) → has_byte head ≡ true → ((a at end : ℕ) (rest : Forms) → Matches v ps rest → P (Listing (form (Word head a) rest) at end)) → Holds v P head (One Head ∷ ps)
+headed v P [] ps e h = absurd (false≢true e)
+headed v P (b ∷ bs) ps e h = headed_holds v P b bs ps h
