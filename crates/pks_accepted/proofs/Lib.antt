@@ -4,3 +4,5 @@ pub mod Fitting
 pub mod Literals
 pub mod Sequences
 pub mod Sentences
+pub mod Sections
+pub mod Tabled

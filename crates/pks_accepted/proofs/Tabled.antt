@@ -1,0 +1,2 @@
+-- What the tables of declarations hold.
+use Rattle.std.proofs.Common.{◌≡◌, List, []}
