@@ -6,3 +6,4 @@ pub mod Sequences
 pub mod Sentences
 pub mod Sections
 pub mod Tabled
+pub mod Signed
