@@ -7,3 +7,5 @@ pub mod Sentences
 pub mod Sections
 pub mod Tabled
 pub mod Signed
+pub mod Costs
+pub mod Whole

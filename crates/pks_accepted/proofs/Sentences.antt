@@ -43,7 +43,7 @@ single R faults x meant Q h (form f no_forms) is e = h f is e
 single R faults x meant Q h (form f (form g fs)) is e = absurd is
 
 -- forms without a fault
-all_faultless : (P Q : Form → Type 0) (faults : Form → List Fault) (n : ℕ) → ((f : Form) → P f → faults f ≡ [] → Q f) → (fs : Forms) → EachForm P fs → parts_faults n faults fs ≡ [] → EachForm Q fs
+pub all_faultless : (P Q : Form → Type 0) (faults : Form → List Fault) (n : ℕ) → ((f : Form) → P f → faults f ≡ [] → Q f) → (fs : Forms) → EachForm P fs → parts_faults n faults fs ≡ [] → EachForm Q fs
 all_faultless P Q faults n h fs are e = each_forms P (λ f. faults f ≡ []) Q h fs are (each_faultless faults fs (nil_parts (past n fs) (each faults fs) e).1)
 
 module _ (s : Scope) (shapes : HasShapes s) (v : Version) where
