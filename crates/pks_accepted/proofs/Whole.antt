@@ -7,7 +7,7 @@ use Rattle.pks_terms.specs.Sets.{Each}
 use Rattle.pks_terms.specs.Actions.{Schema}
 use Rattle.pks_terms.specs.Versions.{IsNow, IsFirstVersion}
 use Rattle.pks_terms.specs.Versions as versions
-use Rattle.pks_terms.specs.Valid.{IsConjText, IsPlainText, AreQueries, IsTargetText, IsSenseText, IsItemText, IsSchemaText, IsStartText, IsValid}
+use Rattle.pks_terms.specs.Valid.{IsConjText, IsPlainText, AreQueries, IsTargetText, IsSenseText, IsItemText, IsSchemaText, IsStartText, IsValidSignature, IsValid}
 use Rattle.pks_text.specs.Forms.{Form, Word, Listing, Forms, no_forms, form, place_of}
 use Rattle.pks_grammar.specs.declared.grammar.Version.{Version}
 use Rattle.pks_grammar.specs.declared.grammar.Version.TheVariants.{First, Second}
@@ -225,3 +225,17 @@ valid_problem v d p is_d is_p e =
       init = starts_text v s shapes ground problem (init_are v problem n) no.init;
       goal = aims_text v s shapes ground problem (goal_are v problem n) no.goal;
     }
+
+-- the declarations alone
+pub valid_declarations : (v : Version) (version : ℕ) (d : Form) → IsOf v sort.Domain d → declarations_fault version (behind_head d) ≡ None → IsValidSignature (signature_in (scope_of version (behind_head d)))
+unfolding declarations_fault
+valid_declarations v version d is e =
+    let domain = behind_head d in
+    let s = scope_of version domain in
+    let objects = objects_section version s.types (section (codes "objects") domain) in
+    let predicates = predicates_section s.types (section (codes "predicates") domain) in
+    let functions = functions_section (before s) (section (codes "functions") domain) in
+    let b = or_none (least (types_section (section (codes "types") domain))) (or_else (least objects) (or_else (least predicates) (least functions))) e in
+    let c = or_none (least objects) (or_else (least predicates) (least functions)) b.1 in
+    let d' = or_none (least predicates) (least functions) c.1 in
+    signature_valid v version domain (functions_are v domain (domain_is v d is)) (least_none objects c.0) (least_none predicates d'.0) (least_none functions d'.1)
