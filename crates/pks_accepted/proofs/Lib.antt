@@ -9,3 +9,4 @@ pub mod Tabled
 pub mod Signed
 pub mod Costs
 pub mod Whole
+pub mod Naming

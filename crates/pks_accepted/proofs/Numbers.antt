@@ -51,7 +51,7 @@ numbered t name x e =
     let r = numbered_at t name x e in
     (place_in_keys t name, ap (λ b. cond b (Some (place_in_keys t name)) None) (lt-ltb (place_in_keys t name) (length (keys_of t)) r.0), r.1)
 
-keys_length : {X : Type 0} (t : Table X) → length (keys_of t) ≡ length t
+pub keys_length : {X : Type 0} (t : Table X) → length (keys_of t) ≡ length t
 keys_length [] = refl
 keys_length (y ∷ ys) = ap suc (keys_length ys)
 

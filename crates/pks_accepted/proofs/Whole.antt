@@ -129,7 +129,7 @@ or_none : {X : Type 0} (a b : Option X) → or_else a b ≡ None → (a ≡ None
 or_none None b e = (refl, e)
 or_none (Some x) b e = absurd (none-some x (sym e))
 
-all_length : {X : Type 0} (meant : Form → X) (fs : Forms) → length (all meant fs) ≡ count fs
+pub all_length : {X : Type 0} (meant : Form → X) (fs : Forms) → length (all meant fs) ≡ count fs
 all_length meant no_forms = refl
 all_length meant (form f fs) = let r = all_length meant fs in omega (arith, r)
 
@@ -169,15 +169,15 @@ aims_text v s shapes ground problem are e =
     (all_faultless (IsOf v sort.Aim) (λ f. IsPlainText (signature_in s) (own_types s) (versions.query_in (aim_in s f)).asks) (aim_faults s) 16 (aim_text s shapes v) fs are e))
 
 -- no list of faults has a fault
-record AreFaultless (version : ℕ) (domain problem : Forms) : Type 0 where
-  objects : objects_section version (scope_of version domain).types (section (codes "objects") domain) ≡ []
-  predicates : predicates_section (scope_of version domain).types (section (codes "predicates") domain) ≡ []
-  functions : functions_section (before (scope_of version domain)) (section (codes "functions") domain) ≡ []
-  actions : actions_section (scope_of version domain) domain ≡ []
-  init : each (start_faults (scope_of version domain)) (section (codes "init") problem) ≡ []
-  goal : parts_faults 16 (aim_faults (scope_of version domain)) (section (codes "goal") problem) ≡ []
+pub record AreFaultless (version : ℕ) (domain problem : Forms) : Type 0 where
+  pub objects : objects_section version (scope_of version domain).types (section (codes "objects") domain) ≡ []
+  pub predicates : predicates_section (scope_of version domain).types (section (codes "predicates") domain) ≡ []
+  pub functions : functions_section (before (scope_of version domain)) (section (codes "functions") domain) ≡ []
+  pub actions : actions_section (scope_of version domain) domain ≡ []
+  pub init : each (start_faults (scope_of version domain)) (section (codes "init") problem) ≡ []
+  pub goal : parts_faults 16 (aim_faults (scope_of version domain)) (section (codes "goal") problem) ≡ []
 
-are_faultless : (version : ℕ) (domain problem : Forms) → meaning_fault version domain problem ≡ None → AreFaultless version domain problem
+pub are_faultless : (version : ℕ) (domain problem : Forms) → meaning_fault version domain problem ≡ None → AreFaultless version domain problem
 unfolding meaning_fault declarations_fault problem_faults
 are_faultless version domain problem e =
     let s = scope_of version domain in
