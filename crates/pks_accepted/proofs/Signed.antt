@@ -20,7 +20,7 @@ use Rattle.pks_grammar.specs.Language.{IsOf, Matches}
 use Rattle.pks_meaning.specs.Tables.{Table, number_of, entry_of, entries_of, too_long, unknown}
 use Rattle.pks_meaning.specs.Scopes.{Scope, signature_in, fits}
 use Rattle.pks_meaning.specs.Parts.{text_of, behind, behind_head, section, first_forms, all_but_last, last_of, each, past}
-use Rattle.pks_meaning.specs.Declarations.{Types, name_of, type_faults, type_named, types_named, first_in, types_in, types_section, most_objects, objects_in, objects_section, predicate_in, predicate_faults, predicates_in, predicates_section, result_named, function_in, has_object, empty_faults, function_faults, functions_in, functions_section}
+use Rattle.pks_meaning.specs.Declarations.{Types, name_of, type_faults, type_named, types_named, first_in, types_in, types_section, most_objects, objects_in, objects_section, predicate_in, predicate_faults, predicates_in, predicates_section, result_named, function_in, has_object, empty_faults, function_faults, functions_in, functions_section, parameter_in, within}
 use Rattle.pks_meaning.specs.Meaning.{scope_of, least}
 use Rattle.pks_accepted.specs.Facts.{EachForm, HasShapes, IsSmall}
 use Rattle.pks_accepted.proofs.Shapes.{of_sort, one_first, one_missing}
@@ -166,3 +166,11 @@ signature_valid v version domain are no_object no_predicate no_function =
           let a = small.functions in let b = entries_length s.functions in omega (arith, a, b));
       values = λ f x e. (each_got (IsFunction (signature_in s)) (entries_of s.functions) f x functions e).1;
     }
+
+pub within_small : (s : Scope) (fs : Forms) → IsSmall s → IsSmall (within s fs)
+unfolding within
+within_small s fs small = record { types = small.types; objects = small.objects; predicates = small.predicates; functions = small.functions; parameters = section_length first_in 4 (parameter_in s.types) (section (codes "params") fs) }
+
+pub within_shapes : (s : Scope) (fs : Forms) → HasShapes s → HasShapes (within s fs)
+unfolding within
+within_shapes s fs shapes = record { predicates = shapes.predicates; functions = shapes.functions }

@@ -14,11 +14,11 @@ ghost use Rattle.pks_meaning.specs.Scopes.{Scope, signature_in};
 ghost use Rattle.pks_meaning.specs.Parts.{behind_head};
 ghost use Rattle.pks_meaning.specs.Terms.{term_faults, literal_faults, pattern_faults};
 ghost use Rattle.pks_meaning.specs.Sentences.{literals_faults, query_faults, effect_faults, sense_faults, add_faults, start_faults, aim_faults};
-ghost use Rattle.pks_meaning.specs.Declarations.{action_faults};
+ghost use Rattle.pks_meaning.specs.Declarations.{within, action_faults};
 ghost use Rattle.pks_meaning.specs.Meaning.{scope_of};
 ghost use Rattle.pks_domain.specs.FirstFault.{meaning_fault, declarations_fault};
-ghost use Rattle.pks_stated.specs.Stated.{term_in, literal_in, conj_in, pattern_in, query_in, effect_in, sense_in, add_in, schema_in, start_in, aim_in, problem_in};
-ghost use Rattle.pks_accepted.specs.Facts.{EachForm, HasShapes, IsSmall};
+ghost use Rattle.pks_stated.specs.Stated.{term_in, literal_in, conj_in, pattern_in, query_in, effect_in, sense_in, add_in, schema_in, start_in, aim_in, problem_in, named_in};
+ghost use Rattle.pks_accepted.specs.Facts.{EachForm, HasShapes, IsSmall, AreNamed};
 
 // ---- the whole file
 
@@ -40,6 +40,21 @@ pub fn declared_names_are_few()
 /// Each declared predicate has at most three arguments, and each function at most two.
 pub fn declared_shapes_are_small()
     ensures { (version : ℕ) (domain : Forms) → HasShapes (scope_of version domain) }
+{}
+
+/// Each thing of such a problem has a name of its own, spelled as names are, and no predicate is `not`.
+pub fn faultless_files_name_each_thing()
+    ensures { (v : Version) (d p : Form) → IsOf v sort.Domain d → meaning_fault (number_of v) (behind_head d) (behind_head p) ≡ None → AreNamed (problem_in (number_of v) (behind_head d) (behind_head p)) (named_in (number_of v) (behind_head d) p) }
+{}
+
+/// Within an action there are at most four parameters more.
+pub fn declared_parameters_are_few()
+    ensures { (s : Scope) (fs : Forms) → IsSmall s → IsSmall (within s fs) }
+{}
+
+/// Within an action the shapes stay as they are.
+pub fn shapes_stay_small_within_actions()
+    ensures { (s : Scope) (fs : Forms) → HasShapes s → HasShapes (within s fs) }
 {}
 
 // ---- the declarations
