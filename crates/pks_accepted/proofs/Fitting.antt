@@ -1,32 +1,29 @@
 -- Terms without a fault are terms of the signature.
-use Rattle.std.proofs.Common.{◌≡◌, ◌⊎◌, inl, inr, ℕ, zero, suc, ◌+◌, ◌==◌, ◌≤◌, ◌<◌, nat_lt, max, Bool, true, false, ◌||◌, ◌&&◌, cond, List, [], ◌∷◌, ◌++◌, length, Option, Some, None, option_map, refl, sym, ap, ◌∙◌, subst, bytes_eq, arith, slice_get}
+use Rattle.std.proofs.Common.{◌≡◌, ◌⊎◌, inl, inr, ℕ, zero, suc, ◌+◌, ◌==◌, ◌≤◌, nat_lt, max, Bool, true, false, ◌||◌, ◌&&◌, cond, List, [], ◌∷◌, ◌++◌, length, Option, Some, None, option_map, refl, sym, ap, ◌∙◌, subst, arith, slice_get}
 use Rattle.std.specs.Prelude.{codes}
 use Rattle.std.specs.Option.{option_map_or}
-use Rattle.std.proofs.lemmas.Option.{none-some, same_Some}
-use Rattle.std.proofs.lemmas.Bool.{true≢false, false≢true, and_from, eqb-true, or_parts}
+use Rattle.std.proofs.lemmas.Bool.{true≢false, and_from, eqb-true}
 use Rattle.std.proofs.lemmas.Slice.Eq.{bytes_eq-Decides}
 use Rattle.std.proofs.lemmas.Bool.Decides.{nat_tests}
 use Rattle.pks_terms.specs.Sets.{Each}
 use Rattle.pks_terms.specs.Syntax.{Object, Parameter, Apply, Inner, Term}
 use Rattle.pks_terms.specs.Syntax as syntax
-use Rattle.pks_terms.specs.Signatures.{Shape, Signature, fits_type, object_is_of}
-use Rattle.pks_terms.specs.Signatures as signatures
+use Rattle.pks_terms.specs.Signatures.{Shape, fits_type, object_is_of}
 use Rattle.pks_terms.specs.Valid.{all_fit, form_fits, inner_fits, term_fits, type_in, is_term}
 use Rattle.pks_terms.proofs.Types.{fits_itself}
 use Rattle.pks_text.specs.Forms.{Form, Word, Listing, Forms, no_forms, form, place_of}
 use Rattle.pks_grammar.specs.declared.grammar.Version.{Version}
 use Rattle.pks_grammar.specs.declared.grammar.Sort.{Sort}
 use Rattle.pks_grammar.specs.declared.grammar.Sort.TheVariants as sort
-use Rattle.pks_grammar.specs.declared.grammar.Part.TheVariants.{One, Maybe, Many}
+use Rattle.pks_grammar.specs.declared.grammar.Part.TheVariants.{One, Many}
 use Rattle.pks_grammar.specs.Words.{is_name, is_variable, is_wild}
 use Rattle.pks_grammar.specs.Grammar.{lists, is_allowed}
-use Rattle.pks_grammar.specs.Walk.{head_of, count}
+use Rattle.pks_grammar.specs.Walk.{count}
 use Rattle.pks_grammar.specs.Files.{Fault}
 use Rattle.pks_grammar.specs.Language.{IsOf, Matches}
 use Rattle.pks_meaning.specs.Tables.{Table, number_of, entry_of, entries_of, too_long, unknown}
 use Rattle.pks_meaning.specs.Scopes.{Scope, signature_in, fits, name_in, type_of}
-use Rattle.pks_meaning.specs.Parts.{text_of, behind}
-use Rattle.pks_meaning.specs.Terms.{mistyped, height, highest, too_high, miscounted, wanted_by, first_wanted, rest_wanted, applied_faults, word_faults, term_faults, arguments_faults, terms_faults}
+use Rattle.pks_meaning.specs.Terms.{mistyped, height, highest, too_high, miscounted, wanted_by, applied_faults, word_faults, term_faults, terms_faults}
 use Rattle.pks_stated.specs.Stated.{first, or_zero, object_in, word_in, place_in, inner_in, term_in}
 use Rattle.pks_accepted.specs.Facts.{EachForm, HasShapes}
 use Rattle.pks_accepted.proofs.Shapes.{IsWord, name_is, one_first, one_missing, each_of, of_sort}
@@ -101,7 +98,7 @@ module _ (s : Scope) where
   word_cases : (text : List ℕ) (at : ℕ) → is_wild text ≡ false → word_faults s text at ≡ [] → ((i : ℕ) × (own : ℕ) × IsParameter text i own) ⊎ ((d : ℕ) × (own : ℕ) × IsObject text d own)
   word_cases text at tame e =
       let plain : cond (is_variable text) (too_long (name_in text) at ++ unknown at 204 (entry_of s.parameters (name_in text))) (too_long text at ++ unknown at 203 (entry_of s.objects text)) ≡ [] =
-          sym (ap (λ (b : Bool). cond b [] (cond (is_variable text) (too_long (name_in text) at ++ unknown at 204 (entry_of s.parameters (name_in text))) (too_long text at ++ unknown at 203 (entry_of s.objects text)))) tame) ∙ e in
+      sym (ap (λ (b : Bool). cond b [] (cond (is_variable text) (too_long (name_in text) at ++ unknown at 204 (entry_of s.parameters (name_in text))) (too_long text at ++ unknown at 203 (entry_of s.objects text)))) tame) ∙ e in
       by_test (is_variable text) refl plain
     where
       by_test : (b : Bool) → is_variable text ≡ b → ◌≡◌ {A = List Fault} (cond b (too_long (name_in text) at ++ unknown at 204 (entry_of s.parameters (name_in text))) (too_long text at ++ unknown at 203 (entry_of s.objects text))) []
@@ -141,21 +138,21 @@ module _ (s : Scope) where
   unfolding object_is_of
   word_stands {A} fitting text at tame e = elim (word_cases text at tame e) [
     | inl r ↦ let is = r.2 in
-      let same : ◌≡◌ {A = syntax.Form A} (word_in s text) (Parameter r.0) = ap (λ (b : Bool). cond b (Parameter (or_zero (number_of s.parameters (name_in text)))) (Object (or_zero (number_of s.objects text)))) is.test ∙ ap (λ (o : Option ℕ). Parameter (or_zero o)) is.number in
-      subst (λ (t : syntax.Form A). Stands fitting (Word text at) t) (sym same) (record {
-        own = r.1;
-        found = ap (λ (b : Bool). cond b (entry_of s.parameters (name_in text)) (entry_of s.objects text)) is.test ∙ is.entry;
-        typed = is.typed;
-        stands = λ wanted h. ap (λ (o : Option ℕ). option_map_or (λ own. fits_type (signature_in s) own wanted) o false) is.typed ∙ h;
-      })
+        let same : ◌≡◌ {A = syntax.Form A} (word_in s text) (Parameter r.0) = ap (λ (b : Bool). cond b (Parameter (or_zero (number_of s.parameters (name_in text)))) (Object (or_zero (number_of s.objects text)))) is.test ∙ ap (λ (o : Option ℕ). Parameter (or_zero o)) is.number in
+        subst (λ (t : syntax.Form A). Stands fitting (Word text at) t) (sym same) (record {
+          own = r.1;
+          found = ap (λ (b : Bool). cond b (entry_of s.parameters (name_in text)) (entry_of s.objects text)) is.test ∙ is.entry;
+          typed = is.typed;
+          stands = λ wanted h. ap (λ (o : Option ℕ). option_map_or (λ own. fits_type (signature_in s) own wanted) o false) is.typed ∙ h;
+        })
     | inr r ↦ let is = r.2 in
-      let same : ◌≡◌ {A = syntax.Form A} (word_in s text) (Object r.0) = ap (λ (b : Bool). cond b (Parameter (or_zero (number_of s.parameters (name_in text)))) (Object (or_zero (number_of s.objects text)))) is.test ∙ ap (λ (o : Option ℕ). Object (or_zero o)) is.number in
-      subst (λ (t : syntax.Form A). Stands fitting (Word text at) t) (sym same) (record {
-        own = r.1;
-        found = ap (λ (b : Bool). cond b (entry_of s.parameters (name_in text)) (entry_of s.objects text)) is.test ∙ is.entry;
-        typed = is.typed;
-        stands = λ wanted h. ap (λ (o : Option ℕ). option_map_or (λ own. fits_type (signature_in s) own wanted) o false) is.typed ∙ h;
-      })
+        let same : ◌≡◌ {A = syntax.Form A} (word_in s text) (Object r.0) = ap (λ (b : Bool). cond b (Parameter (or_zero (number_of s.parameters (name_in text)))) (Object (or_zero (number_of s.objects text)))) is.test ∙ ap (λ (o : Option ℕ). Object (or_zero o)) is.number in
+        subst (λ (t : syntax.Form A). Stands fitting (Word text at) t) (sym same) (record {
+          own = r.1;
+          found = ap (λ (b : Bool). cond b (entry_of s.parameters (name_in text)) (entry_of s.objects text)) is.test ∙ is.entry;
+          typed = is.typed;
+          stands = λ wanted h. ap (λ (o : Option ℕ). option_map_or (λ own. fits_type (signature_in s) own wanted) o false) is.typed ∙ h;
+        })
   ]
 
   -- ---- arguments

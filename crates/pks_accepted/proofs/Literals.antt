@@ -1,39 +1,37 @@
 -- Literals and patterns without a fault are as a file may have them.
-use Rattle.std.proofs.Common.{◌≡◌, ◌⊎◌, inl, inr, ℕ, zero, suc, ◌+◌, ◌==◌, ◌≤◌, ◌<◌, nat_lt, max, Bool, true, false, not, ◌||◌, ◌&&◌, cond, List, [], ◌∷◌, ◌++◌, length, Option, Some, None, option_map, refl, sym, ap, ◌∙◌, subst, bytes_eq, arith, slice_get, Ordering, Less, Equal, Greater, is_lt}
+use Rattle.std.proofs.Common.{◌≡◌, ℕ, zero, suc, Bool, true, false, ◌||◌, cond, List, [], ◌∷◌, ◌++◌, Option, Some, None, refl, sym, ap, ◌∙◌, subst, bytes_eq, Ordering, Less, Equal, Greater, is_lt}
 use Rattle.std.specs.Prelude.{codes}
 use Rattle.std.specs.Ordering.{ordering_reverse}
 use Rattle.std.specs.Option.{option_map_or}
-use Rattle.std.proofs.lemmas.Option.{none-some, same_Some}
-use Rattle.std.proofs.lemmas.Bool.{true≢false, false≢true, and_from, eqb-true, or_parts}
-use Rattle.pks_terms.specs.Sets.{Each, set_of}
-use Rattle.pks_terms.specs.Syntax.{Object, Parameter, Apply, Inner, Term, Relation, Named, Equality, Literal, negated, affirmed}
-use Rattle.pks_terms.specs.Orders.{term_cmp, literal_cmp, literal, in_order}
-use Rattle.pks_terms.specs.Signatures.{Shape, Signature, fits_type, object_is_of}
-use Rattle.pks_terms.specs.Valid.{all_fit, form_fits, inner_fits, term_fits, slot_fits, type_in, is_term, is_related, is_literal, is_atom, is_pattern, sides_fit, IsLiteralText, IsConjText}
+use Rattle.std.proofs.lemmas.Bool.{false≢true, and_from, or_parts}
+use Rattle.pks_terms.specs.Sets.{Each}
+use Rattle.pks_terms.specs.Syntax.{Term, Equality, Literal, negated, affirmed}
+use Rattle.pks_terms.specs.Orders.{term_cmp, literal_cmp, literal}
+use Rattle.pks_terms.specs.Signatures.{Shape, Signature, fits_type}
+use Rattle.pks_terms.specs.Valid.{all_fit, inner_fits, term_fits, slot_fits, type_in, is_term, is_literal, is_atom, is_pattern, sides_fit, IsLiteralText, IsConjText}
 use Rattle.pks_terms.specs.Totality.{term_cmp_total, literal_cmp_total}
 use Rattle.pks_terms.proofs.OrderLaws.{literal_cmp_tells}
 use Rattle.pks_terms.proofs.ListLaws.{each_set_of}
 use Rattle.pks_terms.proofs.SetLaws.{ordered_set_of}
 use Rattle.pks_text.specs.Forms.{Form, Word, Listing, Forms, no_forms, form, place_of}
 use Rattle.pks_grammar.specs.declared.grammar.Version.{Version}
-use Rattle.pks_grammar.specs.declared.grammar.Sort.{Sort}
 use Rattle.pks_grammar.specs.declared.grammar.Sort.TheVariants as sort
-use Rattle.pks_grammar.specs.declared.grammar.Part.TheVariants.{One, Maybe, Many}
-use Rattle.pks_grammar.specs.Words.{is_name, is_variable, is_wild}
-use Rattle.pks_grammar.specs.Grammar.{lists, is_allowed, is_among}
-use Rattle.pks_grammar.specs.Walk.{head_of, is_headed, count}
+use Rattle.pks_grammar.specs.declared.grammar.Part.TheVariants.{One}
+use Rattle.pks_grammar.specs.Words.{is_wild}
+use Rattle.pks_grammar.specs.Grammar.{lists, is_allowed}
+use Rattle.pks_grammar.specs.Walk.{head_of, is_headed}
 use Rattle.pks_grammar.specs.Files.{Fault}
 use Rattle.pks_grammar.specs.Language.{IsOf, Matches}
-use Rattle.pks_meaning.specs.Tables.{Table, number_of, entry_of, entries_of, too_long, unknown}
-use Rattle.pks_meaning.specs.Scopes.{Scope, signature_in, fits, name_in, type_of}
-use Rattle.pks_meaning.specs.Parts.{text_of, parts_of, behind, behind_head, each, only, past}
-use Rattle.pks_meaning.specs.Terms.{mistyped, apart, applied_faults, wanted_by, word_faults, term_faults, arguments_faults, terms_faults, atom_faults, equation_faults, positive_faults, literal_faults, wildcards, past_places, pattern_faults}
+use Rattle.pks_meaning.specs.Tables.{entry_of}
+use Rattle.pks_meaning.specs.Scopes.{Scope, signature_in, fits, type_of}
+use Rattle.pks_meaning.specs.Parts.{parts_of, behind_head, each, only, past}
+use Rattle.pks_meaning.specs.Terms.{mistyped, apart, applied_faults, wanted_by, term_faults, terms_faults, atom_faults, equation_faults, positive_faults, literal_faults, wildcards, past_places, pattern_faults}
 use Rattle.pks_meaning.specs.Sentences.{literals_faults}
-use Rattle.pks_stated.specs.Stated.{first, all, one, or_zero, word_in, place_in, inner_in, term_in, atom_by, atom_in, sides_in, positive_in, literal_in, conj_in, slot_in, pattern_in}
+use Rattle.pks_stated.specs.Stated.{first, all, one, term_in, atom_by, atom_in, sides_in, positive_in, literal_in, conj_in, slot_in, pattern_in}
 use Rattle.pks_accepted.specs.Facts.{EachForm, HasShapes}
-use Rattle.pks_accepted.proofs.Shapes.{IsWord, headed_holds, of_sort, alone, both_of, no_name}
+use Rattle.pks_accepted.proofs.Shapes.{headed_holds, of_sort, alone, both_of, no_name}
 use Rattle.pks_accepted.proofs.Numbers.{nil_parts, unless, each_forms, each_faultless}
-use Rattle.pks_accepted.proofs.Fitting.{IsApplied, applied_is, IsTermForm, term_form, own_types, Stands, Reads, applies, tame_stands, listing_stands, term_stands, stands_typed, stands_term, stands_fits}
+use Rattle.pks_accepted.proofs.Fitting.{IsApplied, applied_is, own_types, Stands, Reads, applies, tame_stands, listing_stands, term_stands, stands_typed, stands_term, stands_fits}
 
 -- ---- equations
 
@@ -106,7 +104,7 @@ module _ (s : Scope) (shapes : HasShapes s) (v : Version) where
       let shape = entry_of s.predicates head in
       let both = nil_parts (applied_faults shape (form (Word head a) args) at) (terms_faults s (wanted_by shape) args) e in
       let to = applies s (term_fits (signature_in s) (own_types s)) s.predicates 3 (term_in s) head a at args shapes.predicates
-          (each_forms (IsOf v sort.Term) (IsOf v sort.Term) (Reads s (term_fits (signature_in s) (own_types s)) (term_in s)) (λ f is also. term_reads f is) args is.1 is.1) both.0 both.1 in
+      (each_forms (IsOf v sort.Term) (IsOf v sort.Term) (Reads s (term_fits (signature_in s) (own_types s)) (term_in s)) (λ f is also. term_reads f is) args is.1 is.1) both.0 both.1 in
       ap (λ (o : Option Shape). option_map_or (λ x. all_fit (term_fits (signature_in s) (own_types s)) x.arguments (first 3 (term_in s) args)) o false) to.declared ∙ to.fitted
 
   affirmed_text : (parts : Forms) (at : ℕ) → IsApplied v sort.Term parts → atom_faults s parts at ≡ [] → IsLiteralText (signature_in s) (own_types s) (affirmed (atom_by s parts))
@@ -129,7 +127,7 @@ module _ (s : Scope) (shapes : HasShapes s) (v : Version) where
       let left = term_stands s shapes v t are.0 both.0 in
       let right = term_stands s shapes v u are.1 rest.0 in
       let fit : ◌≡◌ {A = List Fault} (cond (fits s left.own right.own || fits s right.own left.own) [] ((place_of u, 206) ∷ [])) [] =
-          sym (ap (λ (o : Option ℕ). apart s (Some left.own) o (place_of u)) right.found) ∙ sym (ap (λ (o : Option ℕ). apart s o (type_of s u) (place_of u)) left.found) ∙ rest.1 in
+      sym (ap (λ (o : Option ℕ). apart s (Some left.own) o (place_of u)) right.found) ∙ sym (ap (λ (o : Option ℕ). apart s o (type_of s u) (place_of u)) left.found) ∙ rest.1 in
       equation_text (signature_in s) (own_types s) (term_in s t) (term_in s u) left.own right.own true (stands_term s t (term_in s t) left) (stands_term s u (term_in s u) right)
       (stands_typed s t (term_in s t) left) (stands_typed s u (term_in s u) right) (unless (place_of u, 206) (fits s left.own right.own || fits s right.own left.own) fit)
 
@@ -180,9 +178,10 @@ module _ (s : Scope) (shapes : HasShapes s) (v : Version) where
 
   pub literal_text : (f : Form) → IsOf v sort.Literal f → LiteralHolds f
   unfolding lists is_allowed
-  literal_text = of_sort v LiteralHolds sort.Literal (λ text at allowed. absurd (false≢true allowed))
-      (headed_holds v LiteralHolds 110 (111 ∷ 116 ∷ []) (One sort.Positive ∷ []) negation_holds,
-       (headed_holds v LiteralHolds 61 [] (One sort.Term ∷ One sort.Term ∷ []) (λ a at end rest m. affirmed_holds (Listing (form (Word (codes "=") a) rest) at end) refl (equation_holds a at end rest m)), tt))
+  literal_text = of_sort v LiteralHolds sort.Literal (λ text at allowed. absurd (false≢true allowed)) (
+    headed_holds v LiteralHolds 110 (111 ∷ 116 ∷ []) (One sort.Positive ∷ []) negation_holds,
+    (headed_holds v LiteralHolds 61 [] (One sort.Term ∷ One sort.Term ∷ []) (λ a at end rest m. affirmed_holds (Listing (form (Word (codes "=") a) rest) at end) refl (equation_holds a at end rest m)), tt),
+  )
       (λ parts at end free m. affirmed_holds (Listing parts at end) (or_parts (bytes_eq (head_of parts) (codes "not")) false free).0 (applied_holds parts at end (applied_is v sort.Term parts m)))
 
   -- ---- conjunctions
@@ -229,7 +228,7 @@ module _ (s : Scope) (shapes : HasShapes s) (v : Version) where
           let atom = nil_parts (atom_faults s (form (Word head a) args) at) (past_places 211 2 (wildcards args)) e in
           let both = nil_parts (applied_faults shape (form (Word head a) args) at) (terms_faults s (wanted_by shape) args) atom.0 in
           let to = applies s (slot_fits (signature_in s) (own_types s)) s.predicates 3 (slot_in s) head a at args shapes.predicates
-              (each_forms (IsOf v sort.Slot) (IsOf v sort.Slot) (Reads s (slot_fits (signature_in s) (own_types s)) (slot_in s)) (λ f is also. slot_reads f is) args is.1 is.1) both.0 both.1 in
+          (each_forms (IsOf v sort.Slot) (IsOf v sort.Slot) (Reads s (slot_fits (signature_in s) (own_types s)) (slot_in s)) (λ f is also. slot_reads f is) args is.1 is.1) both.0 both.1 in
           ap (λ (o : Option Shape). option_map_or (λ x. all_fit (slot_fits (signature_in s) (own_types s)) x.arguments (first 3 (slot_in s) args)) o false) to.declared ∙ to.fitted
 
   -- ---- places

@@ -1,11 +1,11 @@
 -- Names are spelled as names are, and none is given twice.
-use Rattle.std.proofs.Common.{◌≡◌, ◌⊎◌, inl, inr, ℕ, zero, suc, ◌+◌, ◌≤◌, ◌==◌, Bool, true, false, ◌||◌, ◌&&◌, cond, is_some, List, [], ◌∷◌, ◌++◌, length, map, Option, Some, None, refl, sym, ap, ◌∙◌, subst, bytes_eq, arith}
+use Rattle.std.proofs.Common.{◌≡◌, inl, inr, ℕ, ◌==◌, Bool, true, false, cond, is_some, List, [], ◌∷◌, ◌++◌, length, map, Option, Some, None, refl, sym, ap, ◌∙◌, subst, bytes_eq}
 use Rattle.std.specs.Prelude.{codes}
 use Rattle.std.specs.Map.{keys_of}
 use Rattle.std.proofs.lemmas.Bool.{true≢false, false≢true, eqb-true}
 use Rattle.std.proofs.lemmas.Slice.Eq.{bytes_eq-Decides}
-use Rattle.pks_terms.specs.Sets.{Each, IsIn}
-use Rattle.pks_terms.specs.ValidProblems.{AreDifferent, AreNames}
+use Rattle.pks_terms.specs.Sets.{IsIn}
+use Rattle.pks_terms.specs.ValidProblems.{AreDifferent}
 use Rattle.pks_terms.proofs.ListLaws.{each_in}
 use Rattle.pks_text.specs.Forms.{Form, Word, Listing, Forms, no_forms, form, place_of}
 use Rattle.pks_grammar.specs.declared.grammar.Version.{Version}
@@ -14,13 +14,12 @@ use Rattle.pks_grammar.specs.declared.grammar.Sort.TheVariants as sort
 use Rattle.pks_grammar.specs.declared.grammar.Part.TheVariants.{One, Many}
 use Rattle.pks_grammar.specs.Words.{is_name}
 use Rattle.pks_grammar.specs.Grammar.{lists, is_allowed}
-use Rattle.pks_grammar.specs.Walk.{count}
 use Rattle.pks_grammar.specs.Files.{Fault, number_of}
 use Rattle.pks_grammar.specs.Language.{IsOf, Matches}
-use Rattle.pks_meaning.specs.Tables.{Table, entry_of, entries_of, declare, too_long, twice}
+use Rattle.pks_meaning.specs.Tables.{Table, entry_of, declare, too_long, twice}
 use Rattle.pks_meaning.specs.Scopes.{Scope, name_in}
 use Rattle.pks_meaning.specs.Parts.{text_of, behind, behind_head, section, first_forms, each, past}
-use Rattle.pks_meaning.specs.Declarations.{name_of, name_faults, entries_faults, past_names, section_faults, first_in, second_in, types_in, most_objects, type_faults, predicate_in, predicate_faults, predicates_section, function_in, within, action_faults, nothing, actions_among, actions_section}
+use Rattle.pks_meaning.specs.Declarations.{name_of, name_faults, entries_faults, past_names, first_in, second_in, most_objects, type_faults, predicate_in, predicate_faults, predicates_section, function_in, within, action_faults, nothing, actions_among, actions_section}
 use Rattle.pks_meaning.specs.Meaning.{scope_of}
 use Rattle.pks_domain.specs.FirstFault.{meaning_fault}
 use Rattle.pks_stated.specs.Stated.{all, schema_in, problem_in, named_in}
@@ -28,7 +27,7 @@ use Rattle.pks_accepted.specs.Facts.{EachForm, AreNamed}
 use Rattle.pks_accepted.proofs.Shapes.{IsWord, name_is, of_sort, one_first, one_missing, each_of}
 use Rattle.pks_accepted.proofs.Numbers.{nil_parts, when, each_forms, keys_length}
 use Rattle.pks_accepted.proofs.Literals.{each_all}
-use Rattle.pks_accepted.proofs.Sections.{action_parts, action_is, domain_parts, domain_is, types_are, objects_are, predicates_are, functions_are, actions_are}
+use Rattle.pks_accepted.proofs.Sections.{action_parts, action_is, domain_is, types_are, objects_are, predicates_are, functions_are, actions_are}
 use Rattle.pks_accepted.proofs.Tabled.{each_of_first, first_all, section_faultless, entries_length, each_key_tabled, different_tabled, each_type_name, different_types, each_object_name, different_objects}
 use Rattle.pks_accepted.proofs.Whole.{all_length, are_faultless}
 
@@ -126,9 +125,10 @@ module _ {X : Type 0} where
       let both = nil_parts (name_faults t (named f) ++ faults f) (entries_faults named said faults u fs) e in
       let own = nil_parts (name_faults t (named f)) (faults f) both.0 in
       let new = when (place_of (named f), 202) (is_some (entry_of t name)) (nil_parts (too_long name (place_of (named f))) (twice t name (place_of (named f))) own.0).1 in
-      let later = entries_different named said faults u fs both.1 in
-      ((λ i. later.1 name i (declared_in t name (said f)), later.0),
-          λ z i j. elim i [ inl same ↦ absent t name new (subst (λ (w : List ℕ). IsIn w (keys_of t)) (sym same) j) | inr k ↦ later.1 z k (kept_in t name (said f) z j) ])
+      let later = entries_different named said faults u fs both.1 in (
+        (λ i. later.1 name i (declared_in t name (said f)), later.0),
+        λ z i j. elim i [ inl same ↦ absent t name new (subst (λ (w : List ℕ). IsIn w (keys_of t)) (sym same) j) | inr k ↦ later.1 z k (kept_in t name (said f) z j) ],
+      )
 
 -- ---- all names
 
@@ -173,8 +173,8 @@ problem_named v d p is e =
     let whole = first_all second_in 64 actions ended.1 in
     let apart = (entries_different second_in nothing (λ f. action_faults s (behind_head f)) [] (first_forms 64 actions) ended.0).0 in
     let named = each_forms (IsOf v sort.Entry) (IsOf v sort.Entry) (λ f. EachForm (λ g. is_name (name_of (first_in g)) ≡ true) (behind_head f))
-        (λ f is also. each_forms (IsOf v sort.Name) (IsOf v sort.Name) (λ g. is_name (name_of (first_in g)) ≡ true) (λ g is also. object_name v g is) (behind_head f) (entry_names v f is).1 (entry_names v f is).1)
-        objects (objects_are v domain m) (objects_are v domain m) in
+    (λ f is also. each_forms (IsOf v sort.Name) (IsOf v sort.Name) (λ g. is_name (name_of (first_in g)) ≡ true) (λ g is also. object_name v g is) (behind_head f) (entry_names v f is).1 (entry_names v f is).1)
+    objects (objects_are v domain m) (objects_are v domain m) in
     record {
       types = record {
         counted = keys_length s.types;
@@ -194,10 +194,10 @@ problem_named v d p is e =
         different = different_tabled first_in (predicate_in s.types) [] (first_forms 32 predicates) tt;
       };
       none_is_not = λ i.
-        let each_not = each_key_tabled (λ n. bytes_eq n (codes "not") ≡ false) first_in (predicate_in s.types) [] (first_forms 32 predicates) tt
-            (each_forms (λ f. predicate_faults s.types f ≡ []) (λ f. predicate_faults s.types f ≡ []) (λ f. bytes_eq (name_of (first_in f)) (codes "not") ≡ false) (λ f e also. not_not f s.types e) (first_forms 32 predicates)
-            (section_faultless first_in 32 (predicate_in s.types) (predicate_faults s.types) predicates no.predicates) (section_faultless first_in 32 (predicate_in s.types) (predicate_faults s.types) predicates no.predicates)) in
-        true≢false (each_in (λ n. bytes_eq n (codes "not") ≡ false) (keys_of s.predicates) (codes "not") each_not i);
+          let each_not = each_key_tabled (λ n. bytes_eq n (codes "not") ≡ false) first_in (predicate_in s.types) [] (first_forms 32 predicates) tt
+          (each_forms (λ f. predicate_faults s.types f ≡ []) (λ f. predicate_faults s.types f ≡ []) (λ f. bytes_eq (name_of (first_in f)) (codes "not") ≡ false) (λ f e also. not_not f s.types e) (first_forms 32 predicates)
+          (section_faultless first_in 32 (predicate_in s.types) (predicate_faults s.types) predicates no.predicates) (section_faultless first_in 32 (predicate_in s.types) (predicate_faults s.types) predicates no.predicates)) in
+          true≢false (each_in (λ n. bytes_eq n (codes "not") ≡ false) (keys_of s.predicates) (codes "not") each_not i);
       functions = record {
         counted = keys_length s.functions ∙ sym (entries_length s.functions);
         spelled = each_key_tabled (λ n. is_name n ≡ true) first_in (function_in s.types) [] (first_forms 32 functions) tt

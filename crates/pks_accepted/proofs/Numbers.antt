@@ -1,5 +1,5 @@
 -- Empty lists of faults, and the numbers of names.
-use Rattle.std.proofs.Common.{◌≡◌, ◌⊎◌, inl, inr, ℕ, zero, suc, ◌+◌, ◌==◌, ◌≤◌, ◌<◌, nat_lt, Bool, true, false, cond, not, List, [], ◌∷◌, ◌++◌, length, Option, Some, None, refl, sym, ap, ◌∙◌, subst, bytes_eq, arith, slice_get}
+use Rattle.std.proofs.Common.{◌≡◌, ℕ, zero, suc, ◌+◌, ◌<◌, nat_lt, Bool, true, false, cond, not, List, [], ◌∷◌, ◌++◌, length, Option, Some, None, refl, ap, subst, bytes_eq, arith, slice_get}
 use Rattle.std.specs.List.{prefix_len}
 use Rattle.std.specs.Map.{keys_of}
 use Rattle.std.proofs.lemmas.Bool.{lt-ltb, ltb-true}
@@ -40,10 +40,10 @@ numbered_at {X} (y ∷ ys) name x e =
     elim (bytes_eq name y.0) as (λ b. cond b (Some y.1) (entry_of ys name) ≡ Some x → (cond (not b) (1 + place_in_keys ys name) 0 < length (y.0 ∷ keys_of ys)) × (slice_get (y.1 ∷ entries_of ys) (cond (not b) (1 + place_in_keys ys name) 0) ≡ Some x)) [
       | true ↦ λ h. (omega arith, h)
       | false ↦ λ h.
-        let r = numbered_at ys name x h in
-        let short : place_in_keys ys name < length (keys_of ys) = r.0 in
-        let z : suc (place_in_keys ys name) ≡ 1 + place_in_keys ys name = omega arith in
-        (omega (arith, short), subst (λ n. slice_get (y.1 ∷ entries_of ys) n ≡ Some x) z r.1)
+          let r = numbered_at ys name x h in
+          let short : place_in_keys ys name < length (keys_of ys) = r.0 in
+          let z : suc (place_in_keys ys name) ≡ 1 + place_in_keys ys name = omega arith in
+          (omega (arith, short), subst (λ n. slice_get (y.1 ∷ entries_of ys) n ≡ Some x) z r.1)
     ] e
 
 pub numbered : {X : Type 0} (t : Table X) (name : List ℕ) (x : X) → entry_of t name ≡ Some x → (i : ℕ) × (number_of t name ≡ Some i) × (slice_get (entries_of t) i ≡ Some x)

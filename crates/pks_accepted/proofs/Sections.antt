@@ -1,8 +1,8 @@
 -- The sections of a domain, an action and a problem have the forms that the grammar says.
-use Rattle.std.proofs.Common.{◌≡◌, ◌⊎◌, inl, inr, ℕ, Bool, true, false, not, ◌||◌, ◌&&◌, cond, List, [], ◌∷◌, ◌++◌, Option, Some, None, is_none, refl, sym, ap, ◌∙◌, subst, bytes_eq}
+use Rattle.std.proofs.Common.{◌≡◌, ◌⊎◌, inl, inr, ℕ, Bool, true, false, not, ◌&&◌, cond, List, [], ◌∷◌, ◌++◌, Option, Some, None, is_none, refl, sym, ap, ◌∙◌, bytes_eq}
 use Rattle.std.specs.Prelude.{codes}
 use Rattle.std.proofs.lemmas.Bool.{true≢false, false≢true, and_parts}
-use Rattle.pks_text.specs.Forms.{Form, Word, Listing, Forms, no_forms, form}
+use Rattle.pks_text.specs.Forms.{Form, Forms, no_forms, form}
 use Rattle.pks_grammar.specs.declared.grammar.Version.{Version}
 use Rattle.pks_grammar.specs.declared.grammar.Version.TheVariants.{First, Second}
 use Rattle.pks_grammar.specs.declared.grammar.Sort.{Sort}
@@ -10,12 +10,12 @@ use Rattle.pks_grammar.specs.declared.grammar.Sort.TheVariants as sort
 use Rattle.pks_grammar.specs.declared.grammar.Part.{Part}
 use Rattle.pks_grammar.specs.declared.grammar.Part.TheVariants.{One, Maybe, Many}
 use Rattle.pks_grammar.specs.Grammar.{lists, is_allowed, cost_part}
-use Rattle.pks_grammar.specs.Walk.{head_of, is_headed}
+use Rattle.pks_grammar.specs.Walk.{is_headed}
 use Rattle.pks_grammar.specs.Language.{IsOf, Matches, nothing, one, left_out, there, no_more, again}
 use Rattle.pks_meaning.specs.Parts.{behind_head, section}
 use Rattle.pks_meaning.specs.Declarations.{actions_among}
 use Rattle.pks_accepted.specs.Facts.{EachForm}
-use Rattle.pks_accepted.proofs.Shapes.{AllHold, OthersHold, Holds, headed, of_sort, each_of, some_of, Alone, alone}
+use Rattle.pks_accepted.proofs.Shapes.{AllHold, OthersHold, headed, of_sort, each_of, some_of, Alone, alone}
 
 module _ (v : Version) (h : List ℕ) (Q : Forms → Type 0) where
   -- of a form of the sort with this head
@@ -164,9 +164,10 @@ module _ (v : Version) (fs : Forms) (m : Matches v domain_parts fs) where
   types_are =
       let h = codes "types" in
       let Q : Forms → Type 0 = EachForm (IsOf v sort.Kind) in
-      section_holds v h Q tt domain_parts
-      (of_sort v (λ f. is_headed h f ≡ true → Q (behind_head f)) sort.Types (λ text at allowed. absurd (false≢true allowed)) (headed v (λ f. is_headed h f ≡ true → Q (behind_head f)) h (Many sort.Kind ∷ []) refl (λ a at end rest m e. each_of v sort.Kind rest m), tt) tt,
-      (other v h Q sort.Objects refl refl, (other v h Q sort.Predicates refl refl, (other v h Q sort.Functions refl refl, (other v h Q sort.Action refl refl, tt)))))
+      section_holds v h Q tt domain_parts (
+        of_sort v (λ f. is_headed h f ≡ true → Q (behind_head f)) sort.Types (λ text at allowed. absurd (false≢true allowed)) (headed v (λ f. is_headed h f ≡ true → Q (behind_head f)) h (Many sort.Kind ∷ []) refl (λ a at end rest m e. each_of v sort.Kind rest m), tt) tt,
+        (other v h Q sort.Objects refl refl, (other v h Q sort.Predicates refl refl, (other v h Q sort.Functions refl refl, (other v h Q sort.Action refl refl, tt)))),
+      )
       fs m
 
   pub objects_are : EachForm (IsOf v sort.Entry) (section (codes "objects") fs)
@@ -174,10 +175,13 @@ module _ (v : Version) (fs : Forms) (m : Matches v domain_parts fs) where
   objects_are =
       let h = codes "objects" in
       let Q : Forms → Type 0 = EachForm (IsOf v sort.Entry) in
-      section_holds v h Q tt domain_parts
-      (other v h Q sort.Types refl refl,
-      (of_sort v (λ f. is_headed h f ≡ true → Q (behind_head f)) sort.Objects (λ text at allowed. absurd (false≢true allowed)) (headed v (λ f. is_headed h f ≡ true → Q (behind_head f)) h (Many sort.Entry ∷ []) refl (λ a at end rest m e. each_of v sort.Entry rest m), tt) tt,
-      (other v h Q sort.Predicates refl refl, (other v h Q sort.Functions refl refl, (other v h Q sort.Action refl refl, tt)))))
+      section_holds v h Q tt domain_parts (
+        other v h Q sort.Types refl refl,
+        (
+          of_sort v (λ f. is_headed h f ≡ true → Q (behind_head f)) sort.Objects (λ text at allowed. absurd (false≢true allowed)) (headed v (λ f. is_headed h f ≡ true → Q (behind_head f)) h (Many sort.Entry ∷ []) refl (λ a at end rest m e. each_of v sort.Entry rest m), tt) tt,
+          (other v h Q sort.Predicates refl refl, (other v h Q sort.Functions refl refl, (other v h Q sort.Action refl refl, tt))),
+        ),
+      )
       fs m
 
   pub predicates_are : EachForm (IsOf v sort.Entry) (section (codes "predicates") fs)
@@ -185,10 +189,16 @@ module _ (v : Version) (fs : Forms) (m : Matches v domain_parts fs) where
   predicates_are =
       let h = codes "predicates" in
       let Q : Forms → Type 0 = EachForm (IsOf v sort.Entry) in
-      section_holds v h Q tt domain_parts
-      (other v h Q sort.Types refl refl, (other v h Q sort.Objects refl refl,
-      (of_sort v (λ f. is_headed h f ≡ true → Q (behind_head f)) sort.Predicates (λ text at allowed. absurd (false≢true allowed)) (headed v (λ f. is_headed h f ≡ true → Q (behind_head f)) h (Many sort.Entry ∷ []) refl (λ a at end rest m e. each_of v sort.Entry rest m), tt) tt,
-      (other v h Q sort.Functions refl refl, (other v h Q sort.Action refl refl, tt)))))
+      section_holds v h Q tt domain_parts (
+        other v h Q sort.Types refl refl,
+        (
+          other v h Q sort.Objects refl refl,
+          (
+            of_sort v (λ f. is_headed h f ≡ true → Q (behind_head f)) sort.Predicates (λ text at allowed. absurd (false≢true allowed)) (headed v (λ f. is_headed h f ≡ true → Q (behind_head f)) h (Many sort.Entry ∷ []) refl (λ a at end rest m e. each_of v sort.Entry rest m), tt) tt,
+            (other v h Q sort.Functions refl refl, (other v h Q sort.Action refl refl, tt)),
+          ),
+        ),
+      )
       fs m
 
   pub functions_are : EachForm (IsOf v sort.Function) (section (codes "functions") fs)
@@ -196,10 +206,19 @@ module _ (v : Version) (fs : Forms) (m : Matches v domain_parts fs) where
   functions_are =
       let h = codes "functions" in
       let Q : Forms → Type 0 = EachForm (IsOf v sort.Function) in
-      section_holds v h Q tt domain_parts
-      (other v h Q sort.Types refl refl, (other v h Q sort.Objects refl refl, (other v h Q sort.Predicates refl refl,
-      (of_sort v (λ f. is_headed h f ≡ true → Q (behind_head f)) sort.Functions (λ text at allowed. absurd (false≢true allowed)) (headed v (λ f. is_headed h f ≡ true → Q (behind_head f)) h (Many sort.Function ∷ []) refl (λ a at end rest m e. each_of v sort.Function rest m), tt) tt,
-      (other v h Q sort.Action refl refl, tt)))))
+      section_holds v h Q tt domain_parts (
+        other v h Q sort.Types refl refl,
+        (
+          other v h Q sort.Objects refl refl,
+          (
+            other v h Q sort.Predicates refl refl,
+            (
+              of_sort v (λ f. is_headed h f ≡ true → Q (behind_head f)) sort.Functions (λ text at allowed. absurd (false≢true allowed)) (headed v (λ f. is_headed h f ≡ true → Q (behind_head f)) h (Many sort.Function ∷ []) refl (λ a at end rest m e. each_of v sort.Function rest m), tt) tt,
+              (other v h Q sort.Action refl refl, tt),
+            ),
+          ),
+        ),
+      )
       fs m
 
 -- actions alone
@@ -257,9 +276,10 @@ module _ (v : Version) (fs : Forms) (m : Matches v problem_parts fs) where
   init_are =
       let h = codes "init" in
       let Q : Forms → Type 0 = EachForm (IsOf v sort.Start) in
-      section_holds v h Q tt problem_parts
-      (of_sort v (λ f. is_headed h f ≡ true → Q (behind_head f)) sort.Init (λ text at allowed. absurd (false≢true allowed)) (headed v (λ f. is_headed h f ≡ true → Q (behind_head f)) h (Many sort.Start ∷ []) refl (λ a at end rest m e. each_of v sort.Start rest m), tt) tt,
-      (other v h Q sort.Goal refl refl, tt))
+      section_holds v h Q tt problem_parts (
+        of_sort v (λ f. is_headed h f ≡ true → Q (behind_head f)) sort.Init (λ text at allowed. absurd (false≢true allowed)) (headed v (λ f. is_headed h f ≡ true → Q (behind_head f)) h (Many sort.Start ∷ []) refl (λ a at end rest m e. each_of v sort.Start rest m), tt) tt,
+        (other v h Q sort.Goal refl refl, tt),
+      )
       fs m
 
   pub goal_are : EachForm (IsOf v sort.Aim) (section (codes "goal") fs)
@@ -267,8 +287,11 @@ module _ (v : Version) (fs : Forms) (m : Matches v problem_parts fs) where
   goal_are =
       let h = codes "goal" in
       let Q : Forms → Type 0 = EachForm (IsOf v sort.Aim) in
-      section_holds v h Q tt problem_parts
-      (other v h Q sort.Init refl refl,
-      (of_sort v (λ f. is_headed h f ≡ true → Q (behind_head f)) sort.Goal (λ text at allowed. absurd (false≢true allowed)) (headed v (λ f. is_headed h f ≡ true → Q (behind_head f)) h (One sort.Aim ∷ Many sort.Aim ∷ []) refl (λ a at end rest m e. some_of v sort.Aim rest m), tt) tt,
-      tt))
+      section_holds v h Q tt problem_parts (
+        other v h Q sort.Init refl refl,
+        (
+          of_sort v (λ f. is_headed h f ≡ true → Q (behind_head f)) sort.Goal (λ text at allowed. absurd (false≢true allowed)) (headed v (λ f. is_headed h f ≡ true → Q (behind_head f)) h (One sort.Aim ∷ Many sort.Aim ∷ []) refl (λ a at end rest m e. some_of v sort.Aim rest m), tt) tt,
+          tt,
+        ),
+      )
       fs m

@@ -1,39 +1,36 @@
 -- Queries, effects, senses, adds, initial items and aims without a fault are as a file may have them.
-use Rattle.std.proofs.Common.{◌≡◌, ◌⊎◌, inl, inr, ℕ, zero, suc, Bool, true, false, ◌||◌, ◌&&◌, cond, List, [], ◌∷◌, ◌++◌, length, Option, Some, None, option_map, refl, sym, ap, ◌∙◌, subst, bytes_eq, slice_get}
+use Rattle.std.proofs.Common.{◌≡◌, ℕ, true, false, ◌&&◌, List, [], ◌∷◌, ◌++◌, Option, Some, None, option_map, refl, sym, ap, ◌∙◌, subst, slice_get}
 use Rattle.std.specs.Prelude.{codes}
 use Rattle.std.specs.Option.{option_map_or}
-use Rattle.std.proofs.lemmas.Option.{none-some, same_Some}
-use Rattle.std.proofs.lemmas.Bool.{true≢false, false≢true, and_parts}
+use Rattle.std.proofs.lemmas.Option.{same_Some}
+use Rattle.std.proofs.lemmas.Bool.{false≢true, and_parts}
 use Rattle.pks_terms.specs.Sets.{Each}
-use Rattle.pks_terms.specs.Syntax.{Apply, Inner, Term, Literal}
+use Rattle.pks_terms.specs.Syntax.{Inner}
 use Rattle.pks_terms.specs.Orders.{number_of as name_number, arguments_of}
-use Rattle.pks_terms.specs.Signatures.{Shape, Signature, fits_type}
-use Rattle.pks_terms.specs.Closure.{in_sequence}
-use Rattle.pks_terms.specs.Queries.{Plain, KnowWhether, Query}
-use Rattle.pks_terms.specs.Problems.{Start}
+use Rattle.pks_terms.specs.Signatures.{Shape, fits_type}
+use Rattle.pks_terms.specs.Queries.{KnowWhether}
 use Rattle.pks_terms.specs.Versions as versions
 use Rattle.pks_terms.specs.Valid.{all_fit, inner_fits, term_fits, is_term, is_atom, is_pattern, IsLiteralText, IsConjText, IsPlainText, AreQueries, IsTargetText, IsSenseText, IsItemText, IsStartText}
 use Rattle.pks_terms.proofs.Types.{fits_itself}
 use Rattle.pks_text.specs.Forms.{Form, Word, Listing, Forms, no_forms, form}
 use Rattle.pks_grammar.specs.declared.grammar.Version.{Version}
 use Rattle.pks_grammar.specs.declared.grammar.Version.TheVariants.{First, Second}
-use Rattle.pks_grammar.specs.declared.grammar.Sort.{Sort}
 use Rattle.pks_grammar.specs.declared.grammar.Sort.TheVariants as sort
-use Rattle.pks_grammar.specs.declared.grammar.Part.TheVariants.{One, Maybe, Many}
-use Rattle.pks_grammar.specs.Grammar.{lists, is_allowed, earlier, queries, items, targets}
+use Rattle.pks_grammar.specs.declared.grammar.Part.TheVariants.{One, Many}
+use Rattle.pks_grammar.specs.Grammar.{lists, is_allowed, earlier, queries}
 use Rattle.pks_grammar.specs.Files.{Fault}
 use Rattle.pks_grammar.specs.Language.{IsOf, Matches}
 use Rattle.pks_meaning.specs.Scopes.{Scope, signature_in, type_of}
 use Rattle.pks_meaning.specs.Tables.{entries_of}
 use Rattle.pks_meaning.specs.Parts.{parts_of, first_forms, each, only, past}
 use Rattle.pks_meaning.specs.Terms.{mistyped, term_faults, assigned_faults, positive_faults, pattern_faults}
-use Rattle.pks_meaning.specs.Sentences.{literals_faults, plain_faults, query_faults, item_faults, target_faults, conditional_faults, effect_faults, sense_faults, parts_faults, given_faults, add_faults, repeated, start_faults, aim_faults}
-use Rattle.pks_stated.specs.Stated.{first, all, one, term_in, atom_in, literal_in, conj_in, no_pattern, pattern_in, no_literal, only_literal, only_term, only_pattern, plain_in, query_in, item_in, no_atom, assigned_in, target_in, effect_in, sense_in, add_in, start_in, aim_in}
+use Rattle.pks_meaning.specs.Sentences.{literals_faults, plain_faults, query_faults, item_faults, target_faults, effect_faults, sense_faults, parts_faults, add_faults, repeated, start_faults, aim_faults}
+use Rattle.pks_stated.specs.Stated.{all, one, term_in, atom_in, literal_in, conj_in, no_pattern, pattern_in, only_literal, only_term, only_pattern, plain_in, query_in, item_in, no_atom, assigned_in, target_in, effect_in, sense_in, add_in, start_in, aim_in}
 use Rattle.pks_accepted.specs.Facts.{EachForm, HasShapes}
 use Rattle.pks_accepted.proofs.Shapes.{AllHold, headed, of_sort, some_of, two_of, Alone, alone, both_of}
 use Rattle.pks_accepted.proofs.Numbers.{nil_parts, each_forms, each_faultless}
 use Rattle.pks_accepted.proofs.Fitting.{own_types, stands_fits, term_stands}
-use Rattle.pks_accepted.proofs.Literals.{each_first, each_all, only_is_term, only_atom, literal_text, literals_text, conj_text, pattern_text, place_applied, place_stands, only_place}
+use Rattle.pks_accepted.proofs.Literals.{each_first, each_all, only_is_term, only_atom, literals_text, conj_text, pattern_text, place_applied, place_stands, only_place}
 use Rattle.pks_accepted.proofs.Sequences.{each_in_sequence, in_sequence_twice}
 
 -- what a single form without a fault means
@@ -86,9 +83,9 @@ module _ (s : Scope) (shapes : HasShapes s) (v : Version) where
   pub plain_text : (f : Form) → IsOf v sort.Plain f → PlainHolds f
   unfolding lists is_allowed
   plain_text = of_sort v PlainHolds sort.Plain (λ text at allowed. absurd (false≢true allowed)) (
-        headed v PlainHolds (codes "k") (One sort.Literal ∷ []) refl at_k,
-        (headed v PlainHolds (codes "kw") (One sort.Literal ∷ Many sort.Literal ∷ []) refl at_kw, (headed v PlainHolds (codes "kv") (One sort.Term ∷ []) refl at_kv, tt)),
-      ) tt
+    headed v PlainHolds (codes "k") (One sort.Literal ∷ []) refl at_k,
+    (headed v PlainHolds (codes "kw") (One sort.Literal ∷ Many sort.Literal ∷ []) refl at_kw, (headed v PlainHolds (codes "kv") (One sort.Term ∷ []) refl at_kv, tt)),
+  ) tt
 
   one_plain : (rest : Forms) → Matches v (One sort.Plain ∷ []) rest → only (plain_faults s) rest ≡ [] → IsPlainText (signature_in s) (own_types s) (one (KnowWhether []) (plain_in s) rest)
   one_plain rest m e = single (IsOf v sort.Plain) (plain_faults s) (KnowWhether []) (plain_in s) (IsPlainText (signature_in s) (own_types s)) plain_text rest (alone v sort.Plain rest m) e
@@ -99,10 +96,12 @@ module _ (s : Scope) (shapes : HasShapes s) (v : Version) where
   pub query_text : (f : Form) → IsOf v sort.Query f → QueryHolds f
   unfolding lists is_allowed query_faults query_in
   query_text = of_sort v QueryHolds sort.Query (λ text at allowed. absurd (false≢true allowed)) (
-        headed v QueryHolds (codes "not-derived") (One sort.Plain ∷ []) refl (λ a at end rest m e. one_plain rest m e),
-        (headed v QueryHolds (codes "k") (One sort.Literal ∷ []) refl at_k,
-        (headed v QueryHolds (codes "kw") (One sort.Literal ∷ Many sort.Literal ∷ []) refl at_kw, (headed v QueryHolds (codes "kv") (One sort.Term ∷ []) refl at_kv, tt))),
-      ) tt
+    headed v QueryHolds (codes "not-derived") (One sort.Plain ∷ []) refl (λ a at end rest m e. one_plain rest m e),
+    (
+      headed v QueryHolds (codes "k") (One sort.Literal ∷ []) refl at_k,
+      (headed v QueryHolds (codes "kw") (One sort.Literal ∷ Many sort.Literal ∷ []) refl at_kw, (headed v QueryHolds (codes "kv") (One sort.Term ∷ []) refl at_kv, tt)),
+    ),
+  ) tt
 
   -- ---- aims
 
@@ -117,10 +116,16 @@ module _ (s : Scope) (shapes : HasShapes s) (v : Version) where
   )
   aims_hold Second = (
     headed v AimHolds (codes "at-start") (One sort.Plain ∷ []) refl (λ a at end rest m e. one_plain rest m e),
-    (headed v AimHolds (codes "always") (One sort.Plain ∷ []) refl (λ a at end rest m e. one_plain rest m e),
-    (headed v AimHolds (codes "once") (One sort.Plain ∷ []) refl (λ a at end rest m e. one_plain rest m e),
-    (headed v AimHolds (codes "k") (One sort.Literal ∷ []) refl at_k,
-    (headed v AimHolds (codes "kw") (One sort.Literal ∷ Many sort.Literal ∷ []) refl at_kw, (headed v AimHolds (codes "kv") (One sort.Term ∷ []) refl at_kv, tt))))),
+    (
+      headed v AimHolds (codes "always") (One sort.Plain ∷ []) refl (λ a at end rest m e. one_plain rest m e),
+      (
+        headed v AimHolds (codes "once") (One sort.Plain ∷ []) refl (λ a at end rest m e. one_plain rest m e),
+        (
+          headed v AimHolds (codes "k") (One sort.Literal ∷ []) refl at_k,
+          (headed v AimHolds (codes "kw") (One sort.Literal ∷ Many sort.Literal ∷ []) refl at_kw, (headed v AimHolds (codes "kv") (One sort.Term ∷ []) refl at_kv, tt)),
+        ),
+      ),
+    ),
   )
 
   pub aim_text : (f : Form) → IsOf v sort.Aim f → AimHolds f
@@ -151,10 +156,12 @@ module _ (s : Scope) (shapes : HasShapes s) (v : Version) where
   pub item_text : (f : Form) → IsOf v sort.Item f → ItemHolds f
   unfolding lists is_allowed
   item_text = of_sort v ItemHolds sort.Item (λ text at allowed. absurd (false≢true allowed)) (
-        headed v ItemHolds (codes "kf") (One sort.Literal ∷ []) refl at_kf_item,
-        (headed v ItemHolds (codes "kw") (One sort.Literal ∷ Many sort.Literal ∷ []) refl at_kw_item,
-        (headed v ItemHolds (codes "kv") (One sort.Place ∷ []) refl at_kv_item, (headed v ItemHolds (codes "lcw") (One sort.Pattern ∷ []) refl at_lcw_item, tt))),
-      ) tt
+    headed v ItemHolds (codes "kf") (One sort.Literal ∷ []) refl at_kf_item,
+    (
+      headed v ItemHolds (codes "kw") (One sort.Literal ∷ Many sort.Literal ∷ []) refl at_kw_item,
+      (headed v ItemHolds (codes "kv") (One sort.Place ∷ []) refl at_kv_item, (headed v ItemHolds (codes "lcw") (One sort.Pattern ∷ []) refl at_lcw_item, tt)),
+    ),
+  ) tt
 
   -- ---- adds
 
@@ -172,20 +179,27 @@ module _ (s : Scope) (shapes : HasShapes s) (v : Version) where
   at_if a at end (form g (form f (form h fs))) m e = absurd (both_of v sort.Given sort.Item (form g (form f (form h fs))) m)
   at_if a at end (form g (form f no_forms)) m e =
       let are = both_of v sort.Given sort.Item (form g (form f no_forms)) m in
-      let both = nil_parts (parts_faults 4 (query_faults s) (parts_of g)) (item_faults s f) e in
-      (each_first (λ q. IsPlainText (signature_in s) (own_types s) (query_in s q).asks) (λ q. IsPlainText (signature_in s) (own_types s) q.asks) (query_in s) (λ q is. is) 4 (parts_of g)
-              (all_faultless (IsOf v sort.Query) (λ q. IsPlainText (signature_in s) (own_types s) (query_in s q).asks) (query_faults s) 4 query_text (parts_of g) (given_of g are.0) both.0),
-          item_text f are.1 both.1)
+      let both = nil_parts (parts_faults 4 (query_faults s) (parts_of g)) (item_faults s f) e in (
+        each_first (λ q. IsPlainText (signature_in s) (own_types s) (query_in s q).asks) (λ q. IsPlainText (signature_in s) (own_types s) q.asks) (query_in s) (λ q is. is) 4 (parts_of g)
+            (all_faultless (IsOf v sort.Query) (λ q. IsPlainText (signature_in s) (own_types s) (query_in s q).asks) (query_faults s) 4 query_text (parts_of g) (given_of g are.0) both.0),
+        item_text f are.1 both.1,
+      )
 
   pub add_text : (f : Form) → IsOf v sort.Add f → AddHolds f
   unfolding lists is_allowed add_faults add_in
   add_text = of_sort v AddHolds sort.Add (λ text at allowed. absurd (false≢true allowed)) (
-        headed v AddHolds (codes "if") (One sort.Given ∷ One sort.Item ∷ []) refl at_if,
-        (headed v AddHolds (codes "kf") (One sort.Literal ∷ []) refl (λ a at end rest m e. (tt, at_kf_item a at end rest m e)),
-        (headed v AddHolds (codes "kw") (One sort.Literal ∷ Many sort.Literal ∷ []) refl (λ a at end rest m e. (tt, at_kw_item a at end rest m e)),
-        (headed v AddHolds (codes "kv") (One sort.Place ∷ []) refl (λ a at end rest m e. (tt, at_kv_item a at end rest m e)),
-        (headed v AddHolds (codes "lcw") (One sort.Pattern ∷ []) refl (λ a at end rest m e. (tt, at_lcw_item a at end rest m e)), tt)))),
-      ) tt
+    headed v AddHolds (codes "if") (One sort.Given ∷ One sort.Item ∷ []) refl at_if,
+    (
+      headed v AddHolds (codes "kf") (One sort.Literal ∷ []) refl (λ a at end rest m e. (tt, at_kf_item a at end rest m e)),
+      (
+        headed v AddHolds (codes "kw") (One sort.Literal ∷ Many sort.Literal ∷ []) refl (λ a at end rest m e. (tt, at_kw_item a at end rest m e)),
+        (
+          headed v AddHolds (codes "kv") (One sort.Place ∷ []) refl (λ a at end rest m e. (tt, at_kv_item a at end rest m e)),
+          (headed v AddHolds (codes "lcw") (One sort.Pattern ∷ []) refl (λ a at end rest m e. (tt, at_lcw_item a at end rest m e)), tt),
+        ),
+      ),
+    ),
+  ) tt
 
   -- ---- senses
 
@@ -195,10 +209,12 @@ module _ (s : Scope) (shapes : HasShapes s) (v : Version) where
   pub sense_text : (f : Form) → IsOf v sort.Sense f → SenseHolds f
   unfolding lists is_allowed sense_faults sense_in
   sense_text = of_sort v SenseHolds sort.Sense (λ text at allowed. absurd (false≢true allowed)) (
-        headed v SenseHolds (codes "sense") (One sort.Literal ∷ Many sort.Literal ∷ []) refl (λ a at end rest m e. conj_text s shapes v rest (some_of v sort.Literal rest m) e),
-        (headed v SenseHolds (codes "sense-value") (One sort.Place ∷ []) refl (λ a at end rest m e. one_place rest m e),
-        (headed v SenseHolds (codes "sense-all") (One sort.Pattern ∷ []) refl (λ a at end rest m e. one_pattern rest m e), tt)),
-      ) tt
+    headed v SenseHolds (codes "sense") (One sort.Literal ∷ Many sort.Literal ∷ []) refl (λ a at end rest m e. conj_text s shapes v rest (some_of v sort.Literal rest m) e),
+    (
+      headed v SenseHolds (codes "sense-value") (One sort.Place ∷ []) refl (λ a at end rest m e. one_place rest m e),
+      (headed v SenseHolds (codes "sense-all") (One sort.Pattern ∷ []) refl (λ a at end rest m e. one_pattern rest m e), tt),
+    ),
+  ) tt
 
   -- ---- effects
 
@@ -247,10 +263,12 @@ module _ (s : Scope) (shapes : HasShapes s) (v : Version) where
   pub target_text : (f : Form) → IsOf v sort.Target f → TargetHolds f
   unfolding lists is_allowed
   target_text = of_sort v TargetHolds sort.Target (λ text at allowed. absurd (false≢true allowed)) (
-        headed v TargetHolds (codes "set") (One sort.Atom ∷ []) refl at_set,
-        (headed v TargetHolds (codes "unset") (One sort.Atom ∷ []) refl at_unset,
-        (headed v TargetHolds (codes "clear") (One sort.Pattern ∷ []) refl at_clear, (headed v TargetHolds (codes "assign") (One sort.Place ∷ One sort.Term ∷ []) refl at_assign, tt))),
-      ) tt
+    headed v TargetHolds (codes "set") (One sort.Atom ∷ []) refl at_set,
+    (
+      headed v TargetHolds (codes "unset") (One sort.Atom ∷ []) refl at_unset,
+      (headed v TargetHolds (codes "clear") (One sort.Pattern ∷ []) refl at_clear, (headed v TargetHolds (codes "assign") (One sort.Place ∷ One sort.Term ∷ []) refl at_assign, tt)),
+    ),
+  ) tt
 
   condition_of : (f : Form) → IsOf v sort.Condition f → EachForm (IsOf v sort.Literal) (parts_of f)
   unfolding lists is_allowed
@@ -272,12 +290,18 @@ module _ (s : Scope) (shapes : HasShapes s) (v : Version) where
   pub effect_text : (f : Form) → IsOf v sort.Effect f → EffectHolds f
   unfolding lists is_allowed effect_faults effect_in
   effect_text = of_sort v EffectHolds sort.Effect (λ text at allowed. absurd (false≢true allowed)) (
-        headed v EffectHolds (codes "when") (One sort.Condition ∷ One sort.Target ∷ []) refl at_when,
-        (headed v EffectHolds (codes "set") (One sort.Atom ∷ []) refl (λ a at end rest m e. ((tt, tt), at_set a at end rest m e)),
-        (headed v EffectHolds (codes "unset") (One sort.Atom ∷ []) refl (λ a at end rest m e. ((tt, tt), at_unset a at end rest m e)),
-        (headed v EffectHolds (codes "clear") (One sort.Pattern ∷ []) refl (λ a at end rest m e. ((tt, tt), at_clear a at end rest m e)),
-        (headed v EffectHolds (codes "assign") (One sort.Place ∷ One sort.Term ∷ []) refl (λ a at end rest m e. ((tt, tt), at_assign a at end rest m e)), tt)))),
-      ) tt
+    headed v EffectHolds (codes "when") (One sort.Condition ∷ One sort.Target ∷ []) refl at_when,
+    (
+      headed v EffectHolds (codes "set") (One sort.Atom ∷ []) refl (λ a at end rest m e. ((tt, tt), at_set a at end rest m e)),
+      (
+        headed v EffectHolds (codes "unset") (One sort.Atom ∷ []) refl (λ a at end rest m e. ((tt, tt), at_unset a at end rest m e)),
+        (
+          headed v EffectHolds (codes "clear") (One sort.Pattern ∷ []) refl (λ a at end rest m e. ((tt, tt), at_clear a at end rest m e)),
+          (headed v EffectHolds (codes "assign") (One sort.Place ∷ One sort.Term ∷ []) refl (λ a at end rest m e. ((tt, tt), at_assign a at end rest m e)), tt),
+        ),
+      ),
+    ),
+  ) tt
 
   -- ---- initial items, where there are no parameters
 
@@ -289,16 +313,23 @@ module _ (s : Scope) (shapes : HasShapes s) (v : Version) where
     unfolding start_faults start_in
     at_kx a at end rest m e =
         let are = literals_text s shapes v 16 rest (two_of v sort.Literal rest m) (nil_parts (literals_faults s 16 rest) (repeated (first_forms 16 rest)) e).0 in
-        let texts = each_all (λ f. IsLiteralText (signature_in s) (own_types s) (literal_in s f)) (IsLiteralText (signature_in s) (own_types s)) (literal_in s) (λ f is. is) rest are in
-        (each_in_sequence (IsLiteralText (signature_in s) []) (all (literal_in s) rest) (subst (λ (ps : List ℕ). Each (IsLiteralText (signature_in s) ps) (all (literal_in s) rest)) ground texts),
-            in_sequence_twice (all (literal_in s) rest))
+        let texts = each_all (λ f. IsLiteralText (signature_in s) (own_types s) (literal_in s f)) (IsLiteralText (signature_in s) (own_types s)) (literal_in s) (λ f is. is) rest are in (
+          each_in_sequence (IsLiteralText (signature_in s) []) (all (literal_in s) rest) (subst (λ (ps : List ℕ). Each (IsLiteralText (signature_in s) ps) (all (literal_in s) rest)) ground texts),
+          in_sequence_twice (all (literal_in s) rest),
+        )
 
     pub start_text : (f : Form) → IsOf v sort.Start f → StartHolds f
     unfolding lists is_allowed start_faults start_in item_faults
     start_text = of_sort v StartHolds sort.Start (λ text at allowed. absurd (false≢true allowed)) (
-          headed v StartHolds (codes "kx") (One sort.Literal ∷ One sort.Literal ∷ Many sort.Literal ∷ []) refl at_kx,
-          (headed v StartHolds (codes "kf") (One sort.Literal ∷ []) refl (λ a at end rest m e. subst (λ (ps : List ℕ). IsLiteralText (signature_in s) ps (only_literal s rest)) ground (one_literal rest m e)),
-          (headed v StartHolds (codes "kw") (One sort.Literal ∷ Many sort.Literal ∷ []) refl (λ a at end rest m e. subst (λ (ps : List ℕ). IsConjText (signature_in s) ps (conj_in s rest)) ground (conj_text s shapes v rest (some_of v sort.Literal rest m) e)),
-          (headed v StartHolds (codes "kv") (One sort.Place ∷ []) refl (λ a at end rest m e. subst (λ (ps : List ℕ). is_term (signature_in s) ps (only_term s rest) ≡ true) ground (one_place rest m e)),
-          (headed v StartHolds (codes "lcw") (One sort.Pattern ∷ []) refl (λ a at end rest m e. subst (λ (ps : List ℕ). is_pattern (signature_in s) ps (only_pattern s rest) ≡ true) ground (one_pattern rest m e)), tt)))),
-        ) tt
+      headed v StartHolds (codes "kx") (One sort.Literal ∷ One sort.Literal ∷ Many sort.Literal ∷ []) refl at_kx,
+      (
+        headed v StartHolds (codes "kf") (One sort.Literal ∷ []) refl (λ a at end rest m e. subst (λ (ps : List ℕ). IsLiteralText (signature_in s) ps (only_literal s rest)) ground (one_literal rest m e)),
+        (
+          headed v StartHolds (codes "kw") (One sort.Literal ∷ Many sort.Literal ∷ []) refl (λ a at end rest m e. subst (λ (ps : List ℕ). IsConjText (signature_in s) ps (conj_in s rest)) ground (conj_text s shapes v rest (some_of v sort.Literal rest m) e)),
+          (
+            headed v StartHolds (codes "kv") (One sort.Place ∷ []) refl (λ a at end rest m e. subst (λ (ps : List ℕ). is_term (signature_in s) ps (only_term s rest) ≡ true) ground (one_place rest m e)),
+            (headed v StartHolds (codes "lcw") (One sort.Pattern ∷ []) refl (λ a at end rest m e. subst (λ (ps : List ℕ). is_pattern (signature_in s) ps (only_pattern s rest) ≡ true) ground (one_pattern rest m e)), tt),
+          ),
+        ),
+      ),
+    ) tt

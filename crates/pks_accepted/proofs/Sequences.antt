@@ -1,5 +1,5 @@
 -- Literals in sequence stay as they are when they are put in sequence again.
-use Rattle.std.proofs.Common.{◌≡◌, List, [], ◌∷◌, ◌++◌, Less, Equal, Greater, is_eq, is_lt, Ordering, append_assoc, append-nil, refl, sym, ap, ◌∙◌, subst, true≢false, true, false, Bool}
+use Rattle.std.proofs.Common.{◌≡◌, List, [], ◌∷◌, ◌++◌, Less, Equal, Greater, is_eq, is_lt, Ordering, append_assoc, append-nil, refl, sym, ap, ◌∙◌, subst, true≢false, true}
 use Rattle.std.specs.Ordering.{ordering_reverse}
 use Rattle.std.proofs.lemmas.Cmp.{tied_itself}
 use Rattle.pks_terms.specs.Sets.{Each}
@@ -8,7 +8,7 @@ use Rattle.pks_terms.specs.Orders.{literal_cmp}
 use Rattle.pks_terms.specs.Closure.{put_in, all_put_in, in_sequence}
 use Rattle.pks_terms.specs.Totality.{literal_cmp_total}
 use Rattle.pks_terms.proofs.OrderLaws.{literal_cmp_tells}
-use Rattle.pks_terms.proofs.ListLaws.{each_back, each_front, each_append, each_weaker}
+use Rattle.pks_terms.proofs.ListLaws.{each_back, each_front, each_weaker}
 
 module _ (P : Literal → Type 0) where
   each_put_in : (l : Literal) (ms : List Literal) → P l → Each P ms → Each P (put_in l ms)

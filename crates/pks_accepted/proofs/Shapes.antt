@@ -1,20 +1,18 @@
 -- What the forms of a sort are, by the grammar.
-use Rattle.std.proofs.Common.{◌≡◌, ◌⊎◌, inl, inr, ℕ, Bool, true, false, ◌||◌, List, [], ◌∷◌, Option, Some, None, refl, sym, ap, ◌∙◌, subst, bytes_eq, arith}
-use Rattle.std.specs.Prelude.{codes}
+use Rattle.std.proofs.Common.{◌≡◌, inl, inr, ℕ, Bool, true, false, List, [], ◌∷◌, Option, Some, None, refl, sym, ap, ◌∙◌, subst, bytes_eq, arith}
 use Rattle.std.proofs.lemmas.Bool.{false≢true, true≢false}
 use Rattle.std.proofs.lemmas.Slice.Eq.{bytes_eq-Decides}
 use Rattle.pks_text.specs.Forms.{Form, Word, Listing, Forms, no_forms, form}
-use Rattle.pks_terms.specs.Sets.{Each, IsIn}
+use Rattle.pks_terms.specs.Sets.{IsIn}
 use Rattle.pks_grammar.specs.declared.grammar.Version.{Version}
-use Rattle.pks_grammar.specs.declared.grammar.Version.TheVariants.{First, Second}
 use Rattle.pks_grammar.specs.declared.grammar.Sort.{Sort}
-use Rattle.pks_grammar.specs.declared.grammar.Sort.TheVariants.{Nothing, Head, Name, Variable, Number, Domain, Types, Kind, Objects, Predicates, Functions, Entry, Function, Action, Cost, Params, Param, Pre, Effects, Effect, Condition, Target, Senses, Sense, Knows, Add, Given, Item, Query, Plain, Problem, Init, Start, Goal, Aim, Literal, Positive, Atom, Pattern, Slot, Place, Term, World, True, Values, Value, Fact}
+use Rattle.pks_grammar.specs.declared.grammar.Sort.TheVariants.{Head, Name, Variable, Number}
 use Rattle.pks_grammar.specs.declared.grammar.Part.{Part}
-use Rattle.pks_grammar.specs.declared.grammar.Part.TheVariants.{One, Maybe, Many}
-use Rattle.pks_grammar.specs.Words.{is_name, is_variable, is_wild, is_number}
+use Rattle.pks_grammar.specs.declared.grammar.Part.TheVariants.{One, Many}
+use Rattle.pks_grammar.specs.Words.{is_name, is_variable, is_number}
 use Rattle.pks_grammar.specs.Grammar.{Lists, is_allowed, lists, is_among}
-use Rattle.pks_grammar.specs.Walk.{head_of, is_headed}
-use Rattle.pks_grammar.specs.Language.{IsOf, word, listing, MayHave, Matches, nothing, one, left_out, there, no_more, again}
+use Rattle.pks_grammar.specs.Walk.{head_of}
+use Rattle.pks_grammar.specs.Language.{IsOf, word, listing, MayHave, Matches, one, no_more, again}
 use Rattle.pks_accepted.specs.Facts.{EachForm}
 
 -- ---- parts

@@ -1,31 +1,30 @@
 -- The signature that declarations without a fault give is valid.
-use Rattle.std.proofs.Common.{◌≡◌, ◌⊎◌, inl, inr, ℕ, zero, suc, ◌+◌, ◌≤◌, ◌<◌, ◌==◌, Bool, true, false, ◌||◌, nat_lt, bytes_eq, unwrap_or, cond, List, [], ◌∷◌, ◌++◌, length, Option, Some, None, refl, sym, ap, ◌∙◌, subst, arith, slice_get}
+use Rattle.std.proofs.Common.{◌≡◌, inl, inr, ℕ, zero, suc, ◌+◌, ◌≤◌, ◌<◌, ◌==◌, Bool, true, false, ◌||◌, nat_lt, bytes_eq, unwrap_or, cond, List, [], ◌∷◌, ◌++◌, length, Option, Some, None, refl, sym, ap, ◌∙◌, subst, arith, slice_get}
 use Rattle.std.specs.Prelude.{codes}
 use Rattle.std.specs.Option.{option_map_or, option_and_then}
-use Rattle.std.proofs.lemmas.Option.{none-some, same_Some}
-use Rattle.std.proofs.lemmas.Bool.{true≢false, false≢true, or_cases}
+use Rattle.std.proofs.lemmas.Option.{none-some}
+use Rattle.std.proofs.lemmas.Bool.{false≢true, or_cases}
 use Rattle.pks_terms.specs.Sets.{Each, IsIn}
-use Rattle.pks_terms.specs.Signatures.{Shape, Signature, fits_type, fits_within, parent_of, object_is_of, objects_of, HasValues}
+use Rattle.pks_terms.specs.Signatures.{Shape, Signature, fits_type, fits_within, parent_of, object_is_of, objects_of}
 use Rattle.pks_terms.specs.Valid.{IsValidSignature}
 use Rattle.pks_terms.proofs.ListLaws.{each_weaker}
 use Rattle.pks_terms.proofs.Types.{are_objects_of}
-use Rattle.pks_text.specs.Forms.{Form, Word, Listing, Forms, no_forms, form, place_of}
+use Rattle.pks_text.specs.Forms.{Form, Forms, no_forms, form, place_of}
 use Rattle.pks_grammar.specs.declared.grammar.Version.{Version}
-use Rattle.pks_grammar.specs.declared.grammar.Version.TheVariants.{First, Second}
 use Rattle.pks_grammar.specs.declared.grammar.Sort.TheVariants as sort
 use Rattle.pks_grammar.specs.declared.grammar.Part.TheVariants.{One, Many}
 use Rattle.pks_grammar.specs.Grammar.{lists, is_allowed}
-use Rattle.pks_grammar.specs.Files.{Fault, or_else}
+use Rattle.pks_grammar.specs.Files.{Fault}
 use Rattle.pks_grammar.specs.Language.{IsOf, Matches}
-use Rattle.pks_meaning.specs.Tables.{Table, number_of, entry_of, entries_of, too_long, unknown}
+use Rattle.pks_meaning.specs.Tables.{number_of, entries_of, too_long, unknown}
 use Rattle.pks_meaning.specs.Scopes.{Scope, signature_in, fits}
 use Rattle.pks_meaning.specs.Parts.{text_of, behind, behind_head, section, first_forms, all_but_last, last_of, each, past}
-use Rattle.pks_meaning.specs.Declarations.{Types, name_of, type_faults, type_named, types_named, first_in, types_in, types_section, most_objects, objects_in, objects_section, predicate_in, predicate_faults, predicates_in, predicates_section, result_named, function_in, has_object, empty_faults, function_faults, functions_in, functions_section, parameter_in, within}
-use Rattle.pks_meaning.specs.Meaning.{scope_of, least}
+use Rattle.pks_meaning.specs.Declarations.{Types, name_of, type_faults, types_named, first_in, types_in, most_objects, objects_section, predicate_in, predicate_faults, predicates_section, result_named, function_in, has_object, empty_faults, function_faults, functions_section, parameter_in, within}
+use Rattle.pks_meaning.specs.Meaning.{scope_of}
 use Rattle.pks_accepted.specs.Facts.{EachForm, HasShapes, IsSmall}
 use Rattle.pks_accepted.proofs.Shapes.{of_sort, one_first, one_missing}
 use Rattle.pks_accepted.proofs.Numbers.{nil_parts, unless, known, within_table, each_got, each_forms, each_faultless}
-use Rattle.pks_accepted.proofs.Tabled.{every_form, each_of_first, first_count, last_holds, each_but_last, each_tabled, section_faultless, section_length, entries_length, type_within, types_within, types_length, earlier_types, types_count, objects_length, objects_within}
+use Rattle.pks_accepted.proofs.Tabled.{every_form, each_of_first, first_count, last_holds, each_but_last, each_tabled, section_faultless, section_length, entries_length, types_within, types_length, earlier_types, types_count, objects_length, objects_within}
 
 -- ---- types by their parents alone
 
@@ -87,10 +86,10 @@ result_object : (s : Scope) (g : Form) (w : ℕ) → number_of s.types (text_of 
 unfolding object_is_of
 result_object s g w number e =
     let full : ◌≡◌ {A = List Fault} (cond (has_object (before s) (entries_of s.objects) w) [] ((place_of g, 209) ∷ [])) [] =
-        sym (ap (λ (o : Option ℕ). elim o as (λ _. List Fault) [ None ↦ [] | Some wanted ↦ cond (has_object (before s) (entries_of s.objects) wanted) [] ((place_of g, 209) ∷ []) ]) number) ∙ e in
+    sym (ap (λ (o : Option ℕ). elim o as (λ _. List Fault) [ None ↦ [] | Some wanted ↦ cond (has_object (before s) (entries_of s.objects) wanted) [] ((place_of g, 209) ∷ []) ]) number) ∙ e in
     let r = found_object (before s) (entries_of s.objects) w (unless (place_of g, 209) (has_object (before s) (entries_of s.objects) w) full) in
     let same : option_map_or (λ own. fits s own w) (slice_get (entries_of s.objects) r.0) false ≡ option_map_or (λ own. fits (before s) own w) (slice_get (entries_of s.objects) r.0) false =
-        (λ i. option_map_or (λ own. fits_alike (signature_in s) (signature_in (before s)) refl own w i) (slice_get (entries_of s.objects) r.0) false) in
+    (λ i. option_map_or (λ own. fits_alike (signature_in s) (signature_in (before s)) refl own w i) (slice_get (entries_of s.objects) r.0) false) in
     (r.0, are_objects_of (signature_in s) w r.0 (same ∙ r.1))
 
 pub function_valid : (s : Scope) (f : Form) → AreSome (behind_head f) → function_faults (before s) f ≡ [] → IsFunction (signature_in s) (function_in s.types f)
@@ -99,7 +98,7 @@ function_valid s f some e = by_parts (behind_head f) some e
   where
     by_parts : (fs : Forms) → AreSome fs → each (type_faults s.types) fs ++ (past 2 (all_but_last fs) ++ empty_faults (before s) (last_of fs)) ≡ []
         → (Each (λ a. a < length s.types) (types_named s.types 2 (all_but_last fs)) × (length (types_named s.types 2 (all_but_last fs)) ≤ 2) × (result_named s.types (last_of fs) < length s.types))
-            × ((x : ℕ) × IsIn x (objects_of (signature_in s) (result_named s.types (last_of fs))))
+        × ((x : ℕ) × IsIn x (objects_of (signature_in s) (result_named s.types (last_of fs))))
     by_parts no_forms some e = absurd some
     by_parts (form h hs) some e =
         let fs = form h hs in
@@ -111,9 +110,10 @@ function_valid s f some e = by_parts (behind_head f) some e
         let r = known (place_of g) 203 (number_of s.types (text_of g)) (nil_parts (too_long (text_of g) (place_of g)) (unknown (place_of g) 203 (number_of s.types (text_of g))) l.2).1 in
         let object = result_object s g r.0 r.1 (sym (ap (λ (o : Option Form). empty_faults (before s) o) l.1) ∙ rest.1) in
         let result : result_named s.types (last_of fs) ≡ r.0 = ap (λ (o : Option Form). result_named s.types o) l.1 ∙ ap (λ (o : Option ℕ). unwrap_or o 0) r.1 in
-        let within : r.0 < length s.types = within_table s.types (text_of g) r.0 r.1 in
-        ((types_within s.types 2 (all_but_last fs) (each_but_last (λ f. type_faults s.types f ≡ []) fs types), types_length s.types 2 (all_but_last fs), subst (λ (n : ℕ). n < length s.types) (sym result) within),
-            (object.0, subst (λ (n : ℕ). IsIn object.0 (objects_of (signature_in s) n)) (sym result) object.1))
+        let within : r.0 < length s.types = within_table s.types (text_of g) r.0 r.1 in (
+          (types_within s.types 2 (all_but_last fs) (each_but_last (λ f. type_faults s.types f ≡ []) fs types), types_length s.types 2 (all_but_last fs), subst (λ (n : ℕ). n < length s.types) (sym result) within),
+          (object.0, subst (λ (n : ℕ). IsIn object.0 (objects_of (signature_in s) n)) (sym result) object.1),
+        )
 
 -- ---- the whole
 
@@ -150,20 +150,22 @@ signature_valid v version domain are no_object no_predicate no_function =
     let small = scope_small version domain in
     let few = section (codes "functions") domain in
     let functions = each_tabled (IsFunction (signature_in s)) first_in (function_in s.types) [] (first_forms 32 few) tt
-        (each_forms (IsOf v sort.Function) (λ f. function_faults (before s) f ≡ []) (λ f. IsFunction (signature_in s) (function_in s.types f)) (λ f is e. function_valid s f (has_result v f is) e)
-        (first_forms 32 few) (each_of_first (IsOf v sort.Function) 32 few are) (section_faultless first_in 32 (function_in s.types) (function_faults (before s)) few no_function)) in
+    (each_forms (IsOf v sort.Function) (λ f. function_faults (before s) f ≡ []) (λ f. IsFunction (signature_in s) (function_in s.types f)) (λ f is e. function_valid s f (has_result v f is) e)
+    (first_forms 32 few) (each_of_first (IsOf v sort.Function) 32 few are) (section_faultless first_in 32 (function_in s.types) (function_faults (before s)) few no_function)) in
     let predicates = each_tabled (IsPredicate (length s.types)) first_in (predicate_in s.types) [] (first_forms 32 (section (codes "predicates") domain)) tt
-        (each_forms (λ f. predicate_faults s.types f ≡ []) (λ f. predicate_faults s.types f ≡ []) (λ f. IsPredicate (length s.types) (predicate_in s.types f)) (λ f e also. predicate_valid s.types f e)
-        (first_forms 32 (section (codes "predicates") domain))
-        (section_faultless first_in 32 (predicate_in s.types) (predicate_faults s.types) (section (codes "predicates") domain) no_predicate)
-        (section_faultless first_in 32 (predicate_in s.types) (predicate_faults s.types) (section (codes "predicates") domain) no_predicate)) in
+    (each_forms (λ f. predicate_faults s.types f ≡ []) (λ f. predicate_faults s.types f ≡ []) (λ f. IsPredicate (length s.types) (predicate_in s.types f)) (λ f e also. predicate_valid s.types f e)
+    (first_forms 32 (section (codes "predicates") domain))
+    (section_faultless first_in 32 (predicate_in s.types) (predicate_faults s.types) (section (codes "predicates") domain) no_predicate)
+    (section_faultless first_in 32 (predicate_in s.types) (predicate_faults s.types) (section (codes "predicates") domain) no_predicate)) in
     record {
       counted = entries_length s.types;
       parents = λ n up e. let r : up < 0 + n = earlier_types [] (first_forms 16 (section (codes "types") domain)) (λ n up e. absurd (none-some (Some up) e)) n up e in omega (arith, r);
       objects = (objects_within s.types (most_objects version) [] (section (codes "objects") domain) tt no_object, let a = small.objects in let b = entries_length s.objects in omega (arith, a, b));
       predicates = (predicates, let a = small.predicates in let b = entries_length s.predicates in omega (arith, a, b));
-      functions = (each_weaker (IsFunction (signature_in s)) (λ x. Each (λ a. a < length s.types) x.arguments × (length x.arguments ≤ 2) × (x.result < length s.types)) (λ x is. is.0) (entries_of s.functions) functions,
-          let a = small.functions in let b = entries_length s.functions in omega (arith, a, b));
+      functions = (
+        each_weaker (IsFunction (signature_in s)) (λ x. Each (λ a. a < length s.types) x.arguments × (length x.arguments ≤ 2) × (x.result < length s.types)) (λ x is. is.0) (entries_of s.functions) functions,
+        let a = small.functions in let b = entries_length s.functions in omega (arith, a, b),
+      );
       values = λ f x e. (each_got (IsFunction (signature_in s)) (entries_of s.functions) f x functions e).1;
     }
 

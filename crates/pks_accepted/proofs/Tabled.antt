@@ -1,19 +1,19 @@
 -- What the tables of declarations hold.
-use Rattle.std.proofs.Common.{◌≡◌, ◌⊎◌, inl, inr, ℕ, zero, suc, ◌+◌, ◌-◌, ◌≤◌, ◌<◌, Bool, true, false, ◌||◌, cond, is_some, List, [], ◌∷◌, ◌++◌, length, Option, Some, None, refl, sym, ap, ◌∙◌, subst, bytes_eq, arith, slice_get, unwrap_or}
+use Rattle.std.proofs.Common.{◌≡◌, ◌⊎◌, inl, inr, ℕ, zero, suc, ◌+◌, ◌-◌, ◌≤◌, ◌<◌, Bool, true, false, cond, List, [], ◌∷◌, ◌++◌, length, Option, Some, refl, sym, ap, subst, bytes_eq, arith, slice_get, unwrap_or}
 use Rattle.std.specs.Map.{keys_of}
 use Rattle.std.proofs.lemmas.Option.{none-some, same_Some}
-use Rattle.std.proofs.lemmas.Bool.{true≢false, false≢true}
+use Rattle.std.proofs.lemmas.Bool.{false≢true}
 use Rattle.std.proofs.lemmas.Slice.Eq.{bytes_eq-Decides}
 use Rattle.pks_terms.specs.Sets.{Each, IsIn}
 use Rattle.pks_terms.specs.ValidProblems.{AreDifferent}
-use Rattle.pks_text.specs.Forms.{Form, Word, Listing, Forms, no_forms, form, place_of}
+use Rattle.pks_text.specs.Forms.{Form, Forms, no_forms, form, place_of}
 use Rattle.pks_grammar.specs.Walk.{count}
 use Rattle.pks_grammar.specs.Files.{Fault}
-use Rattle.pks_meaning.specs.Tables.{Table, number_of, entry_of, entries_of, declare, too_long, unknown}
-use Rattle.pks_meaning.specs.Parts.{text_of, behind_head, first_forms, all_but_last, last_of, each, only}
-use Rattle.pks_meaning.specs.Declarations.{name_of, name_faults, table_from, entries_faults, past_names, section_faults, section_table, Types, type_faults, type_named, types_named, parent_named, types_from, first_in, second_in, no_faults, objects_from, objects_faults, objects_faults_in}
+use Rattle.pks_meaning.specs.Tables.{Table, number_of, entries_of, declare, too_long, unknown}
+use Rattle.pks_meaning.specs.Parts.{text_of, behind_head, first_forms, all_but_last, last_of}
+use Rattle.pks_meaning.specs.Declarations.{name_of, name_faults, table_from, entries_faults, past_names, section_faults, section_table, Types, type_faults, type_named, types_named, parent_named, types_from, first_in, no_faults, objects_from, objects_faults, objects_faults_in}
 use Rattle.pks_accepted.specs.Facts.{EachForm}
-use Rattle.pks_accepted.proofs.Numbers.{nil_parts, cons_nil, known, within_table, each_faultless}
+use Rattle.pks_accepted.proofs.Numbers.{nil_parts, cons_nil, known, within_table}
 
 -- ---- forms
 

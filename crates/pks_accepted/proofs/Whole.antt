@@ -1,34 +1,32 @@
 -- A file without a fault states a valid problem.
-use Rattle.std.proofs.Common.{◌≡◌, ◌⊎◌, inl, inr, ℕ, zero, suc, ◌+◌, ◌≤◌, ◌<◌, nat_lt, Bool, true, false, cond, List, [], ◌∷◌, ◌++◌, length, take, Option, Some, None, refl, sym, ap, ◌∙◌, subst, arith}
+use Rattle.std.proofs.Common.{◌≡◌, ◌⊎◌, inl, inr, ℕ, ◌≤◌, ◌<◌, nat_lt, List, [], ◌∷◌, ◌++◌, length, Option, Some, None, refl, sym, ap, subst, arith}
 use Rattle.std.specs.Prelude.{codes}
 use Rattle.std.proofs.lemmas.Option.{none-some}
-use Rattle.std.proofs.lemmas.Bool.{true≢false, false≢true}
+use Rattle.std.proofs.lemmas.Bool.{false≢true}
 use Rattle.pks_terms.specs.Sets.{Each}
 use Rattle.pks_terms.specs.Actions.{Schema}
 use Rattle.pks_terms.specs.Versions.{IsNow, IsFirstVersion}
 use Rattle.pks_terms.specs.Versions as versions
 use Rattle.pks_terms.specs.Valid.{IsConjText, IsPlainText, AreQueries, IsTargetText, IsSenseText, IsItemText, IsSchemaText, IsStartText, IsValidSignature, IsValid}
-use Rattle.pks_text.specs.Forms.{Form, Word, Listing, Forms, no_forms, form, place_of}
+use Rattle.pks_text.specs.Forms.{Form, Word, Listing, Forms, no_forms, form}
 use Rattle.pks_grammar.specs.declared.grammar.Version.{Version}
 use Rattle.pks_grammar.specs.declared.grammar.Version.TheVariants.{First, Second}
 use Rattle.pks_grammar.specs.declared.grammar.Sort.TheVariants as sort
 use Rattle.pks_grammar.specs.declared.grammar.Part.TheVariants.{One, Many}
-use Rattle.pks_grammar.specs.Words.{is_number}
-use Rattle.pks_grammar.specs.Grammar.{lists, is_allowed, queries}
-use Rattle.pks_grammar.specs.Walk.{is_headed, count}
-use Rattle.pks_grammar.specs.Files.{Fault, or_else, number_of}
+use Rattle.pks_grammar.specs.Grammar.{lists, is_allowed}
+use Rattle.pks_grammar.specs.Walk.{count}
+use Rattle.pks_grammar.specs.Files.{or_else, number_of}
 use Rattle.pks_grammar.specs.Language.{IsOf, Matches}
-use Rattle.pks_meaning.specs.Tables.{Table, entries_of}
 use Rattle.pks_meaning.specs.Scopes.{Scope, signature_in}
-use Rattle.pks_meaning.specs.Parts.{text_of, behind, behind_head, section, first_forms, each, only, past}
+use Rattle.pks_meaning.specs.Parts.{behind, behind_head, section, first_forms, each, only}
 use Rattle.pks_meaning.specs.Sentences.{query_faults, effect_faults, sense_faults, add_faults, parts_faults, start_faults, aim_faults, problem_faults}
-use Rattle.pks_meaning.specs.Declarations.{Types, type_faults, type_named, parent_named, first_in, second_in, parameter_in, parameters_in, parameters_section, within, cost_faults, parts_section, action_faults, actions_among, actions_section, nothing, entries_faults, past_names, types_section, objects_section, predicates_section, functions_section}
+use Rattle.pks_meaning.specs.Declarations.{Types, type_faults, parent_named, first_in, second_in, parameter_in, parameters_section, within, cost_faults, parts_section, action_faults, actions_among, actions_section, nothing, entries_faults, past_names, types_section, objects_section, predicates_section, functions_section}
 use Rattle.pks_meaning.specs.Meaning.{scope_of, least}
 use Rattle.pks_meaning.proofs.Least.{least_none}
 use Rattle.pks_domain.specs.FirstFault.{declarations_fault, meaning_fault}
-use Rattle.pks_stated.specs.Stated.{all, cost_in, numeral, query_in, effect_in, sense_in, add_in, schema_in, start_in, aim_in, problem_in}
+use Rattle.pks_stated.specs.Stated.{all, cost_in, query_in, effect_in, sense_in, add_in, schema_in, start_in, aim_in, problem_in}
 use Rattle.pks_accepted.specs.Facts.{EachForm, HasShapes}
-use Rattle.pks_accepted.proofs.Shapes.{AllHold, IsWord, number_is, headed, of_sort, one_first, one_missing, Alone, both_of}
+use Rattle.pks_accepted.proofs.Shapes.{number_is, headed, of_sort, one_first, one_missing, Alone}
 use Rattle.pks_accepted.proofs.Numbers.{nil_parts, when, each_forms, each_faultless}
 use Rattle.pks_accepted.proofs.Fitting.{own_types}
 use Rattle.pks_accepted.proofs.Literals.{each_all}
@@ -101,9 +99,9 @@ first_parent = of_sort First (λ f. (t : Types) → parent_named t (behind_head 
 first_aim : (s : Scope) (f : Form) → IsOf First sort.Aim f → IsNow (aim_in s f)
 unfolding lists is_allowed aim_in
 first_aim s = of_sort First (λ f. IsNow (aim_in s f)) sort.Aim (λ text at allowed. absurd (false≢true allowed)) (
-      headed First (λ f. IsNow (aim_in s f)) (codes "k") (One sort.Literal ∷ []) refl (λ a at end rest m. tt),
-      (headed First (λ f. IsNow (aim_in s f)) (codes "kw") (One sort.Literal ∷ Many sort.Literal ∷ []) refl (λ a at end rest m. tt), (headed First (λ f. IsNow (aim_in s f)) (codes "kv") (One sort.Term ∷ []) refl (λ a at end rest m. tt), tt)),
-    ) tt
+  headed First (λ f. IsNow (aim_in s f)) (codes "k") (One sort.Literal ∷ []) refl (λ a at end rest m. tt),
+  (headed First (λ f. IsNow (aim_in s f)) (codes "kw") (One sort.Literal ∷ Many sort.Literal ∷ []) refl (λ a at end rest m. tt), (headed First (λ f. IsNow (aim_in s f)) (codes "kv") (One sort.Term ∷ []) refl (λ a at end rest m. tt), tt)),
+) tt
 
 first_cost : (s : Scope) (f : Form) → IsOf First sort.Action f → (schema_in s (behind_head f)).cost ≡ 1
 unfolding schema_in
@@ -145,13 +143,14 @@ schemas_text v s shapes domain m e =
     let both = nil_parts (entries_faults second_in nothing (λ f. action_faults s (behind_head f)) [] (first_forms 64 fs)) (past_names second_in 64 fs) e in
     let same : first_forms 64 fs ≡ fs = first_all second_in 64 fs both.1 in
     let faultless : EachForm (λ f. action_faults s (behind_head f) ≡ []) fs =
-        subst (λ (gs : Forms). EachForm (λ f. action_faults s (behind_head f) ≡ []) gs) same (section_faultless second_in 64 nothing (λ f. action_faults s (behind_head f)) fs e) in
+    subst (λ (gs : Forms). EachForm (λ f. action_faults s (behind_head f) ≡ []) gs) same (section_faultless second_in 64 nothing (λ f. action_faults s (behind_head f)) fs e) in
     let few : count (first_forms 64 fs) ≤ 64 = (first_count 64 fs).0 in
     let counted : count (first_forms 64 fs) ≡ count fs = ap count same in
-    let long : length (all (λ f. schema_in s (behind_head f)) fs) ≡ count fs = all_length (λ f. schema_in s (behind_head f)) fs in
-    (each_all (λ f. IsSchemaText (signature_in s) (schema_in s (behind_head f))) (IsSchemaText (signature_in s)) (λ f. schema_in s (behind_head f)) (λ f is. is) fs
-            (each_forms (IsOf v sort.Action) (λ f. action_faults s (behind_head f) ≡ []) (λ f. IsSchemaText (signature_in s) (schema_in s (behind_head f))) (schema_text v s shapes) fs (actions_are v domain m) faultless),
-        omega (arith, few, counted, long))
+    let long : length (all (λ f. schema_in s (behind_head f)) fs) ≡ count fs = all_length (λ f. schema_in s (behind_head f)) fs in (
+      each_all (λ f. IsSchemaText (signature_in s) (schema_in s (behind_head f))) (IsSchemaText (signature_in s)) (λ f. schema_in s (behind_head f)) (λ f is. is) fs
+          (each_forms (IsOf v sort.Action) (λ f. action_faults s (behind_head f) ≡ []) (λ f. IsSchemaText (signature_in s) (schema_in s (behind_head f))) (schema_text v s shapes) fs (actions_are v domain m) faultless),
+      omega (arith, few, counted, long),
+    )
 
 pub starts_text : (v : Version) (s : Scope) → HasShapes s → own_types s ≡ [] → (problem : Forms) → EachForm (IsOf v sort.Start) (section (codes "init") problem) → each (start_faults s) (section (codes "init") problem) ≡ []
     → Each (IsStartText (signature_in s)) (all (start_in s) (section (codes "init") problem))

@@ -1,5 +1,5 @@
 -- What holds of each form, and of declared shapes.
-use Rattle.std.specs.Prelude.{ℕ, ◌≡◌, ◌≤◌, length, List, map, codes}
+use Rattle.std.specs.Prelude.{◌≡◌, ◌≤◌, length, map, codes}
 use Rattle.pks_text.specs.Forms.{Form, Forms, no_forms, form}
 use Rattle.pks_terms.specs.Sets.{Each, IsIn}
 use Rattle.pks_terms.specs.Signatures.{Shape}
