@@ -1,5 +1,5 @@
 -- One entry more of a section.
-use Rattle.std.proofs.Common.{◌≡◌, ℕ, zero, suc, ◌+◌, ◌-◌, ◌<◌, ◌≤◌, ◌||◌, Bool, true, false, cond, bytes_eq, List, [], ◌∷◌, ◌++◌, length, drop, take, slice_index_or, slice_get, Option, Some, None, refl, sym, ap, ◌∙◌, arith}
+use Rattle.std.proofs.Common.{◌≡◌, ℕ, zero, suc, ◌+◌, ◌-◌, ◌<◌, ◌≤◌, Bool, true, false, cond, bytes_eq, List, [], ◌∷◌, ◌++◌, length, drop, take, slice_index_or, Option, Some, refl, sym, ap, ◌∙◌, arith}
 use Rattle.pks_text.specs.Forms.{Form, Forms, no_forms, form}
 use Rattle.pks_text.specs.declared.tree.Form.{Form as CodeForm}
 use Rattle.pks_text.specs.FormViews.{form_view, forms_view}

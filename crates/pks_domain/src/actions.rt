@@ -8,7 +8,10 @@ ghost use Rattle.pks_meaning.specs.Declarations.{first_in, second_in, name_of, n
 ghost use Rattle.pks_meaning.specs.Meaning.{all_noted};
 ghost use Rattle.pks_meaning.specs.Views.{found_of, names_of, scope_view};
 
-use crate::declaring::{Memory, Types, check_name, declare, first_in, name_of, only_type, past_first_names, past_second_names, second_in, type_named};
+use crate::declaring::{
+    Memory, Types, check_name, declare, first_in, name_of, only_type, past_first_names,
+    past_second_names, second_in, type_named,
+};
 use indexmap::IndexMap;
 use pks_grammar::walk::is_headed;
 use pks_meaning::parts::{behind_head, first_forms, place_of, section, text_of};
@@ -118,7 +121,12 @@ fn action<'s>(
     ensures { OnOk result (found_of report.new ≡ all_noted (found_of report.old) (action_faults (scope_view scope.now) (forms_view forms.now))) }
 {
     only_cost(report, section("cost", forms));
-    let parameters = parameters(alloc, report, &scope.declared.types, section("params", forms))?;
+    let parameters = parameters(
+        alloc,
+        report,
+        &scope.declared.types,
+        section("params", forms),
+    )?;
     let inner = Scope {
         declared: scope.declared,
         parameters: &parameters,

@@ -9,10 +9,10 @@ ghost use Rattle.pks_meaning.specs.Declarations.{first_or, first_in, second_in, 
 ghost use Rattle.pks_meaning.specs.Meaning.{noted, all_noted};
 ghost use Rattle.pks_meaning.specs.Views.{found_of, names_of, seen};
 
+use indexmap::IndexMap;
 use pks_meaning::parts::{behind_head, parts_of, place_of, text_of};
 use pks_meaning::report::Report;
 use pks_meaning::scope::{entry, name_in, number};
-use indexmap::IndexMap;
 use pks_terms::ids::TypeId;
 use pks_terms::problem::Shape;
 use pks_text::Form;

@@ -110,13 +110,22 @@ fn most_objects(version: u8) -> usize
 /// What a domain of this version declares, and the first fault of its declarations. `domain` has its parts behind the
 /// head. Memory may be wanting.
 #[tactic(auto, unfolding(crate::specs::FirstFault::declarations_fault, pks_meaning::specs::Meaning::scope_of, pks_meaning::specs::Declarations::objects_section))]
-pub fn declarations<'s>(alloc: Global, version: u8, domain: &[Form<'s>]) -> Result<Domain<'s>, Memory>
+pub fn declarations<'s>(
+    alloc: Global,
+    version: u8,
+    domain: &[Form<'s>],
+) -> Result<Domain<'s>, Memory>
     ensures declared { IfOk result (λ d. declared_view d.declared ≡ scope_of version (forms_view domain.now)) }
     ensures fault { IfOk result (λ d. option_map fault_view d.fault ≡ declarations_fault version (forms_view domain.now)) }
     ensures few { IfOk result (λ d. length (names_of d.declared.types) ≤ 16) }
 {
     let (types, first) = first_types(alloc, section("types", domain))?;
-    let (objects, second) = first_objects(alloc, &types, most_objects(version), section("objects", domain))?;
+    let (objects, second) = first_objects(
+        alloc,
+        &types,
+        most_objects(version),
+        section("objects", domain),
+    )?;
     let (predicates, third) = first_predicates(alloc, &types, section("predicates", domain))?;
     let before = Declared {
         types,
@@ -135,7 +144,11 @@ pub fn declarations<'s>(alloc: Global, version: u8, domain: &[Form<'s>]) -> Resu
     Ok(Domain { declared, fault })
 }
 
-fn first_action<'s>(alloc: Global, scope: &Scope<'_, 's>, domain: &[Form<'s>]) -> Result<Option<Fault>, Memory>
+fn first_action<'s>(
+    alloc: Global,
+    scope: &Scope<'_, 's>,
+    domain: &[Form<'s>],
+) -> Result<Option<Fault>, Memory>
     requires { length (scope_view scope.now).types ≤ 16 }
     ensures { IfOk result (λ f. option_map fault_view f ≡ least (actions_section (scope_view scope.now) (forms_view domain.now))) }
 {

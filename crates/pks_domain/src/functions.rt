@@ -10,7 +10,10 @@ ghost use Rattle.pks_meaning.specs.Declarations.{first_in, name_of, name_faults,
 ghost use Rattle.pks_meaning.specs.Meaning.{all_noted};
 ghost use Rattle.pks_meaning.specs.Views.{found_of, names_of, seen, scope_view};
 
-use crate::declaring::{Memory, Types, check_shape_name, declare_shape, each_type, first_in, name_of, past_first_names, small_number, two_types, type_named};
+use crate::declaring::{
+    Memory, Types, check_shape_name, declare_shape, each_type, first_in, name_of, past_first_names,
+    small_number, two_types, type_named,
+};
 use indexmap::IndexMap;
 use pks_meaning::parts::{behind_head, first_forms, place_of, text_of};
 use pks_meaning::report::Report;
@@ -69,7 +72,10 @@ fn function_in(types: &Types<'_>, form: &Form<'_>) -> Shape
     ensures { shape_of result ≡ function_in (names_of types.now) (form_view form.now) }
 {
     let parts = behind_head(form);
-    shape(two_types(types, all_but_last(parts)), result_named(types, last_of(parts)))
+    shape(
+        two_types(types, all_but_last(parts)),
+        result_named(types, last_of(parts)),
+    )
 }
 
 // The type of the object with a number.
@@ -149,7 +155,11 @@ fn function_entry<'s>(
     let word = first_in(form);
     check_shape_name(report, table, word);
     function_faults(report, scope, form);
-    declare_shape(table, name_of(word), function_in(&scope.declared.types, form))?;
+    declare_shape(
+        table,
+        name_of(word),
+        function_in(&scope.declared.types, form),
+    )?;
     Ok(())
 }
 

@@ -10,3 +10,6 @@ mod sections;
 pub use actions::actions_among;
 pub use declaring::{Memory, first_in, name_of, second_in};
 pub use domain::{Domain, declarations, meaning};
+
+#[cfg(test)]
+mod tests;

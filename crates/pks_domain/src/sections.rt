@@ -9,12 +9,16 @@ ghost use Rattle.pks_meaning.specs.Declarations.{first_in, second_in, name_of, n
 ghost use Rattle.pks_meaning.specs.Meaning.{all_noted};
 ghost use Rattle.pks_meaning.specs.Views.{found_of, names_of, seen, scope_view};
 
-use crate::declaring::{Memory, Types, check_name, check_shape_name, declare, declare_shape, each_type, first_in, name_of, only_type, parent_named, past_first_names, second_in, three_types, two_types, type_named, type_word};
+use crate::declaring::{
+    Memory, Types, check_name, check_shape_name, declare, declare_shape, each_type, first_in,
+    name_of, only_type, parent_named, past_first_names, second_in, three_types, two_types,
+    type_named, type_word,
+};
+use indexmap::IndexMap;
 use pks_meaning::parts::{behind_head, first_forms, place_of, text_of};
 use pks_meaning::report::Report;
 use pks_meaning::scope::Scope;
 use pks_meaning::sentences::past;
-use indexmap::IndexMap;
 use pks_terms::ids::TypeId;
 use pks_terms::problem::Shape;
 use pks_text::Form;
@@ -37,7 +41,11 @@ fn type_entry<'s>(report: &mut Report, types: &mut Types<'s>, form: &Form<'s>) -
     Ok(())
 }
 
-fn type_entries<'s>(report: &mut Report, types: &mut Types<'s>, forms: &[Form<'s>]) -> Result<(), Memory>
+fn type_entries<'s>(
+    report: &mut Report,
+    types: &mut Types<'s>,
+    forms: &[Form<'s>],
+) -> Result<(), Memory>
     requires none { names_of types.old ≡ [] }
     requires few { length forms.now ≤ 16 }
     ensures faults { OnOk result (found_of report.new ≡ all_noted (found_of report.old) (types_faults [] (forms_view forms.now))) }
@@ -51,7 +59,11 @@ fn type_entries<'s>(report: &mut Report, types: &mut Types<'s>, forms: &[Form<'s
 
 /// The types of a section, and its faults.
 #[tactic(auto, using(pks_meaning::proofs::Noting::noted_both), unfolding(pks_meaning::specs::Declarations::types_section))]
-pub fn types<'s>(alloc: Global, report: &mut Report, forms: &[Form<'s>]) -> Result<Types<'s>, Memory>
+pub fn types<'s>(
+    alloc: Global,
+    report: &mut Report,
+    forms: &[Form<'s>],
+) -> Result<Types<'s>, Memory>
     ensures faults { OnOk result (found_of report.new ≡ all_noted (found_of report.old) (types_section (forms_view forms.now))) }
     ensures table { IfOk result (λ types. names_of types ≡ types_in (forms_view forms.now)) }
 {
@@ -64,7 +76,12 @@ pub fn types<'s>(alloc: Global, report: &mut Report, forms: &[Form<'s>]) -> Resu
 // ---- objects
 
 // An object of a type.
-fn object<'s>(report: &mut Report, table: &mut IndexMap<&'s str, u8>, own: u8, form: &Form<'s>) -> Result<(), Memory>
+fn object<'s>(
+    report: &mut Report,
+    table: &mut IndexMap<&'s str, u8>,
+    own: u8,
+    form: &Form<'s>,
+) -> Result<(), Memory>
     ensures faults { OnOk result (found_of report.new ≡ all_noted (found_of report.old) (name_faults (names_of table.old) (first_in (form_view form.now)) ++ no_faults (form_view form.now))) }
     ensures table { OnOk result (names_of table.new ≡ declare (names_of table.old) (name_of (first_in (form_view form.now))) own) }
 {
@@ -74,7 +91,12 @@ fn object<'s>(report: &mut Report, table: &mut IndexMap<&'s str, u8>, own: u8, f
     Ok(())
 }
 
-fn object_names<'s>(report: &mut Report, table: &mut IndexMap<&'s str, u8>, own: u8, forms: &[Form<'s>]) -> Result<(), Memory>
+fn object_names<'s>(
+    report: &mut Report,
+    table: &mut IndexMap<&'s str, u8>,
+    own: u8,
+    forms: &[Form<'s>],
+) -> Result<(), Memory>
     ensures faults { OnOk result (found_of report.new ≡ all_noted (found_of report.old) (entries_faults first_in (λ f. own) no_faults (names_of table.old) (forms_view forms.now))) }
     ensures table { OnOk result (names_of table.new ≡ table_from first_in (λ f. own) (names_of table.old) (forms_view forms.now)) }
 {
@@ -86,7 +108,13 @@ fn object_names<'s>(report: &mut Report, table: &mut IndexMap<&'s str, u8>, own:
 
 // The objects of an entry, of which n may come.
 #[tactic(auto, using(pks_meaning::proofs::Noting::noted_both))]
-fn object_entry<'s>(report: &mut Report, types: &Types<'s>, objects: &mut IndexMap<&'s str, u8>, n: usize, form: &Form<'s>) -> Result<(), Memory>
+fn object_entry<'s>(
+    report: &mut Report,
+    types: &Types<'s>,
+    objects: &mut IndexMap<&'s str, u8>,
+    n: usize,
+    form: &Form<'s>,
+) -> Result<(), Memory>
     requires { length (names_of types.now) ≤ 16 }
     ensures faults { OnOk result (found_of report.new ≡ all_noted (found_of report.old) (objects_faults_in (names_of types.now) n (names_of objects.old) (form_view form.now))) }
     ensures table { OnOk result (names_of objects.new ≡ table_from first_in (λ f. type_named (names_of types.now) (first_in (form_view form.now))) (names_of objects.old) (first_forms n (behind_head (form_view form.now)))) }
@@ -100,7 +128,13 @@ fn object_entry<'s>(report: &mut Report, types: &Types<'s>, objects: &mut IndexM
 }
 
 /// The objects of a section, of which n may come, and its faults.
-pub fn objects<'s>(alloc: Global, report: &mut Report, types: &Types<'s>, n: usize, forms: &[Form<'s>]) -> Result<IndexMap<&'s str, u8>, Memory>
+pub fn objects<'s>(
+    alloc: Global,
+    report: &mut Report,
+    types: &Types<'s>,
+    n: usize,
+    forms: &[Form<'s>],
+) -> Result<IndexMap<&'s str, u8>, Memory>
     requires { length (names_of types.now) ≤ 16 }
     ensures faults { OnOk result (found_of report.new ≡ all_noted (found_of report.old) (objects_faults (names_of types.now) n [] (forms_view forms.now))) }
     ensures table { IfOk result (λ objects. names_of objects ≡ objects_from (names_of types.now) n [] (forms_view forms.now)) }
@@ -121,7 +155,11 @@ fn predicate_shape(of: (u8, [TypeId; 3])) -> Shape
     ensures result { (shape_of result).result ≡ 0 }
 {
     let (n, args) = of;
-    Shape { n, args, result: TypeId(0) }
+    Shape {
+        n,
+        args,
+        result: TypeId(0),
+    }
 }
 
 #[tactic(auto, unfolding(pks_meaning::specs::Declarations::predicate_in))]
@@ -151,7 +189,12 @@ fn predicate_faults(report: &mut Report, types: &Types<'_>, form: &Form<'_>)
 }
 
 #[tactic(auto, using(pks_meaning::proofs::Noting::noted_both))]
-fn predicate_entry<'s>(report: &mut Report, types: &Types<'s>, table: &mut IndexMap<&'s str, Shape>, form: &Form<'s>) -> Result<(), Memory>
+fn predicate_entry<'s>(
+    report: &mut Report,
+    types: &Types<'s>,
+    table: &mut IndexMap<&'s str, Shape>,
+    form: &Form<'s>,
+) -> Result<(), Memory>
     requires { length (names_of types.now) ≤ 16 }
     ensures faults { OnOk result (found_of report.new ≡ all_noted (found_of report.old) (name_faults (seen shape_of (names_of table.old)) (first_in (form_view form.now)) ++ predicate_faults (names_of types.now) (form_view form.now))) }
     ensures table { OnOk result (seen shape_of (names_of table.new) ≡ declare (seen shape_of (names_of table.old)) (name_of (first_in (form_view form.now))) (predicate_in (names_of types.now) (form_view form.now))) }
@@ -163,7 +206,12 @@ fn predicate_entry<'s>(report: &mut Report, types: &Types<'s>, table: &mut Index
     Ok(())
 }
 
-fn predicate_entries<'s>(report: &mut Report, types: &Types<'s>, table: &mut IndexMap<&'s str, Shape>, forms: &[Form<'s>]) -> Result<(), Memory>
+fn predicate_entries<'s>(
+    report: &mut Report,
+    types: &Types<'s>,
+    table: &mut IndexMap<&'s str, Shape>,
+    forms: &[Form<'s>],
+) -> Result<(), Memory>
     requires { length (names_of types.now) ≤ 16 }
     ensures faults { OnOk result (found_of report.new ≡ all_noted (found_of report.old) (entries_faults first_in (predicate_in (names_of types.now)) (predicate_faults (names_of types.now)) (seen shape_of (names_of table.old)) (forms_view forms.now))) }
     ensures table { OnOk result (seen shape_of (names_of table.new) ≡ table_from first_in (predicate_in (names_of types.now)) (seen shape_of (names_of table.old)) (forms_view forms.now)) }
@@ -176,7 +224,12 @@ fn predicate_entries<'s>(report: &mut Report, types: &Types<'s>, table: &mut Ind
 
 /// The predicates of a section, and its faults.
 #[tactic(auto, using(pks_meaning::proofs::Noting::noted_both), unfolding(pks_meaning::specs::Declarations::predicates_section))]
-pub fn predicates<'s>(alloc: Global, report: &mut Report, types: &Types<'s>, forms: &[Form<'s>]) -> Result<IndexMap<&'s str, Shape>, Memory>
+pub fn predicates<'s>(
+    alloc: Global,
+    report: &mut Report,
+    types: &Types<'s>,
+    forms: &[Form<'s>],
+) -> Result<IndexMap<&'s str, Shape>, Memory>
     requires { length (names_of types.now) ≤ 16 }
     ensures faults { OnOk result (found_of report.new ≡ all_noted (found_of report.old) (predicates_section (names_of types.now) (forms_view forms.now))) }
     ensures table { IfOk result (λ table. seen shape_of (names_of table) ≡ predicates_in (names_of types.now) (forms_view forms.now)) }

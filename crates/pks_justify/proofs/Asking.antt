@@ -1,5 +1,5 @@
 -- What is given passes a test where one of the queries does.
-use Rattle.std.proofs.Common.{◌≡◌, ◌||◌, ◌∙◌, Bool, false, List, [], ◌∷◌, ◌++◌, map, Some, None, ap, refl}
+use Rattle.std.proofs.Common.{◌≡◌, ◌||◌, ◌∙◌, Bool, false, List, [], ◌∷◌, ◌++◌, Some, None, ap, refl}
 use Rattle.std.specs.List.{list_any, filter_map, cons_option}
 use Rattle.std.specs.Option.{option_map_or}
 use Rattle.std.proofs.lemmas.List.Folds.{list_any-append}

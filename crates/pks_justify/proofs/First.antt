@@ -1,10 +1,10 @@
 -- The first add without a case is the first of all that have none.
-use Rattle.std.proofs.Common.{◌≡◌, ◌+◌, ◌++◌, ◌∙◌, ℕ, cond, true, false, Bool, List, [], ◌∷◌, map, Option, Some, None, slice_get, ap, sym, subst, refl}
+use Rattle.std.proofs.Common.{◌≡◌, ◌+◌, ◌++◌, ◌∙◌, ℕ, cond, List, [], ◌∷◌, map, Option, Some, None, ap, refl}
 use Rattle.std.specs.Prelude.{is_none}
 use Rattle.std.specs.List.{filter, flat_map}
 use Rattle.std.specs.Option.{option_map_or}
 use Rattle.pks_terms.specs.Actions.{Add, Schema}
-use Rattle.pks_terms.specs.Justified.{Case, case_of}
+use Rattle.pks_terms.specs.Justified.{case_of}
 use Rattle.pks_terms.specs.Branching.{numbered}
 use Rattle.pks_terms.specs.Problems.{Problem}
 use Rattle.pks_terms.specs.Answers.{unjustified_in, unjustified}

@@ -23,8 +23,8 @@ use Rattle.pks_laws.proofs.Least.{in_filter_map, in_filter_mapped, ranged}
 use Rattle.pks_laws.proofs.Fitting.{Keeps, AllKeep, all_fit_kept, choices_keep, argument_forms_keep, term_forms_keep, AllMove, term_that_fits, literal_kept}
 use Rattle.pks_laws.proofs.Belonging.{L, T, negated_of, equation_of, if_of, others_of, additions_of, saturated_end, tidied_of}
 use Rattle.pks_laws.proofs.BelongingSteps.{schema_text, put_effects}
-use Rattle.pks_laws.specs.OfSignature.{HasOwnValues}
-use Rattle.pks_terms.specs.Handed.{IsInstanceOf, IsHistoryOf}
+use Rattle.pks_laws.specs.OfSignature.{HasOwnValues, IsHistoryOf}
+use Rattle.pks_terms.specs.Handed.{IsStepOf}
 
 pub later_each : {X : Type 0} (P : X → Type 0) (xs : List X) → Each P xs → Each (λ q. P q.0 × Each P q.1) (with_later xs)
 later_each P [] a = tt
@@ -158,17 +158,17 @@ module _ (p : Problem) (v : IsValid p) where
   abbrev S : Signature
   S = p.signature
 
-  pub effects_written : (i : Instance) → IsInstanceOf p i → Each (IsWritten S) (effects_of p i)
+  pub effects_written : (i : Instance) → IsStepOf p i → Each (IsWritten S) (effects_of p i)
   effects_written i fit = let text = schema_text p v i.action in put_effects S (schema_of p i.action).parameters i.arguments fit.arguments (schema_of p i.action).effects text.effects
 
-  pub forward_of : (i : Instance) (before : Five) → IsInstanceOf p i → AreOf S before → HasOwnValues S before.kf → Each (L S) (forward p i before)
+  pub forward_of : (i : Instance) (before : Five) → IsStepOf p i → AreOf S before → HasOwnValues S before.kf → Each (L S) (forward p i before)
   forward_of i before fit m own =
       let es = effects_of p i in
       let written = effects_written i fit in
       each_append (L S) (lasting S es before) (flat_map (fired S es before) (with_later es)) (each_kept (L S) (λ l. not (spoils S before es l)) before.kf m.known)
       (each_flat_map (L S) (fired S es before) (with_later es) (λ q j. fired_of S es written before m own q (each_in (λ q. IsWritten S q.0 × Each (IsWritten S) q.1) (with_later es) q (later_each (IsWritten S) es written) j).0))
 
-  pub backward_of : (i : Instance) (before after : Five) → IsInstanceOf p i → AreOf S before → HasOwnValues S before.kf → AreOf S after → Each (L S) (backward p i before after)
+  pub backward_of : (i : Instance) (before after : Five) → IsStepOf p i → AreOf S before → HasOwnValues S before.kf → AreOf S after → Each (L S) (backward p i before after)
   backward_of i before after fit m own n =
       let es = effects_of p i in
       let written = effects_written i fit in
@@ -180,7 +180,7 @@ module _ (p : Problem) (v : IsValid p) where
   -- ---- a round over the family
 
   abbrev IsStep : Instance × Five → Type 0
-  IsStep step = IsInstanceOf p step.0 × AreOf S step.1
+  IsStep step = IsStepOf p step.0 × AreOf S step.1
 
   abbrev HasOwnStep : Instance × Five → Type 0
   HasOwnStep step = HasOwnValues S step.1.kf

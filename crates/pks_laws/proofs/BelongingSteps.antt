@@ -25,7 +25,7 @@ use Rattle.pks_laws.proofs.Least.{in_filter_mapped}
 use Rattle.pks_laws.proofs.Fitting.{all_fit_kept, map_keeps, apply_keeps, inner_normal_keeps, AllMove, term_kept, related_kept, literal_kept, pattern_kept, inner_at_keeps, term_at_keeps}
 use Rattle.pks_laws.proofs.Belonging.{L, T, R, related, negated_of, equation_of, in_range_of, if_of, normal_literal_of, normal_conj_of, normal_term_of, normal_atom_of, normal_pattern_of, closed_of}
 use Rattle.pks_laws.specs.OfSignature.{HasOwnValues, IsSideOf}
-use Rattle.pks_terms.specs.Handed.{IsInstanceOf}
+use Rattle.pks_terms.specs.Handed.{IsStepOf}
 
 -- ---- the start
 
@@ -181,7 +181,7 @@ declared_action p d i h =
     omega arith
 
 -- an instance that is a choice is one of the problem
-pub choice_of : (p : Problem) (d : Five) (i : Instance) → AreOf p.signature d → IsIn i (instances p d) → IsInstanceOf p i
+pub choice_of : (p : Problem) (d : Five) (i : Instance) → AreOf p.signature d → IsIn i (instances p d) → IsStepOf p i
 choice_of p d i m j = record { action = declared_action p d i j; arguments = arguments_fit p.signature d m (schema_of p i.action).parameters i.arguments (allowed_instance p d i j).1 }
 
 -- ---- arguments put in
@@ -420,6 +420,6 @@ module _ (s : Signature) (sc : Schema) (text : IsSchemaText s sc) (given : List 
             (each_flat_map (R s) (λ a. regions_added s d deeds given a.item) adds (λ a i. regions_added_of a.item (item_text a i)));
       }
 
-pub action_of : (p : Problem) → IsValid p → (d e : Five) (i : Instance) → AreOf p.signature d → HasOwnValues p.signature d.kf → IsInstanceOf p i → Progress p.signature d (schema_of p i.action) i (Next e) → AreOf p.signature e
+pub action_of : (p : Problem) → IsValid p → (d e : Five) (i : Instance) → AreOf p.signature d → HasOwnValues p.signature d.kf → IsStepOf p i → Progress p.signature d (schema_of p i.action) i (Next e) → AreOf p.signature e
 action_of p v d e i m own fit c =
     closed_of p.signature v.signature.values (progressed p.signature d (schema_of p i.action) i.arguments) e c (progressed_of p.signature (schema_of p i.action) (schema_text p v i.action) i.arguments fit.arguments d m own)

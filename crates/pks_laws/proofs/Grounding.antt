@@ -10,7 +10,7 @@ use Rattle.pks_terms.specs.Actions.{Instance}
 use Rattle.pks_terms.specs.Problems.{Problem, schema_of}
 use Rattle.pks_terms.specs.Knowledge.{grounded}
 use Rattle.pks_terms.specs.Valid.{all_fit, inner_fits}
-use Rattle.pks_terms.specs.Handed.{IsInstanceOf}
+use Rattle.pks_terms.specs.Handed.{IsStepOf}
 use Rattle.pks_terms.proofs.Types.{objects_are_of}
 use Rattle.pks_laws.proofs.Fitting.{Keeps, all_fit_kept, map_keeps, object_wider}
 
@@ -24,7 +24,7 @@ value_keeps s w i (Apply f ds) = λ a h.
       | Some x ↦ λ q k. object_wider s x.result a (w.value f (map (λ d. d) ds)) (and_parts (all_fit (object_is_of s) x.arguments ds) _ k).1 (objects_are_of s x.result (w.value f (map (λ d. d) ds)) (i.typed f (map (λ d. d) ds) x q))
     ] refl h
 
-pub grounded_of : (p : Problem) (w : World) (i : Instance) → IsWorld p.signature w → IsInstanceOf p i → IsInstanceOf p (grounded w i)
+pub grounded_of : (p : Problem) (w : World) (i : Instance) → IsWorld p.signature w → IsStepOf p i → IsStepOf p (grounded w i)
 grounded_of p w i world m = record {
   action = m.action;
   arguments = all_fit_kept (inner_fits p.signature []) (inner_fits p.signature []) (schema_of p i.action).parameters i.arguments (map (λ t. Object (inner_value w t)) i.arguments)

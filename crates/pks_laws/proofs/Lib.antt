@@ -40,4 +40,3 @@ pub mod Unique
 pub mod Validity
 pub mod Values
 pub mod Versions
-pub mod WorkedRows

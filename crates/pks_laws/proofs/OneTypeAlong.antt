@@ -19,7 +19,7 @@ use Rattle.pks_terms.specs.Valid.{all_fit, inner_fits, term_fits, type_in, is_te
 use Rattle.pks_terms.specs.Versions.{IsFirstVersion, AreOneTyped, IsOneTyped}
 use Rattle.pks_terms.specs.Branching.{Choice, Act, BranchOn, CasesOn, Side, AsTrue, AsFalse, Is, IsMember, denials, assumed_formula, assumed}
 use Rattle.pks_terms.specs.Settling.{History, argument_forms, term_forms, stable_forms, target_forms, can_be_undone, is_made_otherwise, lasting, lasted, fired, must_have_fired, cannot_have_fired, effects_of, forward, backward, grown, from_next, settled_steps, settle_round, settle_rounds, At, Stopped, clashes, tidied_history, Settles}
-use Rattle.pks_terms.specs.Handed.{IsInstanceOf}
+use Rattle.pks_terms.specs.Handed.{IsStepOf}
 use Rattle.pks_terms.proofs.ListLaws.{each_append, each_in, each_of, each_map, each_kept, each_flat_map, each_filter_map, each_insert_in, each_added, each_set_of, each_weaker, in_filtered, found_in}
 use Rattle.pks_terms.proofs.OrderLaws.{same_term}
 use Rattle.pks_terms.proofs.Types.{fits_alone}
@@ -350,13 +350,13 @@ module _ (p : Problem) (v : IsValid p) (first : IsFirstVersion p) where
   abbrev IsTypedEffect : Effect → Type 0
   IsTypedEffect e = Each (IsOneTyped S) e.condition × IsTargetText S [] e.target
 
-  effects_typed : (i : Instance) → IsInstanceOf p i → Each IsTypedEffect (effects_of p i)
+  effects_typed : (i : Instance) → IsStepOf p i → Each IsTypedEffect (effects_of p i)
   effects_typed i fit =
       let written = effects_written p v i fit in
       let typed = conditions_one_typed S first.parents (schema_of p i.action) (schema_text p v i.action) i.arguments fit.arguments in
       each_of IsTypedEffect (effects_of p i) (λ e j. (each_in (λ (e : Effect). Each (IsOneTyped S) e.condition) (effects_of p i) e typed j, (each_in (IsWritten S) (effects_of p i) e written j).1))
 
-  forward_typed : (i : Instance) (before : Five) → IsInstanceOf p i → HasOneTyped S before → Each (IsOneTyped S) (forward p i before)
+  forward_typed : (i : Instance) (before : Five) → IsStepOf p i → HasOneTyped S before → Each (IsOneTyped S) (forward p i before)
   forward_typed i before fit m =
       let es = effects_of p i in
       each_append (IsOneTyped S) (lasting S es before) (flat_map (fired S es before) (with_later es)) (each_kept (IsOneTyped S) (λ l. not (spoils S before es l)) before.kf m.known)
@@ -371,7 +371,7 @@ module _ (p : Problem) (v : IsValid p) (first : IsFirstVersion p) where
       (each_flat_map (IsOneTyped S) (λ (c : Literal × List Literal). cond (list_all (holds S before) c.1) (negated c.0 ∷ []) []) (with_others q.0.condition)
       (λ c i. if_of S (IsOneTyped S) (list_all (holds S before) c.1) (negated c.0 ∷ []) ((each_in (λ q. IsOneTyped S q.0 × Each (IsOneTyped S) q.1) (with_others q.0.condition) c (other_each (IsOneTyped S) q.0.condition w) i).0, tt)))
 
-  backward_typed : (i : Instance) (before after : Five) → IsInstanceOf p i → HasOneTyped S after → Each (IsOneTyped S) (backward p i before after)
+  backward_typed : (i : Instance) (before after : Five) → IsStepOf p i → HasOneTyped S after → Each (IsOneTyped S) (backward p i before after)
   backward_typed i before after fit n =
       let es = effects_of p i in
       let typed = effects_typed i fit in
@@ -382,7 +382,7 @@ module _ (p : Problem) (v : IsValid p) (first : IsFirstVersion p) where
       (each_flat_map (IsOneTyped S) (cannot_have_fired S es before after) (with_later es) (λ q j. cannot_typed es before after q (each_in (λ q. IsTypedEffect q.0 × Each IsTypedEffect q.1) (with_later es) q (later_each IsTypedEffect es typed) j).0.0)))
 
   abbrev IsTypedStep : Instance × Five → Type 0
-  IsTypedStep step = IsInstanceOf p step.0 × HasOneTyped S step.1
+  IsTypedStep step = IsStepOf p step.0 × HasOneTyped S step.1
 
   -- what is added at a moment
   abbrev AreNews : List Literal → Type 0
@@ -399,7 +399,7 @@ module _ (p : Problem) (v : IsValid p) (first : IsFirstVersion p) where
     groups = m.groups;
   }
 
-  forward_news : (i : Instance) (before : Five) → IsInstanceOf p i → HasOneTyped S before → AreNews (forward p i before)
+  forward_news : (i : Instance) (before : Five) → IsStepOf p i → HasOneTyped S before → AreNews (forward p i before)
   forward_news i before fit m = (forward_of p v i before fit m.of (one_typed_own S before.kf m.known), forward_typed i before fit m)
 
   next_news : (d : Five) (steps : List (Instance × Five)) → HasOneTyped S d → Each IsTypedStep steps → AreNews (from_next p d steps)

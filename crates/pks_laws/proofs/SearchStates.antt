@@ -17,14 +17,14 @@ use Rattle.pks_laws.proofs.BelongingSteps.{initial_of, choice_of, assumed_of, ac
 use Rattle.pks_laws.proofs.BelongingHistories.{is_clash, history_or, settled_closed, settled_of}
 use Rattle.pks_laws.proofs.SidesInOrder.{closed_ordered, initial_ordered, assumed_ordered, progressed_ordered, settled_ordered}
 use Rattle.pks_laws.specs.Lookup.{AreInOrder}
-use Rattle.pks_laws.specs.OfSignature.{IsSideOf, IsMomentOf, AreMomentsOf}
-use Rattle.pks_terms.specs.Handed.{IsInstanceOf, IsHistoryOf}
+use Rattle.pks_laws.specs.OfSignature.{IsSideOf, IsMomentOf, AreMomentsOf, IsHistoryOf}
+use Rattle.pks_terms.specs.Handed.{IsStepOf}
 
 -- what is closed of databases of the signature is a moment
 pub closed_moment : (s : Signature) → HasValues s → (d e : Five) → AreOf s d → AreInOrder d → Closes s d (Next e) → IsMomentOf s e
 closed_moment s inhabited d e m n c = record { of = closed_of s inhabited d e c m; ordered = closed_ordered s d e n c; closed = record { from = d; closes = c } }
 
-pub action_moment : (p : Problem) → IsValid p → (d e : Five) (i : Instance) → IsMomentOf p.signature d → IsInstanceOf p i → Progress p.signature d (schema_of p i.action) i (Next e) → IsMomentOf p.signature e
+pub action_moment : (p : Problem) → IsValid p → (d e : Five) (i : Instance) → IsMomentOf p.signature d → IsStepOf p i → Progress p.signature d (schema_of p i.action) i (Next e) → IsMomentOf p.signature e
 action_moment p v d e i m fit c = record {
   of = action_of p v d e i m.of (closed_values p.signature v.signature.values m.closed.from d m.closed.closes) fit c;
   ordered = closed_ordered p.signature (progressed p.signature d (schema_of p i.action) i.arguments) e (progressed_ordered p.signature (schema_of p i.action) i.arguments d m.ordered) c;
@@ -39,7 +39,7 @@ module _ (p : Problem) (v : IsValid p) where
   S = p.signature
 
   abbrev IsDeed : Instance × Five → Type 0
-  IsDeed step = IsInstanceOf p step.0 × IsMomentOf S step.1
+  IsDeed step = IsStepOf p step.0 × IsMomentOf S step.1
 
   last_step : (d : Five) (steps : List (Instance × Five)) → IsMomentOf S d → Each IsDeed steps → IsMomentOf S (last_of d steps)
   last_step d [] m a = m
@@ -66,7 +66,7 @@ module _ (p : Problem) (v : IsValid p) where
 
   -- each is a history of the problem
   pub moments_of : (h : History) → AreMomentsOf p h → IsHistoryOf p h
-  moments_of h m = record { start = m.start.of; steps = each_weaker IsDeed (λ step. IsInstanceOf p step.0 × AreOf S step.1) (λ step k. (k.0, k.1.of)) h.steps m.steps }
+  moments_of h m = record { start = m.start.of; steps = each_weaker IsDeed (λ step. IsStepOf p step.0 × AreOf S step.1) (λ step k. (k.0, k.1.of)) h.steps m.steps }
 
   pub settled_history_of : (h g : History) → AreMomentsOf p h → Settles p h (At g) → AreMomentsOf p g
   settled_history_of h g m s =
@@ -75,7 +75,7 @@ module _ (p : Problem) (v : IsValid p) where
       let closed = settled_closed p h g s in
       record {
         start = record { of = all.start; ordered = ordered.start; closed = closed.0 };
-        steps = each_of IsDeed g.steps (λ step i. let k = each_in (λ step. IsInstanceOf p step.0 × AreOf S step.1) g.steps step all.steps i in
+        steps = each_of IsDeed g.steps (λ step i. let k = each_in (λ step. IsStepOf p step.0 × AreOf S step.1) g.steps step all.steps i in
             (k.0, record { of = k.1; ordered = each_in (λ (step : Instance × Five). AreInOrder step.1) g.steps step ordered.steps i; closed = each_in (λ (step : Instance × Five). IsClosed S step.1) g.steps step closed.1 i }));
       }
 

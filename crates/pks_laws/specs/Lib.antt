@@ -2,4 +2,3 @@ pub mod Lookup
 pub mod OfSignature
 pub mod OneTyped
 pub mod Saying
-pub mod Worked

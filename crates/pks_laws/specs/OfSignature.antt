@@ -9,7 +9,7 @@ use Rattle.pks_terms.specs.Problems.{Problem}
 use Rattle.pks_terms.specs.Branching.{Choice, BranchOn, CasesOn, Side, AsTrue, AsFalse, Is}
 use Rattle.pks_terms.specs.Settling.{History}
 use Rattle.pks_terms.specs.Valid.{AreOf}
-use Rattle.pks_terms.specs.Handed.{IsInstanceOf}
+use Rattle.pks_terms.specs.Handed.{IsStepOf}
 use Rattle.pks_laws.specs.Lookup.{AreInOrder}
 
 -- each value that the literals give of a function is an object of its result type
@@ -23,13 +23,18 @@ IsSideOf s (BranchOn c) AsFalse = Unit {0}
 IsSideOf s (CasesOn t) (Is e) = IsIn e (range_of s t)
 IsSideOf s c side = ⊥
 
+-- each moment of the history is of the signature, and each instance is one of the problem
+pub record IsHistoryOf (p : Problem) (h : History) : Type 0 where
+  pub start : AreOf p.signature h.start
+  pub steps : Each (λ step. IsStepOf p step.0 × AreOf p.signature step.1) h.steps
+
 -- closed databases of the signature, equations in order
 pub record IsMomentOf (s : Signature) (d : Five) : Type 0 where
   pub of : AreOf s d
   pub ordered : AreInOrder d
   pub closed : IsClosed s d
 
--- so at each moment, and each instance has arguments of the parameters' types
+-- so at each moment, and each instance is one of the problem
 pub record AreMomentsOf (p : Problem) (h : History) : Type 0 where
   pub start : IsMomentOf p.signature h.start
-  pub steps : Each (λ step. IsInstanceOf p step.0 × IsMomentOf p.signature step.1) h.steps
+  pub steps : Each (λ step. IsStepOf p step.0 × IsMomentOf p.signature step.1) h.steps

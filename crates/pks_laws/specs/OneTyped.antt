@@ -6,7 +6,7 @@ use Rattle.pks_terms.specs.Versions.{IsOneTyped}
 use Rattle.pks_terms.specs.Settling.{History}
 use Rattle.pks_terms.specs.Problems.{Problem}
 use Rattle.pks_terms.specs.Valid.{AreOf}
-use Rattle.pks_terms.specs.Handed.{IsInstanceOf}
+use Rattle.pks_terms.specs.Handed.{IsStepOf}
 
 -- ground databases of the signature, in which the sides of each equation have one type
 pub record HasOneTyped (s : Signature) (d : Five) : Type 0 where
@@ -18,4 +18,4 @@ pub record HasOneTyped (s : Signature) (d : Five) : Type 0 where
 -- so at each moment
 pub record IsOneTypedAlong (p : Problem) (h : History) : Type 0 where
   pub start : HasOneTyped p.signature h.start
-  pub steps : Each (λ step. IsInstanceOf p step.0 × HasOneTyped p.signature step.1) h.steps
+  pub steps : Each (λ step. IsStepOf p step.0 × HasOneTyped p.signature step.1) h.steps

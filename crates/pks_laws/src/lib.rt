@@ -1,5 +1,4 @@
 //! The laws over the definitions of a contingent planner.
 #![tactic(auto)]
 
-pub mod examples;
 pub mod laws;

@@ -74,6 +74,7 @@ entry_seen {X = X} {Y = Y} v r es name e = shown r ∙ ap (option_map v) e ∙ e
     shown : (r : Option (Bor X)) → option_map (λ b. v b.now) r ≡ option_map v (option_map (λ a. a.now) r)
     shown None = refl
     shown (Some b) = refl
+
     entry : (es : Table X) → option_map v (entry_of es name) ≡ entry_of (seen v es) name
     entry [] = refl
     entry (e ∷ es) = by_test (bytes_eq name e.0) (entry es)

@@ -1,9 +1,9 @@
 -- Forms in memory, and their parts.
-use Rattle.std.proofs.Common.{◌≡◌, ℕ, zero, suc, ◌+◌, ◌<◌, ◌≤◌, min, ◌==◌, List, [], ◌∷◌, length, take, drop, map, refl, sym, ap, ◌∙◌, arith}
+use Rattle.std.proofs.Common.{◌≡◌, ℕ, zero, suc, min, ◌==◌, List, [], ◌∷◌, length, take, refl, ap, ◌∙◌, arith}
 use Rattle.std.proofs.lemmas.List.{take_min}
 use Rattle.pks_terms.specs.declared.ids.TypeId.{TypeId}
 use Rattle.pks_terms.specs.Views.{types_of}
-use Rattle.pks_text.specs.Forms.{Form, Forms, no_forms, form}
+use Rattle.pks_text.specs.Forms.{form}
 use Rattle.pks_text.specs.declared.tree.Form.{Form as CodeForm}
 use Rattle.pks_text.specs.FormViews.{form_view, forms_view}
 use Rattle.pks_grammar.specs.Walk.{count}

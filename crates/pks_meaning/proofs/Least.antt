@@ -1,8 +1,8 @@
 -- The fault that is given is the least of all faults.
-use Rattle.std.proofs.Common.{◌≡◌, ◌⊎◌, inl, inr, ℕ, ◌<◌, ◌≤◌, ◌==◌, nat_lt, List, [], ◌∷◌, ◌++◌, Option, Some, None, Bool, true, false, ◌||◌, ◌&&◌, cond, refl, sym, ap, ◌∙◌, subst, arith}
+use Rattle.std.proofs.Common.{◌≡◌, ◌⊎◌, inl, inr, List, [], ◌∷◌, Some, None, Bool, true, false, cond, refl, sym, subst, arith}
 use Rattle.std.proofs.lemmas.Bool.Decides.{nat_tests}
 use Rattle.pks_grammar.specs.Files.{Fault}
-use Rattle.pks_meaning.specs.Meaning.{is_before, noted, all_noted, least}
+use Rattle.pks_meaning.specs.Meaning.{is_before, all_noted, least}
 use Rattle.pks_meaning.specs.Leasts.{IsIn, IsLeast}
 
 not_itself : (f : Fault) → is_before f f ≡ false

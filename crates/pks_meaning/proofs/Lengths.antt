@@ -1,5 +1,5 @@
 -- Lists of forms of different lengths.
-use Rattle.std.proofs.Common.{◌≡◌, ℕ, suc, Bool, true, false, ◌&&◌, List, [], ◌∷◌, length, refl, ap}
+use Rattle.std.proofs.Common.{◌≡◌, suc, Bool, true, false, ◌&&◌, List, [], ◌∷◌, length, refl, ap}
 use Rattle.pks_text.specs.declared.tree.Form.{Form as CodeForm}
 use Rattle.pks_text.specs.FormViews.{form_view, forms_view}
 use Rattle.pks_meaning.specs.Sentences.{same_form, same_forms}

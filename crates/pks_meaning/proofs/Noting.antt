@@ -1,5 +1,5 @@
 -- Noting faults one after the other.
-use Rattle.std.proofs.Common.{◌≡◌, ℕ, zero, suc, ◌+◌, List, [], ◌∷◌, ◌++◌, Option, Some, None, Bool, true, false, cond, refl, sym, ap, ◌∙◌, arith, append_assoc, is_some, is_none, option_map, ◌<◌, length, drop, slice_index_or, add-one}
+use Rattle.std.proofs.Common.{◌≡◌, ℕ, ◌+◌, List, [], ◌∷◌, ◌++◌, Option, Some, None, cond, refl, sym, ap, ◌∙◌, is_some, is_none, option_map, ◌<◌, length, drop, slice_index_or, add-one}
 use Rattle.std.proofs.Math.Seq.{drop-cons}
 use Rattle.pks_text.specs.Forms.{Form, Forms, form}
 use Rattle.pks_text.specs.declared.tree.Form.{Form as CodeForm}

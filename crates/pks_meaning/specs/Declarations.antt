@@ -1,12 +1,12 @@
 -- What the sections of a domain declare, and the faults of declarations.
-use Rattle.std.specs.Prelude.{ℕ, zero, suc, Bool, true, false, ◌||◌, ◌-◌, ◌==◌, nat_lt, List, [], ◌∷◌, ◌++◌, length, Option, Some, None, codes, bytes_eq, if◌then◌else◌, unwrap_or}
+use Rattle.std.specs.Prelude.{ℕ, zero, suc, Bool, false, ◌||◌, ◌-◌, ◌==◌, nat_lt, List, [], ◌∷◌, ◌++◌, length, Option, Some, None, codes, bytes_eq, if◌then◌else◌, unwrap_or}
 use Rattle.pks_terms.specs.Signatures.{Shape}
-use Rattle.pks_text.specs.Forms.{Form, Word, Listing, Forms, no_forms, form, place_of}
+use Rattle.pks_text.specs.Forms.{Form, Forms, no_forms, form, place_of}
 use Rattle.pks_grammar.specs.Walk.{is_headed, count}
 use Rattle.pks_grammar.specs.Files.{Fault}
 use Rattle.pks_meaning.specs.Tables.{Table, number_of, entries_of, declare, too_long, unknown, twice}
 use Rattle.pks_meaning.specs.Scopes.{Scope, fits, name_in}
-use Rattle.pks_meaning.specs.Parts.{text_of, parts_of, behind, behind_head, section, first_forms, all_but_last, last_of, each, only, past}
+use Rattle.pks_meaning.specs.Parts.{text_of, parts_of, behind_head, section, first_forms, all_but_last, last_of, each, only, past}
 use Rattle.pks_meaning.specs.Sentences.{query_faults, effect_faults, sense_faults, add_faults, parts_faults}
 
 -- ---- names

@@ -1,11 +1,10 @@
 -- The least of some faults, and what a domain declares.
 use Rattle.std.specs.Prelude.{ℕ, Bool, ◌||◌, ◌&&◌, ◌==◌, nat_lt, List, [], ◌∷◌, Option, Some, None, codes, if◌then◌else◌}
 use Rattle.pks_text.specs.Forms.{Forms}
-use Rattle.pks_grammar.specs.Files.{Fault, or_else}
+use Rattle.pks_grammar.specs.Files.{Fault}
 use Rattle.pks_meaning.specs.Scopes.{Scope}
 use Rattle.pks_meaning.specs.Parts.{section}
-use Rattle.pks_meaning.specs.Sentences.{problem_faults}
-use Rattle.pks_meaning.specs.Declarations.{types_in, types_section, objects_in, objects_section, predicates_in, predicates_section, functions_in, functions_section, actions_section}
+use Rattle.pks_meaning.specs.Declarations.{types_in, objects_in, predicates_in, functions_in}
 
 -- ---- the least fault: by place, and at one place by code
 

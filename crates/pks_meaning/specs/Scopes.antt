@@ -1,5 +1,5 @@
 -- What is declared, and the types of terms.
-use Rattle.std.specs.Prelude.{ℕ, Bool, ◌==◌, List, [], ◌∷◌, length, Option, Some, None, option_map, if◌then◌else◌}
+use Rattle.std.specs.Prelude.{ℕ, Bool, ◌==◌, List, [], ◌∷◌, length, Option, option_map, if◌then◌else◌}
 use Rattle.pks_terms.specs.Signatures.{Shape, Signature, fits_type}
 use Rattle.pks_text.specs.Forms.{Form, Word, Listing}
 use Rattle.pks_grammar.specs.Words.{is_variable}

@@ -1,11 +1,11 @@
 -- The faults of queries, effects, senses, adds, initial items and aims.
-use Rattle.std.specs.Prelude.{ℕ, zero, suc, Bool, true, false, ◌||◌, ◌&&◌, List, [], ◌∷◌, ◌++◌, codes, bytes_eq, if◌then◌else◌}
+use Rattle.std.specs.Prelude.{ℕ, Bool, true, false, ◌||◌, ◌&&◌, List, [], ◌∷◌, ◌++◌, codes, bytes_eq, if◌then◌else◌}
 use Rattle.pks_text.specs.Forms.{Form, Word, Listing, Forms, no_forms, form, place_of}
 use Rattle.pks_grammar.specs.Walk.{is_headed}
 use Rattle.pks_grammar.specs.Files.{Fault}
 use Rattle.pks_meaning.specs.Scopes.{Scope}
 use Rattle.pks_meaning.specs.Parts.{parts_of, behind_head, section, first_forms, each, only, past}
-use Rattle.pks_meaning.specs.Terms.{term_faults, atom_faults, assigned_faults, positive_faults, literal_faults, pattern_faults}
+use Rattle.pks_meaning.specs.Terms.{term_faults, assigned_faults, positive_faults, literal_faults, pattern_faults}
 
 -- literals, at most n as written
 abbrev pub literals_faults : Scope → ℕ → Forms → List Fault

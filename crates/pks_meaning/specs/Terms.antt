@@ -1,5 +1,5 @@
 -- The faults of terms, literals and patterns. The forms have the shape that the grammar asks for; of other forms nothing is said.
-use Rattle.std.specs.Prelude.{ℕ, zero, suc, Bool, true, false, ◌||◌, ◌+◌, ◌==◌, nat_lt, max, List, [], ◌∷◌, ◌++◌, length, Option, Some, None, codes, bytes_eq, if◌then◌else◌}
+use Rattle.std.specs.Prelude.{ℕ, zero, suc, ◌||◌, ◌+◌, ◌==◌, nat_lt, max, List, [], ◌∷◌, ◌++◌, length, Option, Some, None, codes, bytes_eq, if◌then◌else◌}
 use Rattle.pks_terms.specs.Signatures.{Shape}
 use Rattle.pks_text.specs.Forms.{Form, Word, Listing, Forms, no_forms, form, place_of}
 use Rattle.pks_grammar.specs.Words.{is_variable, is_wild}

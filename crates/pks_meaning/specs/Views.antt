@@ -1,5 +1,5 @@
 -- What is declared and what was found, as they lie in memory.
-use Rattle.std.specs.Prelude.{ℕ, ◌≤◌, length, List, [], ◌∷◌, map, Option, option_map}
+use Rattle.std.specs.Prelude.{ℕ, List, [], ◌∷◌, map, Option, option_map}
 use Rattle.std.specs.Borrow.{Bor}
 use Rattle.std.specs.HashMap.{HashMap}
 use Rattle.pks_terms.specs.Views.{shape_of}

@@ -20,12 +20,7 @@ use pks_terms::problem::Shape;
 use pks_terms::term::front;
 use pks_text::Form;
 
-fn mistyped<'s>(
-    report: &mut Report,
-    scope: &Scope<'_, 's>,
-    wanted: Option<u8>,
-    term: &Form<'s>,
-)
+fn mistyped<'s>(report: &mut Report, scope: &Scope<'_, 's>, wanted: Option<u8>, term: &Form<'s>)
     ensures { found_of report.new ≡ all_noted (found_of report.old) (mistyped (scope_view scope.now) wanted (form_view term.now)) }
 {
     if let Some(wanted) = wanted {
@@ -177,12 +172,7 @@ pub fn term<'s>(report: &mut Report, scope: &Scope<'_, 's>, form: &Form<'s>)
 // The faults of the arguments behind a head.
 #[cycle(terms)]
 #[tactic(auto, using(crate::proofs::Noting::noted_both))]
-fn arguments<'s>(
-    report: &mut Report,
-    scope: &Scope<'_, 's>,
-    wanted: &[TypeId],
-    parts: &[Form<'s>],
-)
+fn arguments<'s>(report: &mut Report, scope: &Scope<'_, 's>, wanted: &[TypeId], parts: &[Form<'s>])
     ensures { found_of report.new ≡ all_noted (found_of report.old) (arguments_faults (scope_view scope.now) (types_of wanted.now) (forms_view parts.now)) }
 {
     let mut rest = wanted;
@@ -219,7 +209,13 @@ fn two_sides<'s>(report: &mut Report, scope: &Scope<'_, 's>, left: &Form<'s>, ri
 {
     term(report, scope, left);
     term(report, scope, right);
-    apart(report, scope, scope.type_of(left), scope.type_of(right), place_of(right));
+    apart(
+        report,
+        scope,
+        scope.type_of(left),
+        scope.type_of(right),
+        place_of(right),
+    );
 }
 
 // The sides of an equation.
@@ -236,7 +232,12 @@ fn equation<'s>(report: &mut Report, scope: &Scope<'_, 's>, forms: &[Form<'s>])
 }
 
 #[tactic(auto, using(crate::proofs::Noting::noted_both))]
-fn place_and_value<'s>(report: &mut Report, scope: &Scope<'_, 's>, place: &Form<'s>, value: &Form<'s>)
+fn place_and_value<'s>(
+    report: &mut Report,
+    scope: &Scope<'_, 's>,
+    place: &Form<'s>,
+    value: &Form<'s>,
+)
     ensures { found_of report.new ≡ all_noted (found_of report.old) (term_faults (scope_view scope.now) (form_view place.now) ++ (term_faults (scope_view scope.now) (form_view value.now)
         ++ mistyped (scope_view scope.now) (type_of (scope_view scope.now) (form_view place.now)) (form_view value.now))) }
 {

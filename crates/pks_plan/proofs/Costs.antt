@@ -1,12 +1,9 @@
 -- What a tree costs at most.
-use Rattle.std.proofs.Common.{◌≡◌, ◌≤◌, ℕ, zero, suc, ◌+◌, ◌*◌, max, List, [], ◌∷◌, Some, None, slice_get, unwrap_or, arith}
+use Rattle.std.proofs.Common.{◌≤◌, ℕ, zero, suc, ◌*◌, List, [], ◌∷◌, slice_get, unwrap_or, arith}
 use Rattle.pks_terms.specs.Sets.{Each}
 use Rattle.pks_terms.specs.Actions.{Schema}
-use Rattle.pks_terms.specs.Problems.{Problem, schema_of}
+use Rattle.pks_terms.specs.Problems.{Problem}
 use Rattle.pks_terms.specs.Trees.{Tree, Goal, Impossible, Do, Branch, Cases, Chain, End, More, depth, chain_depth, cost, chain_cost}
-
-no_schema : Schema
-no_schema = record { cost = 1; parameters = []; pre = []; effects = []; senses = []; adds = [] }
 
 one_cost : (xs : List Schema) → Each (λ x. x.cost ≤ 9999) xs → (n : ℕ) → (unwrap_or (slice_get xs n) (record { cost = 1; parameters = []; pre = []; effects = []; senses = []; adds = [] })).cost ≤ 9999
 one_cost [] each n = omega arith

@@ -6,7 +6,7 @@ use Rattle.pks_terms.specs.Orders.{term_cmp, conj_cmp}
 use Rattle.pks_terms.specs.Trees.{Tree, Goal, Impossible, Do, Branch, Cases, objects_in, root_kind, root_step, root_test, root_term, root_cases, instance_cmp, root_cmp, tree_cmp}
 use Rattle.pks_terms.proofs.OrderLaws.{both_equal}
 
-then_unequal : (a b : Ordering) → (a ≡ Equal → ⊥) → ordering_then a b ≡ a
+pub then_unequal : (a b : Ordering) → (a ≡ Equal → ⊥) → ordering_then a b ≡ a
 then_unequal Less b n = refl
 then_unequal Equal b n = absurd (n refl)
 then_unequal Greater b n = refl

@@ -1,5 +1,5 @@
 -- A tree whose root is of a kind is of that variant.
-use Rattle.std.proofs.Common.{◌≡◌, ℕ, Box, Global, refl, sym, ap, ◌∙◌}
+use Rattle.std.proofs.Common.{◌≡◌, Box, Global, refl}
 use Rattle.pks_terms.specs.declared.schema.Instance.{Instance}
 use Rattle.pks_terms.specs.declared.literal.Conj.{Conj}
 use Rattle.pks_terms.specs.declared.term.Term.{Term}

@@ -63,7 +63,12 @@ fn print_side(
 /// The lines of cases.
 #[cycle(bodies)]
 #[tactic(auto, using(crate::proofs::Indented::lines))]
-fn print_cases(p: &Problem<'_>, k: &CaseChain, level: u8, out: &mut Vec<u8>) -> Result<(), AllocError>
+fn print_cases(
+    p: &Problem<'_>,
+    k: &CaseChain,
+    level: u8,
+    out: &mut Vec<u8>,
+) -> Result<(), AllocError>
     requires { level + 1 + chain_depth (chain_of k.now) ≤ 16 }
     ensures ok { OnOk result (out.new.items ≡ out.old.items ++ cases_text (names_of p.now) (indent level) (chain_of k.now)) }
     ensures err { OnErr result (AppendsPart out.old.items out.new.items (cases_text (names_of p.now) (indent level) (chain_of k.now))) }

@@ -7,5 +7,7 @@ mod lines;
 mod names;
 pub mod order;
 mod parts;
+#[cfg(test)]
+mod tests;
 pub mod text;
 pub mod tree;

@@ -161,7 +161,7 @@ pub fn better(p: &Problem<'_>, a: &Tree, b: &Tree) -> Ordering
 
 /// By the first child that differs, the roots being equal.
 #[cycle(betters)]
-#[tactic(auto, using(crate::proofs::Roots::same_objects))]
+#[tactic(auto, using(crate::proofs::Roots::then_unequal, crate::proofs::Roots::same_objects))]
 fn children_cmp(p: &Problem<'_>, a: &Tree, b: &Tree) -> Ordering
     requires roots { root_cmp (cost (problem_of p.now)) (tree_of a.now) (tree_of b.now) ≡ Equal }
     requires first { depth (tree_of a.now) ≤ 16 }
@@ -177,14 +177,20 @@ fn children_cmp(p: &Problem<'_>, a: &Tree, b: &Tree) -> Ordering
                 no: other_no,
                 ..
             },
-        ) => better(p, yes, other_yes).then(better(p, no, other_no)),
-        (Tree::Cases { cases, .. }, Tree::Cases { cases: others, .. }) => cases_cmp(p, cases, others),
+        ) => match better(p, yes, other_yes) {
+            Ordering::Equal => better(p, no, other_no),
+            unequal => unequal,
+        },
+        (Tree::Cases { cases, .. }, Tree::Cases { cases: others, .. }) => cases_cmp(
+            p, cases, others,
+        ),
         _ => Ordering::Equal,
     }
 }
 
 /// By the first child that differs, where the objects are the same.
 #[cycle(betters)]
+#[tactic(auto, using(crate::proofs::Roots::then_unequal))]
 fn cases_cmp(p: &Problem<'_>, a: &CaseChain, b: &CaseChain) -> Ordering
     requires first { chain_depth (chain_of a.now) ≤ 16 }
     requires second { chain_depth (chain_of b.now) ≤ 16 }
@@ -198,7 +204,10 @@ fn cases_cmp(p: &Problem<'_>, a: &CaseChain, b: &CaseChain) -> Ordering
                 rest: others,
                 ..
             },
-        ) => better(p, tree, other).then(cases_cmp(p, rest, others)),
+        ) => match better(p, tree, other) {
+            Ordering::Equal => cases_cmp(p, rest, others),
+            unequal => unequal,
+        },
         _ => Ordering::Equal,
     }
 }

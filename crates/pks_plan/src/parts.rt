@@ -25,7 +25,11 @@ pub(crate) trait Part {
 
 /// Each part behind a blank.
 #[tactic(auto, using(crate::proofs::Appended::appended))]
-pub(crate) fn print_parts<T: Part>(p: &Problem<'_>, parts: &[T], out: &mut Vec<u8>) -> Result<(), AllocError>
+pub(crate) fn print_parts<T: Part>(
+    p: &Problem<'_>,
+    parts: &[T],
+    out: &mut Vec<u8>,
+) -> Result<(), AllocError>
     ensures ok { OnOk result (out.new.items ≡ out.old.items ++ flat_map (λ part. 32 ∷ part) (map (T.text (names_of p.now)) parts.now)) }
     ensures err { OnErr result (AppendsPart out.old.items out.new.items (flat_map (λ part. 32 ∷ part) (map (T.text (names_of p.now)) parts.now))) }
 {

@@ -163,7 +163,12 @@ pub fn print_pattern(p: &Problem<'_>, x: &Pattern, out: &mut Vec<u8>) -> Result<
     ensures ok { OnOk result (out.new.items ≡ out.old.items ++ pattern_text (names_of p.now) (pattern_of x.now)) }
     ensures err { OnErr result (AppendsPart out.old.items out.new.items (pattern_text (names_of p.now) (pattern_of x.now))) }
 {
-    print_list(p, predicate_name(p, x.pred).as_bytes(), front(&x.args, x.n), out)?;
+    print_list(
+        p,
+        predicate_name(p, x.pred).as_bytes(),
+        front(&x.args, x.n),
+        out,
+    )?;
     Ok(())
 }
 
@@ -174,6 +179,11 @@ pub fn print_instance(p: &Problem<'_>, i: &Instance, out: &mut Vec<u8>) -> Resul
     ensures ok { OnOk result (out.new.items ≡ out.old.items ++ instance_text (names_of p.now) (instance_of i.now)) }
     ensures err { OnErr result (AppendsPart out.old.items out.new.items (instance_text (names_of p.now) (instance_of i.now))) }
 {
-    print_list(p, action_name(p, i.act).as_bytes(), front(&i.args, i.n), out)?;
+    print_list(
+        p,
+        action_name(p, i.act).as_bytes(),
+        front(&i.args, i.n),
+        out,
+    )?;
     Ok(())
 }

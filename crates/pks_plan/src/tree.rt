@@ -18,11 +18,21 @@ pub enum Tree {
     /// What was assumed can't be.
     Impossible,
     /// An action, and what follows it.
-    Act { step: Instance, next: Box<Tree> },
+    Act {
+        step: Instance,
+        next: Box<Tree>,
+    },
     /// A formula that is known to be true or false, and what follows where it is true and where it is false.
-    Branch { test: Conj, yes: Box<Tree>, no: Box<Tree> },
+    Branch {
+        test: Conj,
+        yes: Box<Tree>,
+        no: Box<Tree>,
+    },
     /// A term whose value is known, and what follows for each value.
-    Cases { term: Term, cases: Box<CaseChain> },
+    Cases {
+        term: Term,
+        cases: Box<CaseChain>,
+    },
 }
 
 /// The values of a term in order, and what follows for each.
@@ -32,7 +42,11 @@ pub enum CaseChain {
     /// No further value.
     Empty,
     /// A value, what follows for it, and the other values.
-    More { object: ObjId, tree: Tree, rest: Box<CaseChain> },
+    More {
+        object: ObjId,
+        tree: Tree,
+        rest: Box<CaseChain>,
+    },
 }
 
 /// The depth: that of the goal and of the impossible is 0, and each action, branch and cases are one deeper than the

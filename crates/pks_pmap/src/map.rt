@@ -12,7 +12,8 @@ use std::alloc::{AllocError, Global};
 use std::marker::Model;
 use std::rc::Rc;
 
-/// A map in the order of its keys, whose versions share their nodes and pairs.
+/// A map in the order of its keys, seen as the list of its entries. Versions share their nodes and pairs, and none changes.
+/// It asks of the keys their order alone, and of the values nothing.
 #[derive(Drop)]
 pub struct PMap<K: Ord, V> {
     tree: Tree<K, V>,
@@ -26,7 +27,7 @@ impl<K: Ord, V> Model for PMap<K, V> {
     ghost view = { λ m. m.tree.0 };
 }
 
-/// The keys and values of a map in the order of the keys.
+/// The keys and values of a map in the order of the keys, seen as the entries that are left.
 #[derive(Drop)]
 pub struct PIter<'a, K: Ord, V> {
     tree: &'a Tree<K, V>,
@@ -42,7 +43,7 @@ impl<'a, K: Ord, V> Model for PIter<'a, K, V> {
 }
 
 impl<K: Ord, V> PMap<K, V> {
-    /// The map with no entries.
+    /// The map with no entries. It takes no memory.
     pub fn empty() -> PMap<K, V>
         ensures { result ≡ [] }
     {
@@ -51,14 +52,14 @@ impl<K: Ord, V> PMap<K, V> {
         }
     }
 
-    /// The value at the key.
+    /// The value at the key, or `None` where there is none. It compares the key with as many as the tree is high.
     pub fn get(&self, key: &K) -> Option<&V>
         ensures { option_map (λ v. v.now) result ≡ get K.cmp key.now self.now }
     {
         self.tree.get(key)
     }
 
-    /// The first entry whose key is not below the key.
+    /// The first entry whose key is not below this one, or `None` where all are. It compares as `get` does.
     pub fn first_from(&self, key: &K) -> Option<(&K, &V)>
         ensures { option_map (λ p. (p.0.now, p.1.now)) result ≡ first_from K.cmp key.now self.now }
     {
@@ -66,7 +67,7 @@ impl<K: Ord, V> PMap<K, V> {
         Some((&pair.0, &pair.1))
     }
 
-    /// How many entries there are.
+    /// How many entries there are. Their keys ascend strictly.
     pub fn len(&self) -> usize
         ensures count { result ≡ length self.now }
         ensures ascending { IsAscending K.cmp self.now }
@@ -74,7 +75,7 @@ impl<K: Ord, V> PMap<K, V> {
         self.tree.len()
     }
 
-    /// The entries in the order of the keys.
+    /// The entries in the order of the keys, each found by its place in as many steps as the tree is high.
     pub fn iter(&self) -> PIter<'_, K, V>
         ensures entries { result ≡ self.now }
         ensures ascending { IsAscending K.cmp self.now }
@@ -88,7 +89,7 @@ impl<K: Ord, V> PMap<K, V> {
 }
 
 impl<K: Ord + Drop, V: Drop> PMap<K, V> {
-    /// The same map.
+    /// The same map, all of whose nodes are shared. It takes one reference.
     pub fn share(&self) -> Result<PMap<K, V>, AllocError>
         ensures { IfOk result (λ map. map ≡ self.now) }
     {
@@ -96,7 +97,8 @@ impl<K: Ord + Drop, V: Drop> PMap<K, V> {
         Ok(PMap { tree })
     }
 
-    /// The map of these entries, made in a time that grows as their number.
+    /// The map of these entries, in a time that grows as their number. It asks that their keys ascend strictly,
+    /// and counts a node for each.
     pub fn from_ordered(
         alloc: Global,
         entries: Vec<(K, V)>,
@@ -112,7 +114,8 @@ impl<K: Ord + Drop, V: Drop> PMap<K, V> {
         Ok(PMap { tree })
     }
 
-    /// The map with the value at the key.
+    /// The map with the entry in its place, where it takes the place of one with an equal key.
+    /// An error is want of memory, and the nodes that were made before it are counted too.
     pub fn insert(
         &self,
         alloc: Global,
@@ -128,7 +131,7 @@ impl<K: Ord + Drop, V: Drop> PMap<K, V> {
         Ok(PMap { tree })
     }
 
-    /// The map with no value at the key.
+    /// The map without the entry at the key. Where there is none it is the same map, and no node is made.
     pub fn remove(
         &self,
         alloc: Global,
@@ -145,7 +148,8 @@ impl<K: Ord + Drop, V: Drop> PMap<K, V> {
         Ok(PMap { tree })
     }
 
-    /// The map of the entries whose keys pass the test.
+    /// The map of the entries for whose keys the test answers true. It asks that the test may be called on each key.
+    /// It shares each subtree in which all entries are kept, so where all are it makes no node.
     pub fn kept<F: Fn(&K) -> bool>(
         &self,
         alloc: Global,

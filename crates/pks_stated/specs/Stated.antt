@@ -3,9 +3,9 @@ use Rattle.std.specs.Prelude.{ℕ, zero, suc, Bool, true, false, ◌+◌, ◌-�
 use Rattle.std.specs.Map.{keys_of}
 use Rattle.pks_terms.specs.Sets.{set_of}
 use Rattle.pks_terms.specs.Closure.{in_sequence}
-use Rattle.pks_terms.specs.Syntax.{Object, Parameter, Apply, Inner, Term, Equality, Literal, negated, affirmed, Atom, Pattern}
+use Rattle.pks_terms.specs.Syntax.{Object, Parameter, Apply, Inner, Term, Equality, Named as NamedBy, Literal, Atom, Pattern}
 use Rattle.pks_terms.specs.Syntax as syntax
-use Rattle.pks_terms.specs.Orders.{literal_cmp, literal, number_of as name_number, arguments_of}
+use Rattle.pks_terms.specs.Orders.{literal_cmp, literal}
 use Rattle.pks_terms.specs.Queries.{Plain, Know, KnowWhether, KnowValue, Query}
 use Rattle.pks_terms.specs.Actions.{Target, Set, Unset, Clear, Assign, Effect, Sense, SenseWhether, SenseValue, SenseAll, Item, ItemKf, ItemKw, ItemKv, ItemLcw, Add, Schema}
 use Rattle.pks_terms.specs.Problems.{Start, StartKf, StartKw, StartKv, StartKx, StartLcw, Aim, Now, AtStart, Always, Once, Problem}
@@ -74,19 +74,24 @@ abbrev pub atom_in : Scope → Form → Atom
 atom_in s (Word text at) = record { predicate = 0; arguments = [] }
 atom_in s (Listing parts at end) = atom_by s parts
 
--- the sides of an equation
-abbrev pub sides_in : Scope → Forms → List Term
-sides_in s fs = first 2 (term_in s) fs
+-- stands where there is none
+abbrev pub no_literal : Literal
+no_literal = record { relation = Equality; arguments = Object 0 ∷ Object 0 ∷ []; positive = true }
 
--- an atom or an equation, its greater side first
-abbrev pub positive_in : Scope → Form → Literal
-positive_in s f =
-    if is_headed (codes "=") f then literal Equality (sides_in s (behind_head f)) true
-    else affirmed (atom_in s f)
+-- an equation by its sides, affirmed or denied. The greater side comes to stand first
+abbrev pub equation_in : Scope → Bool → Forms → Literal
+equation_in s sign (form left (form right fs)) = literal Equality (term_in s left ∷ term_in s right ∷ []) sign
+equation_in s sign fs = no_literal
+
+-- an atom or an equation, affirmed or denied
+abbrev pub signed_in : Scope → Bool → Form → Literal
+signed_in s sign f =
+    if is_headed (codes "=") f then equation_in s sign (behind_head f)
+    else record { relation = NamedBy (atom_in s f).predicate; arguments = (atom_in s f).arguments; positive = sign }
 
 -- a literal
 unfoldable pub literal_in : Scope → Form → Literal
-literal_in s f = if is_headed (codes "not") f then one (affirmed (atom_in s f)) (λ g. negated (positive_in s g)) (behind_head f) else positive_in s f
+literal_in s f = if is_headed (codes "not") f then one no_literal (signed_in s false) (behind_head f) else signed_in s true f
 
 -- a conjunction is a set
 unfoldable pub conj_in : Scope → Forms → List Literal
@@ -107,10 +112,6 @@ pattern_in s (Word text at) = no_pattern
 pattern_in s (Listing parts at end) = record { predicate = or_zero (number_of s.predicates (head_of parts)); slots = first 3 (slot_in s) (behind parts) }
 
 -- ---- queries, effects, senses, adds
-
--- stands where there is none
-abbrev pub no_literal : Literal
-no_literal = literal Equality (Object 0 ∷ Object 0 ∷ []) true
 
 -- the only literal
 abbrev pub only_literal : Scope → Forms → Literal
@@ -147,9 +148,9 @@ item_in s f =
 abbrev pub no_atom : Atom
 no_atom = record { predicate = 0; arguments = [] }
 
--- a place, and the value that it gets
+-- a place, which is a function at its arguments, and the value that it gets
 abbrev pub assigned_in : Scope → Forms → Target
-assigned_in s (form place (form value fs)) = Assign (name_number (term_in s place)) (arguments_of (term_in s place)) (term_in s value)
+assigned_in s (form place (form value fs)) = Assign (or_zero (number_of s.functions (head_of (parts_of place)))) (first 2 (inner_in s) (behind_head place)) (term_in s value)
 assigned_in s fs = Assign 0 [] (Object 0)
 
 -- a target
@@ -245,9 +246,9 @@ problem_in version domain problem =
 abbrev pub Bytes : Type 0
 Bytes = ℕ × ℕ
 
--- those of a form
+-- those of a list; none of a word, which isn't refused later
 abbrev pub bytes_of : Form → Bytes
-bytes_of (Word text at) = (at, at + length text)
+bytes_of (Word text at) = (at, at)
 bytes_of (Listing parts at end) = (at, end)
 
 -- those of the section with this head; a section that is missing is empty

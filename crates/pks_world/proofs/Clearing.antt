@@ -1,10 +1,8 @@
 -- The instances of a pattern made false.
-use Rattle.std.proofs.Common.{◌≡◌, ◌&&◌, ◌||◌, ◌==◌, ℕ, suc, Bool, true, false, cond, not, List, [], ◌∷◌, map, take, drop, get_or, filter, length, ◌<◌, ◌+◌, Option, Some, None, refl, sym, ap, ◌∙◌, subst, arith, true≢false}
+use Rattle.std.proofs.Common.{◌≡◌, ◌&&◌, ◌||◌, ◌==◌, ℕ, suc, Bool, true, false, cond, not, List, [], ◌∷◌, map, drop, get_or, filter, length, ◌<◌, ◌+◌, Option, Some, None, refl, sym, ap, ◌∙◌, arith, true≢false}
 use Rattle.std.specs.BTreeSet.{BTreeSet}
-use Rattle.std.specs.List.{list_any}
 use Rattle.std.specs.Option.{option_map, unwrap_or}
-use Rattle.std.proofs.lemmas.Bool.{and_parts, cases_Bool}
-use Rattle.std.proofs.lemmas.List.{length-map}
+use Rattle.std.proofs.lemmas.Bool.{and_parts}
 use Rattle.std.proofs.Math.Seq.{drop-cons}
 use Rattle.pks_terms.specs.Syntax.{Object, Term, Atom, Pattern}
 use Rattle.pks_terms.specs.Worlds.{World, value_of}
@@ -90,11 +88,11 @@ pub cleared : (w : World) (v : DWorld) (n : BTreeSet PredAtom) (x : Pattern) →
 unfolding world_of
 cleared w v n x e =
     let each : (p : ℕ) (ds : List ℕ) → is_listed n.keys (ground p ds) ≡ unwrap_or (cond ((x.predicate == p) && is_instance w x.slots ds) (Some false) None) (is_listed v.atoms.keys (ground p ds)) =
-      λ p ds.
-      let same : is_of_pattern w x (ground p ds) ≡ ((x.predicate == p) && is_instance w x.slots ds) = ap (λ es. (x.predicate == p) && is_instance w x.slots es) (objects_valued w ds) in
-      ap (λ ks. is_listed ks (ground p ds)) e
-      ∙ elim ((x.predicate == p) && is_instance w x.slots ds) as (λ b. ((x.predicate == p) && is_instance w x.slots ds) ≡ b → is_listed (filter (λ a. not (is_of_pattern w x (atom_of a))) v.atoms.keys) (ground p ds) ≡ unwrap_or (cond b (Some false) None) (is_listed v.atoms.keys (ground p ds))) [
-        | true ↦ λ q. none_kept (is_of_pattern w x) (ground p ds) (same ∙ q) v.atoms.keys
-        | false ↦ λ q. all_kept (is_of_pattern w x) (ground p ds) (same ∙ q) v.atoms.keys
-      ] refl in
+    λ p ds.
+    let same : is_of_pattern w x (ground p ds) ≡ ((x.predicate == p) && is_instance w x.slots ds) = ap (λ es. (x.predicate == p) && is_instance w x.slots es) (objects_valued w ds) in
+    ap (λ ks. is_listed ks (ground p ds)) e
+    ∙ elim ((x.predicate == p) && is_instance w x.slots ds) as (λ b. ((x.predicate == p) && is_instance w x.slots ds) ≡ b → is_listed (filter (λ a. not (is_of_pattern w x (atom_of a))) v.atoms.keys) (ground p ds) ≡ unwrap_or (cond b (Some false) None) (is_listed v.atoms.keys (ground p ds))) [
+      | true ↦ λ q. none_kept (is_of_pattern w x) (ground p ds) (same ∙ q) v.atoms.keys
+      | false ↦ λ q. all_kept (is_of_pattern w x) (ground p ds) (same ∙ q) v.atoms.keys
+    ] refl in
     λ i. record { truth = λ p ds. each p ds i; value = (world_of v).value }

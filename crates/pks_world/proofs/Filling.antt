@@ -175,3 +175,9 @@ module _ (s : Signature) (w : DWorld) where
   unfolding places_of term_eq
   all_places n within filled = λ f ds x h t.
       found (place f ds) w.values.entries ∙ sym (some_kept (lookup (λ u. is_eq (term_cmp (place f ds) (term_of u))) w.values.entries)) ∙ filled f ds x (within f x h) h t
+
+-- what holds of each element holds of the one at a place
+pub each_at : {X : Type 0} (P : X → Type 0) (xs : List X) (j : ℕ) (d : X) → Each P xs → j < length xs → P (get_or xs j d)
+each_at P [] j d a h = absurd (omega arith)
+each_at P (x ∷ xs) zero d a h = a.0
+each_at P (x ∷ xs) (suc j) d a h = each_at P xs j d a.1 (omega arith)

@@ -1,17 +1,14 @@
 -- What the ordered containers of a world say after one change.
-use Rattle.std.proofs.Common.{◌≡◌, ℕ, Bool, true, false, cond, ◌||◌, List, [], ◌∷◌, map, take, length, Option, Some, None, refl, sym, ap, ◌∙◌, subst}
+use Rattle.std.proofs.Common.{◌≡◌, ℕ, Bool, true, false, cond, ◌||◌, List, [], ◌∷◌, map, take, length, Option, Some, refl, sym, ap, ◌∙◌, subst}
 use Rattle.std.specs.BTreeMap.{BTreeMap}
 use Rattle.std.specs.BTreeSet.{BTreeSet}
 use Rattle.std.specs.List.{list_any}
 use Rattle.std.specs.Ordering.{is_eq}
 use Rattle.std.specs.Option.{is_some, unwrap_or, option_map}
 use Rattle.std.specs.Map.{lookup, keys_of}
-use Rattle.std.proofs.Math.Seq.{take-length}
-use Rattle.std.proofs.lemmas.List.{length-map}
 use Rattle.pks_terms.specs.Syntax.{Object, place, Atom}
 use Rattle.pks_terms.specs.Syntax as syntax
 use Rattle.pks_terms.specs.Orders.{atom_cmp, term_cmp, term_eq}
-use Rattle.pks_terms.specs.Worlds.{World}
 use Rattle.pks_terms.specs.declared.ids.ObjId.{ObjId}
 use Rattle.pks_terms.specs.declared.term.Inner.TheVariants as inner_is
 use Rattle.pks_terms.specs.declared.term.Term.{Term}
@@ -21,7 +18,7 @@ use Rattle.pks_terms.specs.Views.{object_of, inner_of, term_of, atom_of}
 use Rattle.pks_world.specs.declared.world.World.{World as DWorld}
 use Rattle.pks_world.specs.First.{Writes}
 use Rattle.pks_world.specs.Applied.{StayListed}
-use Rattle.pks_world.specs.Contents.{ground, atom_eq, is_listed, kept_at, value_elsewhere, places_of, world_of, with_truth, with_value}
+use Rattle.pks_world.specs.Contents.{ground, atom_eq, is_listed, value_elsewhere, places_of, world_of, with_truth, with_value}
 
 -- objects lifted and viewed again
 viewed : (ds : List ℕ) → map term_of (map (λ d. term_is.Obj (record { 0 = d })) ds) ≡ map Object ds
@@ -118,7 +115,7 @@ unfolding places_of
 still_listed w n t d h = λ f ds k.
     let old = λ (x : syntax.Term). lookup (λ u. is_eq (term_cmp x (term_of u))) w.values.entries in
     let each : lookup (λ u. is_eq (term_cmp (place f ds) (term_of u))) n.entries ≡ cond (is_eq (term_cmp (term_of t) (place f ds))) (Some d) (old (place f ds)) =
-      subst (λ (x : syntax.Term). lookup (λ u. is_eq (term_cmp x (term_of u))) n.entries ≡ cond (is_eq (term_cmp (term_of t) x)) (Some d) (old x)) (place_viewed f ds) (h (place_at f ds)) in
+    subst (λ (x : syntax.Term). lookup (λ u. is_eq (term_cmp x (term_of u))) n.entries ≡ cond (is_eq (term_cmp (term_of t) x)) (Some d) (old x)) (place_viewed f ds) (h (place_at f ds)) in
     found (place f ds) n.entries ∙ ap is_some each ∙ some_more (is_eq (term_cmp (term_of t) (place f ds))) d (old (place f ds)) (sym (found (place f ds) w.values.entries) ∙ k)
   where
     some_more : (b : Bool) (d : ObjId) (o : Option ObjId) → is_some o ≡ true → is_some (cond b (Some d) o) ≡ true

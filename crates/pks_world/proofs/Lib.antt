@@ -4,3 +4,5 @@ pub mod Typing
 pub mod Clearing
 pub mod Writing
 pub mod Effects
+pub mod Gathering
+pub mod Instances

@@ -1,11 +1,11 @@
 -- What one target writes.
-use Rattle.std.proofs.Common.{◌≡◌, ◌&&◌, ◌==◌, ℕ, Bool, true, false, cond, List, [], ◌∷◌, map, Option, Some, None, refl, sym, ap, ◌∙◌, subst, true≢false}
+use Rattle.std.proofs.Common.{◌≡◌, ◌&&◌, ◌==◌, ℕ, Bool, true, false, cond, List, [], ◌∷◌, map, Some, None, refl, sym, ap, ◌∙◌, subst}
 use Rattle.std.specs.Option.{unwrap_or}
 use Rattle.std.specs.Ordering.{is_eq}
 use Rattle.std.proofs.lemmas.Cmp.{tied_itself}
 use Rattle.std.proofs.lemmas.Bool.{and_parts, and_from, eqb-true, eq-eqb}
-use Rattle.pks_terms.specs.Syntax.{Object, Inner, Form, Apply, Term, Atom, place, as_object}
-use Rattle.pks_terms.specs.Orders.{number_of, arguments_of, atom_cmp, term_cmp, term_eq}
+use Rattle.pks_terms.specs.Syntax.{Object, Inner, Form, Term, Atom, place}
+use Rattle.pks_terms.specs.Orders.{number_of, arguments_of, term_cmp, term_eq}
 use Rattle.pks_terms.specs.Totality.{atom_cmp_total, term_cmp_total}
 use Rattle.pks_terms.specs.Worlds.{World, inner_value, value_of}
 use Rattle.pks_terms.specs.Databases.{same_objects}

@@ -1,12 +1,12 @@
 -- What one effect writes, and what the effects that are left write.
-use Rattle.std.specs.Prelude.{ℕ, Bool, true, ◌≡◌, ◌<◌, ◌==◌, ◌&&◌, map, List, [], ◌∷◌, Option, Some, None, slice_get, unwrap_or, if◌then◌else◌}
+use Rattle.std.specs.Prelude.{ℕ, Bool, true, ◌≡◌, ◌<◌, ◌==◌, ◌&&◌, map, List, Some, slice_get, unwrap_or}
 use Rattle.pks_terms.specs.Sets.{IsIn}
 use Rattle.pks_terms.specs.Signatures.{Signature, objects_of}
 use Rattle.pks_terms.specs.Syntax.{Inner, Term, Atom, Pattern, place}
 use Rattle.pks_terms.specs.Worlds.{World, inner_value, value_of}
 use Rattle.pks_terms.specs.Meaning.{is_instance}
 use Rattle.pks_world.specs.Contents.{has_place}
-use Rattle.pks_terms.specs.Actions.{Target, Set, Unset, Clear, Assign, Effect, argument, fires, written_truth, written_value, last_written}
+use Rattle.pks_terms.specs.Actions.{Target, Set, Unset, Clear, Assign, Effect, argument, written_truth, written_value, last_written}
 
 -- the world v with what the target writes, all that it names being read in w
 abbrev pub written_to : World → Target → World → World

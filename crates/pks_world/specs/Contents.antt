@@ -1,5 +1,5 @@
 -- What a world of the program says, and worlds with one thing changed.
-use Rattle.std.specs.Prelude.{ℕ, Bool, true, false, ◌≡◌, List, map, Option, slice_get, unwrap_or, option_map, if◌then◌else◌}
+use Rattle.std.specs.Prelude.{ℕ, Bool, List, map, Option, slice_get, unwrap_or, option_map, if◌then◌else◌}
 use Rattle.std.specs.List.{list_any}
 use Rattle.std.specs.Option.{option_map_or}
 use Rattle.std.specs.Ordering.{is_eq}

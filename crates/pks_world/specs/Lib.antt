@@ -1,3 +1,4 @@
 pub mod Contents
 pub mod First
 pub mod Applied
+pub mod Observed

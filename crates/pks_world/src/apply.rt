@@ -39,7 +39,7 @@ impl World {
         })
     }
 
-    /// Whether all literals of the conjunction are true. It takes no memory.
+    /// Whether all literals of the ground conjunction are true. It takes no memory. `docs/RULES.md`, worlds.
     #[tactic(auto, unfolding(pks_terms::specs::Worlds::all_true_in))]
     pub fn holds_all(&self, c: &Conj) -> bool
         ensures { result ≡ all_true_in (world_of self.now) (conj_of c.now) }
@@ -173,7 +173,8 @@ impl World {
         Ok(())
     }
 
-    /// The world after the action. Every condition, argument and value is read in this world, and the last effect that fires and writes a place wins.
+    /// The world after the action with objects as arguments. Every condition, argument and value is read in this world, and the last effect
+    /// that fires and writes a place wins. `AllocError` comes for want of memory alone. `docs/RULES.md`, what an action does to a world.
     pub fn apply(&self, p: &Problem<'_>, i: &Instance) -> Result<World, AllocError>
         ensures world { IsValid (problem_of p.now) → IfOk result (λ w. world_of w ≡ after_action (problem_of p.now) (world_of self.now) (instance_of i.now)) }
         ensures of_signature { IsValid (problem_of p.now) → AreArguments (signature_of p.now.signature) (world_of self.now) (schema_of (problem_of p.now) i.now.act.0).parameters (given_of i.now) → IsWorldOf (signature_of p.now.signature) self.now → IfOk result (IsWorldOf (signature_of p.now.signature)) }

@@ -33,7 +33,7 @@ fn least_of(s: &Signature, of: TypeId) -> ObjId
 
 /// The objects of the type, in order.
 #[tactic(auto, unfolding(pks_terms::specs::Signatures::objects_of))]
-fn objects_of(alloc: Global, s: &Signature, of: TypeId) -> Result<Vec<ObjId>, AllocError>
+pub(crate) fn objects_of(alloc: Global, s: &Signature, of: TypeId) -> Result<Vec<ObjId>, AllocError>
     requires { length s.now.objects ≤ 65536 }
     ensures { IfOk result (λ v. map object_of v.items ≡ objects_of (signature_of s.now) of.0) }
 {
@@ -132,14 +132,13 @@ fn fill(
     d: ObjId,
     values: &mut BTreeMap<Term, ObjId>,
 ) -> Result<(), AllocError>
-    requires objects { length s.now.objects ≤ 65536 }
-    requires arguments { length types.now ≤ 2 }
+    requires { length s.now.objects ≤ 65536 }
     ensures only { OnOk result (WritesOnly fun.0 d.0 values.old.entries values.new.entries) }
-    ensures all { OnOk result (WritesAll (signature_of s.now) fun.0 (types_of types.now) d.0 values.new.entries) }
+    ensures all { length types.now ≤ 2 → OnOk result (WritesAll (signature_of s.now) fun.0 (types_of types.now) d.0 values.new.entries) }
 {
     let firsts = argument_range(alloc, s, types, 0)?;
     let seconds = argument_range(alloc, s, types, 1)?;
-    keep_rows(values, fun, types.len() as u8, &firsts, &seconds, d)?;
+    keep_rows(values, fun, types.len().min(2) as u8, &firsts, &seconds, d)?;
     Ok(())
 }
 
@@ -147,9 +146,8 @@ fn fill(
 fn all_values(alloc: Global, s: &Signature) -> Result<BTreeMap<Term, ObjId>, AllocError>
     requires objects { length s.now.objects ≤ 65536 }
     requires functions { length s.now.functions ≤ 256 }
-    requires arguments { Each (λ x. length (shape_of x).arguments ≤ 2) s.now.functions }
     ensures least { IfOk result (λ m. AreLeast (signature_of s.now) m.entries) }
-    ensures filled { IfOk result (λ m. AreFilled (signature_of s.now) (length s.now.functions) m.entries) }
+    ensures filled { Each (λ x. length (shape_of x).arguments ≤ 2) s.now.functions → IfOk result (λ m. AreFilled (signature_of s.now) (length s.now.functions) m.entries) }
 {
     let mut values = BTreeMap::new(alloc);
     for (f, shape) in s.functions.as_slice().iter().enumerate() {
@@ -161,11 +159,13 @@ fn all_values(alloc: Global, s: &Signature) -> Result<BTreeMap<Term, ObjId>, All
 }
 
 impl World {
-    /// The world in which no atom is true and each place has the least object of its result type.
+    /// The world in which no atom is true and each place has the least object of its result type. It asks that objects and functions can be
+    /// numbered. `AllocError` comes for want of memory alone. `docs/RULES.md`, worlds.
     pub fn first(alloc: Global, p: &Problem<'_>) -> Result<World, AllocError>
-        requires { IsValidSignature (signature_of p.now.signature) }
+        requires objects { length p.now.signature.objects ≤ 65536 }
+        requires functions { length p.now.signature.functions ≤ 256 }
         ensures world { IfOk result (λ w. world_of w ≡ first_world (signature_of p.now.signature)) }
-        ensures of_signature { IfOk result (IsWorldOf (signature_of p.now.signature)) }
+        ensures of_signature { IsValidSignature (signature_of p.now.signature) → IfOk result (IsWorldOf (signature_of p.now.signature)) }
     {
         let values = all_values(alloc, &p.signature)?;
         let others = least_values(alloc, &p.signature)?;

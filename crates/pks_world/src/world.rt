@@ -16,7 +16,8 @@ use pks_terms::term::{Inner, Term};
 use std::alloc::AllocError;
 use std::collections::{BTreeMap, BTreeSet};
 
-/// The atoms that are true, and the value at each place.
+/// The atoms that are true, and the value at each place. At places for which no value is kept, which no term of the signature reads, a
+/// function has one value of its result type. `docs/RULES.md`, worlds.
 #[derive(Drop)]
 pub struct World {
     pub(crate) atoms: BTreeSet<PredAtom>,
@@ -83,7 +84,7 @@ impl World {
         [self.inner_value(&args[0]), self.inner_value(&args[1])]
     }
 
-    /// The value of a term. It takes no memory.
+    /// The value of a ground term. It takes no memory. `docs/RULES.md`, worlds.
     #[tactic(auto, unfolding(pks_terms::specs::Worlds::value_of))]
     pub fn value(&self, t: &Term) -> ObjId
         ensures { result.0 ≡ value_of (world_of self.now) (term_of t.now) }
@@ -121,7 +122,7 @@ impl World {
         }
     }
 
-    /// Whether the literal is true. It takes no memory.
+    /// Whether the ground literal is true. It takes no memory. `docs/RULES.md`, worlds.
     #[tactic(auto, unfolding(pks_terms::specs::Worlds::true_in))]
     pub fn holds(&self, l: &Literal) -> bool
         ensures { result ≡ true_in (world_of self.now) (literal_of l.now) }
@@ -130,7 +131,8 @@ impl World {
         if l.positive { relates } else { !relates }
     }
 
-    /// Makes the atom, whose arguments are objects, true. All else stays, and all stays where memory is wanting.
+    /// Makes the atom, whose arguments are objects, true. All else stays. Where memory is wanting it answers `AllocError`, and the world says
+    /// what it did. `docs/RULES.md`, worlds.
     pub fn put_atom(&mut self, a: &PredAtom) -> Result<(), AllocError>
         ensures ok { OnOk result (world_of self.new ≡ with_truth (world_of self.old) (atom_of a.now) true) }
         ensures err { OnErr result (world_of self.new ≡ world_of self.old) }
@@ -141,7 +143,8 @@ impl World {
         Ok(())
     }
 
-    /// Gives the place, whose arguments are objects and for which a value is kept, this value. All else stays. It takes no memory.
+    /// Gives the place, whose arguments are objects, this value. It asks that a value is kept for the place, as one is for each place of the
+    /// signature. All else stays. It takes no memory. `docs/RULES.md`, worlds.
     pub fn put_value(&mut self, place: &Term, d: ObjId)
         requires { IsTrue (has_place (places_of self.old) (term_of place.now)) }
         ensures world { world_of self.new ≡ with_value (world_of self.old) (term_of place.now) d.0 }

@@ -1,4 +1,4 @@
-use Rattle.std.proofs.Common.{◌≡◌, ◌∙◌, ap, sym, List, [], ◌++◌, Option, rules}
+use Rattle.std.proofs.Common.{◌≡◌, ◌∙◌, ap, sym, List, [], Option, rules}
 use Rattle.pks_text.specs.Forms.{Form, Forms}
 use Rattle.pks_text.specs.FormViews.{forms_view}
 use Rattle.pks_grammar.specs.Files.{Fault}

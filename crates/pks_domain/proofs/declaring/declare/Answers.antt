@@ -1,5 +1,5 @@
-use Rattle.std.proofs.Common.{◌≡◌, ◌∙◌, ℕ, List, Option, true, false, map, is_some, option_map, refl, ap, sym, rules, Bor}
-use Rattle.pks_meaning.specs.Tables.{entry_of, declare}
+use Rattle.std.proofs.Common.{◌≡◌, ◌∙◌, Option, true, false, map, is_some, option_map, refl, ap, sym, rules, Bor}
+use Rattle.pks_meaning.specs.Tables.{entry_of}
 use Rattle.pks_meaning.specs.Views.{names_of}
 use Rattle.pks_meaning.proofs.Entries.{declared_already, inserted_view}
 use Rattle.pks_domain.proofs.declaring.declare.Goals as goal

@@ -1,4 +1,4 @@
-use Rattle.std.proofs.Common.{◌≡◌, ◌∙◌, ap}
+use Rattle.std.proofs.Common.{◌∙◌, ap}
 use Rattle.pks_terms.specs.Views.{shape_of}
 use Rattle.pks_meaning.specs.Views.{names_of, seen}
 use Rattle.pks_meaning.proofs.Entries.{declare_seen}

@@ -1,6 +1,5 @@
-use Rattle.std.proofs.Common.{◌≡◌, ◌∙◌, ◌∷◌, [], ap, sym, List, arith}
+use Rattle.std.proofs.Common.{◌∙◌, ap, sym, arith}
 use Rattle.pks_text.specs.Forms.{Form, place_of}
-use Rattle.pks_grammar.specs.Files.{Fault}
 use Rattle.pks_meaning.specs.Declarations.{second_in}
 use Rattle.pks_meaning.specs.Meaning.{noted, all_noted}
 use Rattle.pks_meaning.specs.Views.{found_of}

@@ -1,4 +1,4 @@
-use Rattle.std.proofs.Common.{◌≡◌, ◌∙◌, sym}
+use Rattle.std.proofs.Common.{◌∙◌, sym}
 use Rattle.pks_domain.proofs.Owning.{owns_length}
 use Rattle.pks_domain.proofs.functions.count_objects.Goals as goal
 

@@ -1,10 +1,7 @@
 use Rattle.std.proofs.Common.{◌≡◌, drop}
 use Rattle.pks_terms.specs.Views.{shape_of}
-use Rattle.pks_text.specs.Forms.{Form, Forms}
-use Rattle.pks_text.specs.FormViews.{form_view, forms_view}
-use Rattle.pks_meaning.specs.Tables.{Table, declare}
-use Rattle.pks_meaning.specs.Parts.{behind_head, only, first_forms}
-use Rattle.pks_meaning.specs.Declarations.{first_in, second_in, no_faults, type_named, predicate_in, predicate_faults, function_in, function_faults, parameter_in, nothing, action_faults, type_faults, parent_named, types_from, types_faults, entries_faults, table_from, objects_from, objects_faults, name_of, name_faults}
+use Rattle.pks_text.specs.FormViews.{forms_view}
+use Rattle.pks_meaning.specs.Declarations.{first_in, function_in, function_faults, entries_faults, table_from}
 use Rattle.pks_meaning.specs.Meaning.{all_noted}
 use Rattle.pks_meaning.specs.Views.{found_of, names_of, seen, scope_view}
 use Rattle.pks_domain.proofs.functions.function_entries.Given as goal

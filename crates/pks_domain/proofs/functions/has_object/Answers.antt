@@ -1,7 +1,7 @@
-use Rattle.std.proofs.Common.{◌≡◌, ◌∙◌, sym, arith}
+use Rattle.std.proofs.Common.{◌∙◌, sym}
 use Rattle.pks_meaning.specs.Tables.{entries_of}
 use Rattle.pks_meaning.specs.Views.{scope_view}
-use Rattle.pks_domain.proofs.Owning.{has_found, has_skipped, has_none}
+use Rattle.pks_domain.proofs.Owning.{has_found, has_skipped}
 use Rattle.pks_domain.proofs.functions.has_object.Goals as goal
 
 pub returns-then-is_of_type : goal.returns-then-is_of_type

@@ -1,4 +1,4 @@
-use Rattle.std.proofs.Common.{◌≡◌, ◌∙◌, ap, sym, ℕ, Option, Bor, List, option_map}
+use Rattle.std.proofs.Common.{◌∙◌, ap, sym, ℕ, Bor, List, option_map}
 use Rattle.pks_meaning.proofs.Entries.{said_number}
 use Rattle.pks_domain.proofs.functions.object_at.Goals as goal
 

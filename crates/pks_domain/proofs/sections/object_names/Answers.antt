@@ -1,12 +1,8 @@
-use Rattle.std.proofs.Common.{◌≡◌, ap, List, length, drop}
-use Rattle.pks_terms.specs.Views.{shape_of}
-use Rattle.pks_text.specs.Forms.{Form, Forms}
-use Rattle.pks_text.specs.FormViews.{form_view, forms_view}
-use Rattle.pks_meaning.specs.Tables.{Table, declare}
-use Rattle.pks_meaning.specs.Parts.{behind_head, only, first_forms}
-use Rattle.pks_meaning.specs.Declarations.{first_in, second_in, no_faults, type_named, predicate_in, predicate_faults, function_in, function_faults, parameter_in, type_faults, parent_named, types_from, types_faults, entries_faults, table_from, objects_from, objects_faults, name_of, name_faults}
+use Rattle.pks_text.specs.Forms.{Form}
+use Rattle.pks_text.specs.FormViews.{forms_view}
+use Rattle.pks_meaning.specs.Declarations.{first_in, no_faults, entries_faults, table_from}
 use Rattle.pks_meaning.specs.Meaning.{all_noted}
-use Rattle.pks_meaning.specs.Views.{found_of, names_of, seen, scope_view}
+use Rattle.pks_meaning.specs.Views.{found_of, names_of}
 use Rattle.pks_meaning.proofs.Noting.{entries_next, table_next}
 use Rattle.pks_domain.proofs.sections.object_names.Goals as goal
 
@@ -19,6 +15,6 @@ loop-form-preserved c =
     let x = c.form-item.result in
     record {
       faults = entries_next first_in said faults fs i x (names_of c.loop-form.table) (names_of c.object.new.table) (found_of c.loop-form.report) (found_of c.object.new.report)
-        (all_noted (found_of c.args.report.now) (entries_faults first_in said faults (names_of c.args.table.now) (forms_view fs))) c.loop-form-test.true c.form-item.is c.in_ok-object.ensures.table c.in_ok-object.ensures.faults c.loop-form.invariant.faults;
+          (all_noted (found_of c.args.report.now) (entries_faults first_in said faults (names_of c.args.table.now) (forms_view fs))) c.loop-form-test.true c.form-item.is c.in_ok-object.ensures.table c.in_ok-object.ensures.faults c.loop-form.invariant.faults;
       table = table_next first_in said fs i x (names_of c.loop-form.table) (names_of c.object.new.table) (table_from first_in said (names_of c.args.table.now) (forms_view fs)) c.loop-form-test.true c.form-item.is c.in_ok-object.ensures.table c.loop-form.invariant.table;
     }

@@ -1,12 +1,9 @@
 use Rattle.std.proofs.Common.{◌≡◌, drop}
-use Rattle.pks_terms.specs.Views.{shape_of}
-use Rattle.pks_text.specs.Forms.{Form, Forms}
-use Rattle.pks_text.specs.FormViews.{form_view, forms_view}
-use Rattle.pks_meaning.specs.Tables.{Table, declare}
-use Rattle.pks_meaning.specs.Parts.{behind_head, only, first_forms}
-use Rattle.pks_meaning.specs.Declarations.{first_in, second_in, no_faults, type_named, predicate_in, predicate_faults, function_in, function_faults, parameter_in, type_faults, parent_named, types_from, types_faults, entries_faults, table_from, objects_from, objects_faults, name_of, name_faults}
+use Rattle.pks_text.specs.Forms.{Form}
+use Rattle.pks_text.specs.FormViews.{forms_view}
+use Rattle.pks_meaning.specs.Declarations.{first_in, no_faults, entries_faults, table_from}
 use Rattle.pks_meaning.specs.Meaning.{all_noted}
-use Rattle.pks_meaning.specs.Views.{found_of, names_of, seen, scope_view}
+use Rattle.pks_meaning.specs.Views.{found_of, names_of}
 use Rattle.pks_domain.proofs.sections.object_names.Given as goal
 
 abbrev pub invariant-loop-form : goal.invariant-loop-form

@@ -1,4 +1,4 @@
-use Rattle.std.proofs.Common.{◌≡◌, ◌-◌, ◌∙◌, ap, sym, ℕ, List, [], length}
+use Rattle.std.proofs.Common.{◌≡◌, ◌-◌, ◌∙◌, ap, sym, ℕ, [], length}
 use Rattle.pks_text.specs.Forms.{Forms}
 use Rattle.pks_text.specs.FormViews.{form_view, forms_view}
 use Rattle.pks_grammar.specs.Walk.{count}
@@ -24,6 +24,6 @@ loop-form-preserved c =
     let left : m ≡ n - count (behind_head (form_view x)) = c.saturating_sub-left.ensures ∙ ap (λ (k : ℕ). n - k) number in
     record {
       faults = objects_noted types fs i x n m t u (found_of c.loop-form.report) (found_of c.object_entry.new.report) (all_noted (found_of c.args.report.now) (objects_faults types c.args.n [] (forms_view fs)))
-        c.loop-form-test.true c.form-item.is left c.in_ok-object_entry.ensures.table c.in_ok-object_entry.ensures.faults c.loop-form.invariant.faults;
+          c.loop-form-test.true c.form-item.is left c.in_ok-object_entry.ensures.table c.in_ok-object_entry.ensures.faults c.loop-form.invariant.faults;
       table = objects_declared types fs i x n m t u (objects_from types c.args.n [] (forms_view fs)) c.loop-form-test.true c.form-item.is left c.in_ok-object_entry.ensures.table c.loop-form.invariant.table;
     }

@@ -1,4 +1,4 @@
-use Rattle.std.proofs.Common.{◌≡◌, ◌≤◌, ◌+◌, ap, subst, ℕ, List, [], length, arith}
+use Rattle.std.proofs.Common.{◌≡◌, ◌≤◌, ◌+◌, ap, [], length, arith}
 use Rattle.pks_text.specs.FormViews.{form_view, forms_view}
 use Rattle.pks_meaning.specs.Tables.{declare}
 use Rattle.pks_meaning.specs.Parts.{behind_head}
@@ -21,7 +21,7 @@ loop-form-preserved c =
     let grown : length u ≡ length (declare t name parent) = ap (λ (v : Types). length v) c.in_ok-type_entry.ensures.table in
     record {
       faults = types_noted fs i x t u (found_of c.loop-form.report) (found_of c.type_entry.new.report) (all_noted (found_of c.args.report.now) (types_faults [] (forms_view fs)))
-        c.loop-form-test.true c.form-item.is c.in_ok-type_entry.ensures.table c.in_ok-type_entry.ensures.faults c.loop-form.invariant.faults;
+          c.loop-form-test.true c.form-item.is c.in_ok-type_entry.ensures.table c.in_ok-type_entry.ensures.faults c.loop-form.invariant.faults;
       table = types_declared fs i x t u (types_from [] (forms_view fs)) c.loop-form-test.true c.form-item.is c.in_ok-type_entry.ensures.table c.loop-form.invariant.table;
       few = omega (arith, one, grown, c.loop-form.invariant.few);
     }

@@ -1,4 +1,3 @@
-use Rattle.std.proofs.Common.{◌≡◌}
 use Rattle.pks_meaning.proofs.Lengths.{unequal_lengths}
 use Rattle.pks_meaning.proofs.same.+same.Goals as goal
 

@@ -1,4 +1,4 @@
-use Rattle.std.proofs.Common.{◌≡◌, ◌∙◌}
+use Rattle.std.proofs.Common.{◌∙◌}
 use Rattle.pks_meaning.proofs.Entries.{number_view}
 use Rattle.pks_meaning.proofs.scope.number.Goals as goal
 

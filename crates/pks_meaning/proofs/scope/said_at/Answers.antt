@@ -1,4 +1,4 @@
-use Rattle.std.proofs.Common.{◌≡◌, ◌∙◌, ap, sym, subst, ℕ, Option, Some, None, Bor, List, option_map, slice_get}
+use Rattle.std.proofs.Common.{◌≡◌, ◌∙◌, ap, sym, subst, ℕ, Option, Bor, List, option_map, slice_get}
 use Rattle.std.specs.Map.Iter.{deref_pair}
 use Rattle.pks_meaning.proofs.Entries.{said_number}
 use Rattle.pks_meaning.proofs.scope.said_at.Goals as goal

@@ -13,7 +13,7 @@ arguments-loop-i-preserved t c =
     let s = scope_view c.args.scope.now in
     let rest = types_of c.loop-i.rest.now in
     let noted : found_of c.argument.new.report ≡ all_noted (found_of c.loop-i.report) (mistyped s (first_wanted rest) (form_view c.index-parts-i.result) ++ term_faults s (form_view c.index-parts-i.result)) =
-        rw c.first_wanted.ensures at c.argument.ensures in
+    rw c.first_wanted.ensures at c.argument.ensures in
     ap (λ w. all_noted (found_of c.argument.new.report) (terms_faults s w (forms_view (drop (c.loop-i.i + 1) c.args.parts.now)))) c.rest_wanted-rest.ensures
     ∙ noted_next (terms_faults s rest) (λ (f : Form). mistyped s (first_wanted rest) f ++ term_faults s f) (terms_faults s (rest_wanted rest))
     c.args.parts.now c.loop-i.i c.index-parts-i.result (found_of c.loop-i.report) (found_of c.argument.new.report) c.loop-i-test.true c.index-parts-i.is refl noted

@@ -24,7 +24,7 @@ pub print_cases-returns-in_err-print_body-in-More-clause-err : goal.print_cases-
 print_cases-returns-in_err-print_body-in-More-clause-err t c =
     let names = names_of c.args.p.now in
     let stopped =
-        subst (λ b. AppendsPart c.case_line.new.out.items c.print_body.new.out.items (body_text names b (tree_of c.in-More.tree))) (sym (indent_more c.args.level)) c.in_err-print_body-in-More.ensures.err in
+    subst (λ b. AppendsPart c.case_line.new.out.items c.print_body.new.out.items (body_text names b (tree_of c.in-More.tree))) (sym (indent_more c.args.level)) c.in_err-print_body-in-More.ensures.err in
     at_err _ _
     (subst (λ x. AppendsPart c.args.out.now.items c.print_body.new.out.items (cases_text names (indent c.args.level) (chain_of x))) (sym c.in-More.is)
     (part_then _ c.in_ok-case_line-in-More.ensures.ok (part_first (cases_text names (indent c.args.level) (chain_of c.in-More.rest.value)) stopped)))

@@ -1,9 +1,9 @@
-use Rattle.std.proofs.Common.{◌≡◌, rules, sym, ap, ◌∙◌}
-use Rattle.pks_terms.specs.Trees.{root_kind, objects_in, root_cases, cost}
+use Rattle.std.proofs.Common.{sym, ap, ◌∙◌}
+use Rattle.pks_terms.specs.Trees.{root_kind, cost}
 use Rattle.pks_terms.specs.Views.{problem_of}
-use Rattle.pks_plan.specs.TreeViews.{tree_of, chain_of}
+use Rattle.pks_plan.specs.TreeViews.{tree_of}
 use Rattle.pks_plan.proofs.Variants.{only_act, only_branch, only_cases}
-use Rattle.pks_plan.proofs.Roots.{same_kind, same_objects, unequal_roots}
+use Rattle.pks_plan.proofs.Roots.{same_kind, unequal_roots}
 use Rattle.pks_plan.proofs.order.+betters.Goals as goal
 
 pub better-returns-in_default : goal.better-returns-in_default

@@ -1,9 +1,9 @@
-use Rattle.std.proofs.Common.{◌≤◌, length, arith, rules, subst, map, take, ◌∷◌, [], sym}
+use Rattle.std.proofs.Common.{subst, map, take, ◌∷◌, []}
 use Rattle.pks_terms.specs.Syntax.{Term, place}
 use Rattle.pks_terms.specs.Orders.{term_eq}
 use Rattle.pks_terms.specs.declared.ids.ObjId.{ObjId}
 use Rattle.pks_terms.specs.Views.{object_of}
-use Rattle.pks_world.specs.First.{Writes, is_in_row}
+use Rattle.pks_world.specs.First.{Writes}
 use Rattle.pks_world.proofs.Filling.{kept_more, kept_all}
 use Rattle.pks_world.proofs.first.keep_row.Goals as goal
 

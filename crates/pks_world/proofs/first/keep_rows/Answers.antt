@@ -1,9 +1,5 @@
-use Rattle.std.proofs.Common.{◌≤◌, length, arith, rules, subst, map, take, ◌∷◌, [], sym}
-use Rattle.pks_terms.specs.Syntax.{Term, place}
-use Rattle.pks_terms.specs.Orders.{term_eq}
 use Rattle.pks_terms.specs.declared.ids.ObjId.{ObjId}
-use Rattle.pks_terms.specs.Views.{object_of}
-use Rattle.pks_world.specs.First.{Writes, is_in_row}
+use Rattle.pks_world.specs.First.{is_in_row}
 use Rattle.pks_world.proofs.Filling.{kept_more, kept_all}
 use Rattle.pks_world.proofs.first.keep_rows.Goals as goal
 

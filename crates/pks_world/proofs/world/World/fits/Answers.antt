@@ -1,4 +1,4 @@
-use Rattle.std.proofs.Common.{◌≡◌, ◌<◌, ◌+◌, ◌&&◌, ◌∙◌, Bool, map, length, drop, sym, ap, false, arith, []}
+use Rattle.std.proofs.Common.{◌<◌, ◌+◌, ◌&&◌, ◌∙◌, map, length, sym, ap, arith}
 use Rattle.std.proofs.lemmas.List.{length-map}
 use Rattle.std.specs.Option.{option_map}
 use Rattle.pks_terms.specs.Worlds.{value_of}

@@ -1,4 +1,4 @@
-use Rattle.std.proofs.Common.{true, false, sym, ap, ◌∙◌, subst}
+use Rattle.std.proofs.Common.{true, false, sym, ap, ◌∙◌}
 use Rattle.pks_terms.specs.Orders.{number_of, arguments_of}
 use Rattle.pks_terms.specs.Syntax.{Atom}
 use Rattle.pks_terms.specs.declared.schema.Target as target

@@ -13,10 +13,10 @@ loop-effect-preserved c =
     let es = c.args.effects.now in
     record {
       world = λ all.
-        written_more w given es c.loop-effect.effect-index _ (world_of c.write_effect.new.self) (world_of c.loop-effect.self) c.loop-effect-test.true
-        (c.in_ok-write_effect.ensures.world (numbered_at given es c.loop-effect.effect-index _ c.at.result all c.loop-effect-test.true c.at.ensures.says)
-        ∙ ap (λ (e : Effect). written_by w (e ∷ []) (world_of c.loop-effect.self)) c.at.ensures.says)
-        ∙ c.loop-effect.invariant.world all;
+          written_more w given es c.loop-effect.effect-index _ (world_of c.write_effect.new.self) (world_of c.loop-effect.self) c.loop-effect-test.true
+          (c.in_ok-write_effect.ensures.world (numbered_at given es c.loop-effect.effect-index _ c.at.result all c.loop-effect-test.true c.at.ensures.says)
+          ∙ ap (λ (e : Effect). written_by w (e ∷ []) (world_of c.loop-effect.self)) c.at.ensures.says)
+          ∙ c.loop-effect.invariant.world all;
       places = λ f ds h. c.in_ok-write_effect.ensures.places f ds (c.loop-effect.invariant.places f ds h);
     }
 

@@ -1,0 +1,4 @@
+//! Worked problems, computed on the definitions of a contingent planner.
+#![tactic(auto)]
+
+pub mod examples;
