@@ -5,7 +5,7 @@ use Rattle.std.specs.Ordering.{ordering_reverse}
 use Rattle.std.specs.Option.{option_map_or}
 use Rattle.std.proofs.lemmas.Bool.{false≢true, and_from, or_parts}
 use Rattle.pks_terms.specs.Sets.{Each}
-use Rattle.pks_terms.specs.Syntax.{Term, Equality, Literal, negated, affirmed}
+use Rattle.pks_terms.specs.Syntax.{Term, Equality, Named, Literal}
 use Rattle.pks_terms.specs.Orders.{term_cmp, literal_cmp, literal}
 use Rattle.pks_terms.specs.Signatures.{Shape, Signature, fits_type}
 use Rattle.pks_terms.specs.Valid.{all_fit, inner_fits, term_fits, slot_fits, type_in, is_term, is_literal, is_atom, is_pattern, sides_fit, IsLiteralText, IsConjText}
@@ -27,7 +27,7 @@ use Rattle.pks_meaning.specs.Scopes.{Scope, signature_in, fits, type_of}
 use Rattle.pks_meaning.specs.Parts.{parts_of, behind_head, each, only, past}
 use Rattle.pks_meaning.specs.Terms.{mistyped, apart, applied_faults, wanted_by, term_faults, terms_faults, atom_faults, equation_faults, positive_faults, literal_faults, wildcards, past_places, pattern_faults}
 use Rattle.pks_meaning.specs.Sentences.{literals_faults}
-use Rattle.pks_stated.specs.Stated.{first, all, one, term_in, atom_by, atom_in, sides_in, positive_in, literal_in, conj_in, slot_in, pattern_in}
+use Rattle.pks_stated.specs.Stated.{first, all, one, term_in, atom_by, atom_in, no_literal, equation_in, signed_in, literal_in, conj_in, slot_in, pattern_in}
 use Rattle.pks_accepted.specs.Facts.{EachForm, HasShapes}
 use Rattle.pks_accepted.proofs.Shapes.{headed_holds, of_sort, alone, both_of, no_name}
 use Rattle.pks_accepted.proofs.Numbers.{nil_parts, unless, each_forms, each_faultless}
@@ -72,11 +72,6 @@ equation_text s ps t u a b positive is_t is_u typed_t typed_u fit = by_test (is_
       ordered = ap (λ (c : Bool). cond c (u ∷ t ∷ []) (t ∷ u ∷ [])) e;
     }
 
--- the sign is of no account
-pub negated_text : (s : Signature) (ps : List ℕ) (l : Literal) → IsLiteralText s ps l → IsLiteralText s ps (negated l)
-unfolding is_literal
-negated_text s ps l is = record { typed = is.typed; sides = is.sides; ordered = is.ordered }
-
 -- ---- what each form means
 
 pub each_first : {X : Type 0} (P : Form → Type 0) (Q : X → Type 0) (meant : Form → X) → ((f : Form) → P f → Q (meant f)) → (n : ℕ) (fs : Forms) → EachForm P fs → Each Q (first n meant fs)
@@ -107,20 +102,20 @@ module _ (s : Scope) (shapes : HasShapes s) (v : Version) where
       (each_forms (IsOf v sort.Term) (IsOf v sort.Term) (Reads s (term_fits (signature_in s) (own_types s)) (term_in s)) (λ f is also. term_reads f is) args is.1 is.1) both.0 both.1 in
       ap (λ (o : Option Shape). option_map_or (λ x. all_fit (term_fits (signature_in s) (own_types s)) x.arguments (first 3 (term_in s) args)) o false) to.declared ∙ to.fitted
 
-  affirmed_text : (parts : Forms) (at : ℕ) → IsApplied v sort.Term parts → atom_faults s parts at ≡ [] → IsLiteralText (signature_in s) (own_types s) (affirmed (atom_by s parts))
+  signed_text : (sign : Bool) (parts : Forms) (at : ℕ) → IsApplied v sort.Term parts → atom_faults s parts at ≡ [] → IsLiteralText (signature_in s) (own_types s) (record { relation = Named (atom_by s parts).predicate; arguments = (atom_by s parts).arguments; positive = sign })
   unfolding is_literal
-  affirmed_text parts at is e = record { typed = atom_is parts at is e; sides = refl; ordered = refl }
+  signed_text sign parts at is e = record { typed = atom_is parts at is e; sides = refl; ordered = refl }
 
   -- ---- atoms and equations
 
-  abbrev PositiveHolds : Form → Type 0
-  PositiveHolds f = positive_faults s f ≡ [] → IsLiteralText (signature_in s) (own_types s) (positive_in s f)
+  abbrev PositiveHolds : Bool → Form → Type 0
+  PositiveHolds sign f = positive_faults s f ≡ [] → IsLiteralText (signature_in s) (own_types s) (signed_in s sign f)
 
-  equation_holds : (a at end : ℕ) (rest : Forms) → Matches v (One sort.Term ∷ One sort.Term ∷ []) rest → PositiveHolds (Listing (form (Word (codes "=") a) rest) at end)
-  equation_holds a at end no_forms m e = absurd (both_of v sort.Term sort.Term no_forms m)
-  equation_holds a at end (form t no_forms) m e = absurd (both_of v sort.Term sort.Term (form t no_forms) m)
-  equation_holds a at end (form t (form u (form w fs))) m e = absurd (both_of v sort.Term sort.Term (form t (form u (form w fs))) m)
-  equation_holds a at end (form t (form u no_forms)) m e =
+  equation_holds : (sign : Bool) (a at end : ℕ) (rest : Forms) → Matches v (One sort.Term ∷ One sort.Term ∷ []) rest → PositiveHolds sign (Listing (form (Word (codes "=") a) rest) at end)
+  equation_holds sign a at end no_forms m e = absurd (both_of v sort.Term sort.Term no_forms m)
+  equation_holds sign a at end (form t no_forms) m e = absurd (both_of v sort.Term sort.Term (form t no_forms) m)
+  equation_holds sign a at end (form t (form u (form w fs))) m e = absurd (both_of v sort.Term sort.Term (form t (form u (form w fs))) m)
+  equation_holds sign a at end (form t (form u no_forms)) m e =
       let are = both_of v sort.Term sort.Term (form t (form u no_forms)) m in
       let both = nil_parts (term_faults s t) (term_faults s u ++ apart s (type_of s t) (type_of s u) (place_of u)) e in
       let rest = nil_parts (term_faults s u) (apart s (type_of s t) (type_of s u) (place_of u)) both.1 in
@@ -128,23 +123,23 @@ module _ (s : Scope) (shapes : HasShapes s) (v : Version) where
       let right = term_stands s shapes v u are.1 rest.0 in
       let fit : ◌≡◌ {A = List Fault} (cond (fits s left.own right.own || fits s right.own left.own) [] ((place_of u, 206) ∷ [])) [] =
       sym (ap (λ (o : Option ℕ). apart s (Some left.own) o (place_of u)) right.found) ∙ sym (ap (λ (o : Option ℕ). apart s o (type_of s u) (place_of u)) left.found) ∙ rest.1 in
-      equation_text (signature_in s) (own_types s) (term_in s t) (term_in s u) left.own right.own true (stands_term s t (term_in s t) left) (stands_term s u (term_in s u) right)
+      equation_text (signature_in s) (own_types s) (term_in s t) (term_in s u) left.own right.own sign (stands_term s t (term_in s t) left) (stands_term s u (term_in s u) right)
       (stands_typed s t (term_in s t) left) (stands_typed s u (term_in s u) right) (unless (place_of u, 206) (fits s left.own right.own || fits s right.own left.own) fit)
 
-  applied_holds : (parts : Forms) (at end : ℕ) → IsApplied v sort.Term parts → PositiveHolds (Listing parts at end)
-  applied_holds no_forms at end is e = absurd is
-  applied_holds (form (Listing ps b z) args) at end is e = absurd is.0
-  applied_holds (form (Word head a) args) at end is e =
+  applied_holds : (sign : Bool) (parts : Forms) (at end : ℕ) → IsApplied v sort.Term parts → PositiveHolds sign (Listing parts at end)
+  applied_holds sign no_forms at end is e = absurd is
+  applied_holds sign (form (Listing ps b z) args) at end is e = absurd is.0
+  applied_holds sign (form (Word head a) args) at end is e =
       let other : bytes_eq head (codes "=") ≡ false = no_name head (codes "=") is.0 refl in
       subst (λ (l : Literal). IsLiteralText (signature_in s) (own_types s) l)
-      (sym (ap (λ (b : Bool). cond b (literal Equality (sides_in s args) true) (affirmed (atom_by s (form (Word head a) args)))) other))
-      (affirmed_text (form (Word head a) args) at is (sym (ap (λ (b : Bool). cond b (equation_faults s args) (atom_faults s (form (Word head a) args) at)) other) ∙ e))
+      (sym (ap (λ (b : Bool). cond b (equation_in s sign args) (record { relation = Named (atom_by s (form (Word head a) args)).predicate; arguments = (atom_by s (form (Word head a) args)).arguments; positive = sign })) other))
+      (signed_text sign (form (Word head a) args) at is (sym (ap (λ (b : Bool). cond b (equation_faults s args) (atom_faults s (form (Word head a) args) at)) other) ∙ e))
 
-  pub positive_text : (f : Form) → IsOf v sort.Positive f → PositiveHolds f
+  pub positive_text : (sign : Bool) (f : Form) → IsOf v sort.Positive f → PositiveHolds sign f
   unfolding lists is_allowed
-  positive_text = of_sort v PositiveHolds sort.Positive (λ text at allowed. absurd (false≢true allowed))
-      (headed_holds v PositiveHolds 61 [] (One sort.Term ∷ One sort.Term ∷ []) equation_holds, tt)
-      (λ parts at end free m. applied_holds parts at end (applied_is v sort.Term parts m))
+  positive_text sign = of_sort v (PositiveHolds sign) sort.Positive (λ text at allowed. absurd (false≢true allowed))
+      (headed_holds v (PositiveHolds sign) 61 [] (One sort.Term ∷ One sort.Term ∷ []) (equation_holds sign), tt)
+      (λ parts at end free m. applied_holds sign parts at end (applied_is v sort.Term parts m))
 
   -- an atom
   pub only_atom : (f : Form) → IsOf v sort.Atom f → positive_faults s f ≡ [] → is_atom (signature_in s) (own_types s) (atom_in s f) ≡ true
@@ -166,23 +161,23 @@ module _ (s : Scope) (shapes : HasShapes s) (v : Version) where
   negation_holds : (a at end : ℕ) (rest : Forms) → Matches v (One sort.Positive ∷ []) rest → LiteralHolds (Listing (form (Word (codes "not") a) rest) at end)
   unfolding literal_faults literal_in
   negation_holds a at end no_forms m e = absurd (alone v sort.Positive no_forms m)
-  negation_holds a at end (form f no_forms) m e = negated_text (signature_in s) (own_types s) (positive_in s f) (positive_text f (alone v sort.Positive (form f no_forms) m) e)
+  negation_holds a at end (form f no_forms) m e = positive_text false f (alone v sort.Positive (form f no_forms) m) e
   negation_holds a at end (form f (form g fs)) m e = absurd (alone v sort.Positive (form f (form g fs)) m)
 
   -- what isn't headed by `not`
-  affirmed_holds : (f : Form) → is_headed (codes "not") f ≡ false → PositiveHolds f → LiteralHolds f
+  affirmed_holds : (f : Form) → is_headed (codes "not") f ≡ false → PositiveHolds true f → LiteralHolds f
   unfolding literal_faults literal_in
   affirmed_holds f other h e =
-      subst (λ (l : Literal). IsLiteralText (signature_in s) (own_types s) l) (sym (ap (λ (b : Bool). cond b (one (affirmed (atom_in s f)) (λ g. negated (positive_in s g)) (behind_head f)) (positive_in s f)) other))
+      subst (λ (l : Literal). IsLiteralText (signature_in s) (own_types s) l) (sym (ap (λ (b : Bool). cond b (one no_literal (signed_in s false) (behind_head f)) (signed_in s true f)) other))
       (h (sym (ap (λ (b : Bool). cond b (only (positive_faults s) (behind_head f)) (positive_faults s f)) other) ∙ e))
 
   pub literal_text : (f : Form) → IsOf v sort.Literal f → LiteralHolds f
   unfolding lists is_allowed
   literal_text = of_sort v LiteralHolds sort.Literal (λ text at allowed. absurd (false≢true allowed)) (
     headed_holds v LiteralHolds 110 (111 ∷ 116 ∷ []) (One sort.Positive ∷ []) negation_holds,
-    (headed_holds v LiteralHolds 61 [] (One sort.Term ∷ One sort.Term ∷ []) (λ a at end rest m. affirmed_holds (Listing (form (Word (codes "=") a) rest) at end) refl (equation_holds a at end rest m)), tt),
+    (headed_holds v LiteralHolds 61 [] (One sort.Term ∷ One sort.Term ∷ []) (λ a at end rest m. affirmed_holds (Listing (form (Word (codes "=") a) rest) at end) refl (equation_holds true a at end rest m)), tt),
   )
-      (λ parts at end free m. affirmed_holds (Listing parts at end) (or_parts (bytes_eq (head_of parts) (codes "not")) false free).0 (applied_holds parts at end (applied_is v sort.Term parts m)))
+      (λ parts at end free m. affirmed_holds (Listing parts at end) (or_parts (bytes_eq (head_of parts) (codes "not")) false free).0 (applied_holds true parts at end (applied_is v sort.Term parts m)))
 
   -- ---- conjunctions
 

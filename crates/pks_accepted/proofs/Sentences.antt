@@ -6,7 +6,6 @@ use Rattle.std.proofs.lemmas.Option.{same_Some}
 use Rattle.std.proofs.lemmas.Bool.{false≢true, and_parts}
 use Rattle.pks_terms.specs.Sets.{Each}
 use Rattle.pks_terms.specs.Syntax.{Inner}
-use Rattle.pks_terms.specs.Orders.{number_of as name_number, arguments_of}
 use Rattle.pks_terms.specs.Signatures.{Shape, fits_type}
 use Rattle.pks_terms.specs.Queries.{KnowWhether}
 use Rattle.pks_terms.specs.Versions as versions
@@ -18,14 +17,15 @@ use Rattle.pks_grammar.specs.declared.grammar.Version.TheVariants.{First, Second
 use Rattle.pks_grammar.specs.declared.grammar.Sort.TheVariants as sort
 use Rattle.pks_grammar.specs.declared.grammar.Part.TheVariants.{One, Many}
 use Rattle.pks_grammar.specs.Grammar.{lists, is_allowed, earlier, queries}
+use Rattle.pks_grammar.specs.Walk.{head_of}
 use Rattle.pks_grammar.specs.Files.{Fault}
 use Rattle.pks_grammar.specs.Language.{IsOf, Matches}
 use Rattle.pks_meaning.specs.Scopes.{Scope, signature_in, type_of}
-use Rattle.pks_meaning.specs.Tables.{entries_of}
-use Rattle.pks_meaning.specs.Parts.{parts_of, first_forms, each, only, past}
+use Rattle.pks_meaning.specs.Tables.{number_of, entries_of}
+use Rattle.pks_meaning.specs.Parts.{parts_of, behind, first_forms, each, only, past}
 use Rattle.pks_meaning.specs.Terms.{mistyped, term_faults, assigned_faults, positive_faults, pattern_faults}
 use Rattle.pks_meaning.specs.Sentences.{literals_faults, plain_faults, query_faults, item_faults, target_faults, effect_faults, sense_faults, parts_faults, add_faults, repeated, start_faults, aim_faults}
-use Rattle.pks_stated.specs.Stated.{all, one, term_in, atom_in, literal_in, conj_in, no_pattern, pattern_in, only_literal, only_term, only_pattern, plain_in, query_in, item_in, no_atom, assigned_in, target_in, effect_in, sense_in, add_in, start_in, aim_in}
+use Rattle.pks_stated.specs.Stated.{first, or_zero, inner_in, all, one, term_in, atom_in, literal_in, conj_in, no_pattern, pattern_in, only_literal, only_term, only_pattern, plain_in, query_in, item_in, no_atom, assigned_in, target_in, effect_in, sense_in, add_in, start_in, aim_in}
 use Rattle.pks_accepted.specs.Facts.{EachForm, HasShapes}
 use Rattle.pks_accepted.proofs.Shapes.{AllHold, headed, of_sort, some_of, two_of, Alone, alone, both_of}
 use Rattle.pks_accepted.proofs.Numbers.{nil_parts, each_forms, each_faultless}
@@ -237,7 +237,7 @@ module _ (s : Scope) (shapes : HasShapes s) (v : Version) where
       let both = nil_parts (term_faults s place) (term_faults s value ++ mistyped s (type_of s place) value) e in
       let rest = nil_parts (term_faults s value) (mistyped s (type_of s place) value) both.1 in
       let st = place_stands s shapes v place is both.0 in
-      let r = assigned_shape (slice_get (entries_of s.functions) (name_number (term_in s place))) st.own (arguments_of (term_in s place)) st.typed (st.stands st.own (fits_itself (signature_in s) st.own)) in
+      let r = assigned_shape (slice_get (entries_of s.functions) (or_zero (number_of s.functions (head_of parts)))) st.own (first 2 (inner_in s) (behind parts)) st.typed (st.stands st.own (fits_itself (signature_in s) st.own)) in
       let fit = stands_fits s value (term_in s value) (term_stands s shapes v value also rest.0) st.own (sym (ap (λ (o : Option ℕ). mistyped s o value) st.found) ∙ rest.1) in
       (r.0, r.1, r.2, subst (λ (n : ℕ). term_fits (signature_in s) (own_types s) n (term_in s value) ≡ true) (sym r.3) fit)
 

@@ -21,7 +21,8 @@ use Rattle.pks_meaning.specs.Scopes.{Scope, signature_in, fits}
 use Rattle.pks_meaning.specs.Parts.{text_of, behind, behind_head, section, first_forms, all_but_last, last_of, each, past}
 use Rattle.pks_meaning.specs.Declarations.{Types, name_of, type_faults, types_named, first_in, types_in, most_objects, objects_section, predicate_in, predicate_faults, predicates_section, result_named, function_in, has_object, empty_faults, function_faults, functions_section, parameter_in, within}
 use Rattle.pks_meaning.specs.Meaning.{scope_of}
-use Rattle.pks_accepted.specs.Facts.{EachForm, HasShapes, IsSmall}
+use Rattle.pks_stated.specs.Sizes.{IsSmall}
+use Rattle.pks_accepted.specs.Facts.{EachForm, HasShapes}
 use Rattle.pks_accepted.proofs.Shapes.{of_sort, one_first, one_missing}
 use Rattle.pks_accepted.proofs.Numbers.{nil_parts, unless, known, within_table, each_got, each_forms, each_faultless}
 use Rattle.pks_accepted.proofs.Tabled.{every_form, each_of_first, first_count, last_holds, each_but_last, each_tabled, section_faultless, section_length, entries_length, types_within, types_length, earlier_types, types_count, objects_length, objects_within}

@@ -19,14 +19,6 @@ pub record HasShapes (s : Scope) : Type 0 where
   pub predicates : Each (λ (x : Shape). length x.arguments ≤ 3) (entries_of s.predicates)
   pub functions : Each (λ (x : Shape). length x.arguments ≤ 2) (entries_of s.functions)
 
--- tables of numbers as small as those of the program
-pub record IsSmall (s : Scope) : Type 0 where
-  pub types : length s.types ≤ 16
-  pub objects : length s.objects ≤ 256
-  pub predicates : length s.predicates ≤ 32
-  pub functions : length s.functions ≤ 32
-  pub parameters : length s.parameters ≤ 4
-
 -- each thing of a problem has a name of its own, and no predicate is `not`
 pub record AreNamed (p : Problem) (n : Named) : Type 0 where
   pub types : AreNames p.signature.types n.types

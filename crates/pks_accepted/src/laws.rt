@@ -18,7 +18,8 @@ ghost use Rattle.pks_meaning.specs.Declarations.{within, action_faults};
 ghost use Rattle.pks_meaning.specs.Meaning.{scope_of};
 ghost use Rattle.pks_domain.specs.FirstFault.{meaning_fault, declarations_fault};
 ghost use Rattle.pks_stated.specs.Stated.{term_in, literal_in, conj_in, pattern_in, query_in, effect_in, sense_in, add_in, schema_in, start_in, aim_in, problem_in, named_in};
-ghost use Rattle.pks_accepted.specs.Facts.{EachForm, HasShapes, IsSmall, AreNamed};
+ghost use Rattle.pks_stated.specs.Sizes.{IsSmall};
+ghost use Rattle.pks_accepted.specs.Facts.{EachForm, HasShapes, AreNamed};
 
 // ---- the whole file
 
