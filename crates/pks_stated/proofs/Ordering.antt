@@ -15,7 +15,7 @@ at_place : (l : CodeLiteral) (xs : List CodeLiteral) → map literal_of (insert 
 at_place l [] = refl
 at_place l (x ∷ xs) =
     elim (literal_cmp (literal_of l) (literal_of x)) as (λ o. map literal_of (insert (x ∷ xs) (cond (is_gt o) (suc (count_below literal_cmp (literal_of l) (map literal_of xs))) 0) l)
-        ≡ elim o as (λ _. List Literal) [ Less ↦ literal_of l ∷ literal_of x ∷ map literal_of xs | Equal ↦ literal_of l ∷ literal_of x ∷ map literal_of xs | Greater ↦ literal_of x ∷ put_in (literal_of l) (map literal_of xs) ]) [
+    ≡ elim o as (λ _. List Literal) [ Less ↦ literal_of l ∷ literal_of x ∷ map literal_of xs | Equal ↦ literal_of l ∷ literal_of x ∷ map literal_of xs | Greater ↦ literal_of x ∷ put_in (literal_of l) (map literal_of xs) ]) [
       | Less ↦ refl
       | Equal ↦ refl
       | Greater ↦ ap (λ (ls : List Literal). literal_of x ∷ ls) (at_place l xs)

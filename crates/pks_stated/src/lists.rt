@@ -27,7 +27,11 @@ use std::alloc::{AllocError, Global};
 
 /// The queries that forms state. The one error is want of memory.
 #[tactic(auto, using(crate::proofs::Growing::pushed, crate::proofs::Growing::each_pushed, crate::proofs::Growing::to_the_end))]
-pub fn queries(alloc: Global, scope: &Scope<'_, '_>, forms: &[Form<'_>]) -> Result<QueryList, AllocError>
+pub fn queries(
+    alloc: Global,
+    scope: &Scope<'_, '_>,
+    forms: &[Form<'_>],
+) -> Result<QueryList, AllocError>
     requires { IsSmall (scope_view scope.now) }
     ensures says { IfOk result (λ xs. map query_of xs ≡ all (query_in (scope_view scope.now)) (forms_view forms.now)) }
     ensures counts { IfOk result (λ xs. Each QueryCounts xs) }
@@ -41,7 +45,11 @@ pub fn queries(alloc: Global, scope: &Scope<'_, '_>, forms: &[Form<'_>]) -> Resu
 
 /// The effects that forms state. The one error is want of memory.
 #[tactic(auto, using(crate::proofs::Growing::pushed, crate::proofs::Growing::each_pushed, crate::proofs::Growing::to_the_end))]
-pub fn effects(alloc: Global, scope: &Scope<'_, '_>, forms: &[Form<'_>]) -> Result<EffectList, AllocError>
+pub fn effects(
+    alloc: Global,
+    scope: &Scope<'_, '_>,
+    forms: &[Form<'_>],
+) -> Result<EffectList, AllocError>
     requires { IsSmall (scope_view scope.now) }
     ensures says { IfOk result (λ xs. map effect_of xs ≡ all (effect_in (scope_view scope.now)) (forms_view forms.now)) }
     ensures counts { IfOk result (λ xs. Each EffectCounts xs) }
@@ -56,7 +64,11 @@ pub fn effects(alloc: Global, scope: &Scope<'_, '_>, forms: &[Form<'_>]) -> Resu
 
 /// The senses that forms state. The one error is want of memory.
 #[tactic(auto, using(crate::proofs::Growing::pushed, crate::proofs::Growing::each_pushed, crate::proofs::Growing::to_the_end))]
-pub fn senses(alloc: Global, scope: &Scope<'_, '_>, forms: &[Form<'_>]) -> Result<SenseList, AllocError>
+pub fn senses(
+    alloc: Global,
+    scope: &Scope<'_, '_>,
+    forms: &[Form<'_>],
+) -> Result<SenseList, AllocError>
     requires { IsSmall (scope_view scope.now) }
     ensures says { IfOk result (λ xs. map sense_of xs ≡ all (sense_in (scope_view scope.now)) (forms_view forms.now)) }
     ensures counts { IfOk result (λ xs. Each SenseCounts xs) }

@@ -10,7 +10,7 @@ ghost use Rattle.pks_meaning.specs.Views.{scope_view};
 ghost use Rattle.pks_stated.specs.Sizes.{IsSmall};
 ghost use Rattle.pks_stated.specs.Stated.{first, all, equation_in, signed_in, literal_in, conj_in, slot_in, pattern_in, one, no_literal, only_literal, no_pattern, only_pattern};
 
-use crate::terms::{atom, predicate_number, term_place, term_word, term};
+use crate::terms::{atom, predicate_number, term, term_place, term_word};
 use pks_grammar::walk::{head_of, is_headed};
 use pks_meaning::parts::{behind, behind_head, first_forms};
 use pks_meaning::scope::Scope;
@@ -35,9 +35,7 @@ fn equation_by(scope: &Scope<'_, '_>, sides: &[Form<'_>], positive: bool) -> Lit
         [] => no_literal(),
         [left, rest @ ..] => match rest {
             [] => no_literal(),
-            [right, _rest @ ..] => {
-                equation(&term(scope, left), &term(scope, right), positive)
-            }
+            [right, _rest @ ..] => { equation(&term(scope, left), &term(scope, right), positive) }
         },
     }
 }

@@ -152,11 +152,7 @@ fn declared_names<'s>(
 }
 
 // What is known at the start, by the parts of a problem.
-fn known<'s>(
-    alloc: Global,
-    declared: &Declared<'s>,
-    parts: &[Form<'s>],
-) -> Result<InitList, Memory>
+fn known<'s>(alloc: Global, declared: &Declared<'s>, parts: &[Form<'s>]) -> Result<InitList, Memory>
     requires { IsSmall (declared_view declared.now) }
     ensures says { IfOk result (λ xs. map (λ i. start_of i.start) xs ≡ all (start_in (declared_view declared.now)) (section (codes "init") (forms_view parts.now))) }
     ensures counts { IfOk result (λ xs. Each (λ i. InitCounts i.start) xs) }
@@ -172,11 +168,7 @@ fn known<'s>(
 }
 
 // The goal, by the parts of a problem.
-fn wanted<'s>(
-    alloc: Global,
-    declared: &Declared<'s>,
-    parts: &[Form<'s>],
-) -> Result<AimList, Memory>
+fn wanted<'s>(alloc: Global, declared: &Declared<'s>, parts: &[Form<'s>]) -> Result<AimList, Memory>
     requires { IsSmall (declared_view declared.now) }
     ensures says { IfOk result (λ xs. map aim_of xs ≡ all (aim_in (declared_view declared.now)) (section (codes "goal") (forms_view parts.now))) }
     ensures counts { IfOk result (λ xs. Each AimCounts xs) }

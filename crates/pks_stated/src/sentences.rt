@@ -136,7 +136,10 @@ fn assigned(scope: &Scope<'_, '_>, forms: &[Form<'_>]) -> Target
         [] => no_assignment(),
         [place, rest @ ..] => match rest {
             [] => no_assignment(),
-            [value, _rest @ ..] => assigns(&term_place(scope, parts_of(place)), &term(scope, value)),
+            [value, _rest @ ..] => assigns(
+                &term_place(scope, parts_of(place)),
+                &term(scope, value),
+            ),
         },
     }
 }
@@ -288,7 +291,10 @@ fn given(scope: &Scope<'_, '_>, forms: &[Form<'_>]) -> FourQueries
                     let three = [query(scope, a), query(scope, b), query(scope, c)];
                     match rest {
                         [] => four_queries(3, [three[0], three[1], three[2], none]),
-                        [d, _rest @ ..] => four_queries(4, [three[0], three[1], three[2], query(scope, d)]),
+                        [d, _rest @ ..] => four_queries(
+                            4,
+                            [three[0], three[1], three[2], query(scope, d)],
+                        ),
                     }
                 }
             },

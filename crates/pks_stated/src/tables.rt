@@ -19,10 +19,7 @@ use std::alloc::{AllocError, Global};
 
 /// The names of a table, in the order of the file. The one error is want of memory.
 #[tactic(auto, using(crate::proofs::Growing::pushed, crate::proofs::Growing::to_the_end, crate::proofs::Seen::keys_shown))]
-pub fn names<'s, X>(
-    alloc: Global,
-    table: &IndexMap<&'s str, X>,
-) -> Result<NameList<'s>, AllocError>
+pub fn names<'s, X>(alloc: Global, table: &IndexMap<&'s str, X>) -> Result<NameList<'s>, AllocError>
     ensures { IfOk result (λ names. map (λ t. t.now) names ≡ keys_of (names_of table.now)) }
 {
     let mut names = Vec::new(alloc);

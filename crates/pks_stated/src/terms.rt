@@ -24,6 +24,7 @@ use pks_terms::term::{Inner, Term, UNUSED};
 use pks_text::Form;
 
 const NO_OBJECT: ObjId = ObjId(0);
+
 const NO_INNER: Inner = Inner::Obj(NO_OBJECT);
 
 // The number of a name, or 0.

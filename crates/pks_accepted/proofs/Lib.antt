@@ -1,0 +1,12 @@
+pub mod Shapes
+pub mod Numbers
+pub mod Fitting
+pub mod Literals
+pub mod Sequences
+pub mod Sentences
+pub mod Sections
+pub mod Tabled
+pub mod Signed
+pub mod Costs
+pub mod Whole
+pub mod Naming
