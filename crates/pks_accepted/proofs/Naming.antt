@@ -22,7 +22,7 @@ use Rattle.pks_meaning.specs.Parts.{text_of, behind, behind_head, section, first
 use Rattle.pks_meaning.specs.Declarations.{name_of, name_faults, entries_faults, past_names, first_in, second_in, most_objects, type_faults, predicate_in, predicate_faults, predicates_section, function_in, within, action_faults, nothing, actions_among, actions_section}
 use Rattle.pks_meaning.specs.Meaning.{scope_of}
 use Rattle.pks_domain.specs.FirstFault.{meaning_fault}
-use Rattle.pks_stated.specs.Stated.{all, schema_in, problem_in, named_in}
+use Rattle.pks_stated.specs.Stated.{all, schema_in, stated_in, problem_in, problem_by, named_in, named_by}
 use Rattle.pks_accepted.specs.Facts.{EachForm, AreNamed}
 use Rattle.pks_accepted.proofs.Shapes.{IsWord, name_is, of_sort, one_first, one_missing, each_of}
 use Rattle.pks_accepted.proofs.Numbers.{nil_parts, when, each_forms, keys_length}
@@ -151,12 +151,12 @@ word_name (Word text at) is = is
 word_name (Listing parts at end) is = absurd is
 
 same_counts : (s : Scope) (fs : Forms) → map (λ names. length names) (all (λ f. keys_of (within s (behind_head f)).parameters) fs) ≡ map (λ x. length x.parameters) (all (λ f. schema_in s (behind_head f)) fs)
-unfolding schema_in
+unfolding stated_in
 same_counts s no_forms = refl
 same_counts s (form f fs) = λ i. (keys_length (within s (behind_head f)).parameters ∙ sym (entries_length (within s (behind_head f)).parameters)) i ∷ same_counts s fs i
 
 pub problem_named : (v : Version) (d p : Form) → IsOf v sort.Domain d → meaning_fault (number_of v) (behind_head d) (behind_head p) ≡ None → AreNamed (problem_in (number_of v) (behind_head d) (behind_head p)) (named_in (number_of v) (behind_head d) p)
-unfolding problem_in named_in scope_of actions_section predicates_section
+unfolding problem_by named_by scope_of actions_section predicates_section
 problem_named v d p is e =
     let version = number_of v in
     let domain = behind_head d in

@@ -24,7 +24,7 @@ use Rattle.pks_meaning.specs.Declarations.{Types, type_faults, parent_named, fir
 use Rattle.pks_meaning.specs.Meaning.{scope_of, least}
 use Rattle.pks_meaning.proofs.Least.{least_none}
 use Rattle.pks_domain.specs.FirstFault.{declarations_fault, meaning_fault}
-use Rattle.pks_stated.specs.Stated.{all, cost_in, query_in, effect_in, sense_in, add_in, schema_in, start_in, aim_in, problem_in}
+use Rattle.pks_stated.specs.Stated.{all, cost_in, query_in, effect_in, sense_in, add_in, schema_in, stated_in, start_in, aim_in, problem_in, problem_by}
 use Rattle.pks_accepted.specs.Facts.{EachForm, HasShapes}
 use Rattle.pks_accepted.proofs.Shapes.{number_is, headed, of_sort, one_first, one_missing, Alone}
 use Rattle.pks_accepted.proofs.Numbers.{nil_parts, when, each_forms, each_faultless}
@@ -60,7 +60,7 @@ cost_within v (form (Word text at) no_forms) (inr is) e = cost_between text (num
 cost_within v (form (Listing ps at end) no_forms) (inr is) e = absurd (number_is v (Listing ps at end) is)
 
 pub schema_text : (v : Version) (s : Scope) → HasShapes s → (f : Form) → IsOf v sort.Action f → action_faults s (behind_head f) ≡ [] → IsSchemaText (signature_in s) (schema_in s (behind_head f))
-unfolding action_faults parameters_section parts_section schema_in within
+unfolding action_faults parameters_section parts_section stated_in within
 schema_text v s shapes f is e =
     let fs = behind_head f in
     let m = action_is v f is in
@@ -104,11 +104,11 @@ first_aim s = of_sort First (λ f. IsNow (aim_in s f)) sort.Aim (λ text at allo
 ) tt
 
 first_cost : (s : Scope) (f : Form) → IsOf First sort.Action f → (schema_in s (behind_head f)).cost ≡ 1
-unfolding schema_in
+unfolding stated_in
 first_cost s f is = ap cost_in (no_cost (behind_head f) (action_is First f is))
 
 pub first_version : (d p : Form) → IsOf First sort.Domain d → IsOf First sort.Problem p → IsFirstVersion (problem_in 1 (behind_head d) (behind_head p))
-unfolding problem_in scope_of
+unfolding problem_by scope_of
 first_version d p is_d is_p =
     let domain = behind_head d in
     let s = scope_of 1 domain in record {
@@ -201,12 +201,12 @@ are_faultless version domain problem e =
 
 -- the version
 version_is : (v : Version) (d p : Form) → IsOf v sort.Domain d → IsOf v sort.Problem p → ((problem_in (number_of v) (behind_head d) (behind_head p)).version ≡ 2) ⊎ IsFirstVersion (problem_in (number_of v) (behind_head d) (behind_head p))
-unfolding problem_in
+unfolding problem_by
 version_is First d p is_d is_p = inr (first_version d p is_d is_p)
 version_is Second d p is_d is_p = inl refl
 
 pub valid_problem : (v : Version) (d p : Form) → IsOf v sort.Domain d → IsOf v sort.Problem p → meaning_fault (number_of v) (behind_head d) (behind_head p) ≡ None → IsValid (problem_in (number_of v) (behind_head d) (behind_head p))
-unfolding problem_in
+unfolding problem_by
 valid_problem v d p is_d is_p e =
     let version = number_of v in
     let domain = behind_head d in
