@@ -1,5 +1,7 @@
 //! Worlds of small problems, worked by hand.
-ghost use Rattle.std.specs.Prelude.{◌≤◌, IfOk, length};
+ghost use Rattle.std.specs.Prelude.{◌≡◌, ◌≤◌, IfOk, length};
+ghost use Rattle.pks_terms.specs.Views.{term_of};
+ghost use Rattle.pks_world.specs.Contents.{places_of, has_place};
 
 use crate::observe::Seen;
 use crate::world::World;
@@ -176,6 +178,14 @@ fn sensed(alloc: Global, sense: Sense, atoms: &[PredAtom]) -> Result<Option<Seen
     Ok(found.pop())
 }
 
+/// Whether a value is kept for the place.
+#[tactic(auto, using(crate::proofs::Keeping::found), unfolding(crate::specs::Contents::places_of, pks_terms::specs::Orders::term_eq))]
+fn keeps(w: &World, place: &Term) -> bool
+    ensures { result ≡ has_place (places_of w.now) (term_of place.now) }
+{
+    w.values.get(place).is_some()
+}
+
 // Lamp: up and lit are predicates 0 and 1.
 #[test]
 fn light_is_added_to_what_holds(rt: HostRuntime) -> Result<(), Fail> {
@@ -228,6 +238,18 @@ fn number_is_turned(rt: HostRuntime) -> Result<(), Fail> {
 fn number_is_the_least_at_first(rt: HostRuntime) -> Result<(), Fail> {
     let found = sensed(rt.alloc(), Sense::Value(NUMBER), &[])?;
     assert!(rt; matches!(&found, Some(Seen::Value(_, ObjId(0)))));
+    Ok(())
+}
+
+// Safe: another number is put in the place of the least.
+#[test]
+fn number_is_put(rt: HostRuntime) -> Result<(), Fail> {
+    let alloc = rt.alloc();
+    let p = problem(alloc, &[], &[])?;
+    let mut w = World::first(alloc, &p)?;
+    assert!(rt; keeps(&w, &NUMBER));
+    w.put_value(&NUMBER, ObjId(3));
+    assert!(rt; w.value(&NUMBER) == ObjId(3));
     Ok(())
 }
 
