@@ -233,7 +233,7 @@ fn number_is_turned(rt: HostRuntime) -> Result<(), Fail> {
     Ok(())
 }
 
-// Safe: the first world has the least number, and the right argument opens.
+// Safe: the first world has the least number.
 #[test]
 fn number_is_the_least_at_first(rt: HostRuntime) -> Result<(), Fail> {
     let found = sensed(rt.alloc(), Sense::Value(NUMBER), &[])?;
