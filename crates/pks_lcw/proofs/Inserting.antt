@@ -1,5 +1,5 @@
 -- A new member takes its place.
-use Rattle.std.proofs.Common.{◌≡◌, ℕ, zero, suc, ◌+◌, ◌≤◌, ◌<◌, Bool, true, false, cond, List, [], ◌∷◌, ◌++◌, take, drop, length, refl, sym, ap, ◌∙◌, arith, true≢false, Ordering, Less, Equal, Greater, ◌||◌}
+use Rattle.std.proofs.Common.{◌≡◌, suc, ◌≤◌, true, false, cond, List, [], ◌∷◌, ◌++◌, take, drop, length, refl, ap, ◌∙◌, arith, true≢false, Ordering, Less, Equal, Greater, ◌||◌}
 use Rattle.std.specs.Ordering.{is_eq, is_gt, ordering_reverse}
 use Rattle.std.specs.Cmp.{IsTotalOrder}
 use Rattle.pks_terms.specs.Sets.{Each, IsOrdered, insert_in}

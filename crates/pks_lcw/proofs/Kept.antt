@@ -1,5 +1,5 @@
 -- What a test keeps, element by element.
-use Rattle.std.proofs.Common.{◌≡◌, ℕ, suc, ◌+◌, ◌<◌, Bool, true, false, cond, List, [], ◌∷◌, ◌++◌, drop, length, get_or, refl, sym, ap, ◌∙◌, subst, append_assoc, add-one, drop-cons, Ordering, Less}
+use Rattle.std.proofs.Common.{◌≡◌, ℕ, ◌+◌, Bool, true, false, cond, List, [], ◌∷◌, ◌++◌, drop, refl, sym, subst, append_assoc, Ordering, Less}
 use Rattle.pks_terms.specs.Sets.{Each, IsOrdered}
 use Rattle.pks_pmap.specs.Keeping.{Keeps}
 

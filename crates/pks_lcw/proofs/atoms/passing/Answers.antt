@@ -1,4 +1,4 @@
-use Rattle.std.proofs.Common.{rules, ◌≡◌, ◌++◌, ◌+◌, ◌∷◌, [], length, ◌<◌, ◌≤◌, drop, get_or, true, false, subst, sym, ap, ◌∙◌, refl, append-nil, add-one, drop-cons, arith, List}
+use Rattle.std.proofs.Common.{rules, ◌≡◌, ◌++◌, ◌+◌, ◌∷◌, [], length, ◌<◌, ◌≤◌, drop, get_or, subst, sym, ◌∙◌, refl, append-nil, add-one, drop-cons, arith}
 use Rattle.std.specs.Fn.{FnReturnsAt}
 use Rattle.std.proofs.lemmas.Fn.{says_at}
 use Rattle.std.proofs.lemmas.List.{drop_all}

@@ -1,4 +1,4 @@
-use Rattle.std.proofs.Common.{length, ◌-◌, ◌≡◌, ◌+◌, ◌≤◌, drop}
+use Rattle.std.proofs.Common.{length, ◌-◌, ◌≡◌, ◌+◌, drop}
 use Rattle.std.specs.Ordering.{on}
 use Rattle.pks_terms.specs.Orders.{atom_cmp}
 use Rattle.pks_terms.specs.Views.{atom_of}

@@ -1,4 +1,4 @@
-use Rattle.std.proofs.Common.{rules, ◌≡◌, subst}
+use Rattle.std.proofs.Common.{rules}
 use Rattle.std.specs.Fn.{FnReturnsAt}
 use Rattle.std.specs.Ordering.{on}
 use Rattle.pks_terms.specs.Orders.{atom_cmp}

@@ -1,4 +1,3 @@
-use Rattle.std.proofs.Common.{◌∙◌, ap}
 use Rattle.pks_terms.specs.Orders.{atom_cmp}
 use Rattle.pks_terms.specs.Views.{atom_of}
 use Rattle.pks_terms.specs.Totality.{slice_cmp-map}
