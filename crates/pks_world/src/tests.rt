@@ -276,3 +276,24 @@ fn instances_are_seen_in_order(rt: HostRuntime) -> Result<(), Fail> {
     assert!(rt; atoms.as_slice() == expected.as_slice());
     Ok(())
 }
+
+/// What the action's one sense finds in the world that the action makes of the first world.
+fn sensed_after(alloc: Global, effect: Effect, sense: Sense) -> Result<Option<Seen>, AllocError> {
+    let p = problem(alloc, &[effect], &[sense])?;
+    let w = World::first(alloc, &p)?;
+    let next = w.apply(&p, &act(2))?;
+    let mut found = next.observe(alloc, &p, &act(2))?.into_vec();
+    Ok(found.pop())
+}
+
+// Safe: the number is sensed as the same action turned it.
+#[test]
+fn senses_are_read_in_the_new_world(rt: HostRuntime) -> Result<(), Fail> {
+    let turn = Target::Assign {
+        place: NUMBER,
+        value: Term::Param(0),
+    };
+    let found = sensed_after(rt.alloc(), always(turn), Sense::Value(NUMBER))?;
+    assert!(rt; matches!(&found, Some(Seen::Value(_, ObjId(2)))));
+    Ok(())
+}
