@@ -1,3 +1,4 @@
+pub mod Counted
 pub mod Few
 pub mod FirstForms
 pub mod Growing

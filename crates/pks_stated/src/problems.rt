@@ -10,7 +10,7 @@ ghost use Rattle.pks_meaning.specs.Parts.{behind_head, section};
 ghost use Rattle.pks_meaning.specs.Views.{scope_view};
 ghost use Rattle.pks_meaning.specs.Declarations.{within};
 ghost use Rattle.pks_domain.specs.Views.{declared_view};
-ghost use Rattle.pks_stated.specs.Sizes.{IsSmall};
+ghost use Rattle.pks_stated.specs.Sizes.{IsSmall, AreCounted};
 ghost use Rattle.pks_stated.specs.Spans.{bytes_in, adds_in, named_of};
 ghost use Rattle.pks_stated.specs.Stated.{all, stated_in, schema_in, start_in, aim_in, action_name, parameter_names, add_places, section_bytes, bytes_of, problem_by, named_by};
 
@@ -195,6 +195,7 @@ pub fn problem<'s>(
     requires { IsSmall (declared_view declared.now) }
     ensures says { IfOk result (λ p. problem_of p ≡ problem_by version (declared_view declared.now) (forms_view domain.now) (behind_head (form_view form.now))) }
     ensures named { IfOk result (λ p. named_of p ≡ named_by (declared_view declared.now) (forms_view domain.now) (form_view form.now)) }
+    ensures counted { IfOk result (λ p. AreCounted p.signature) }
     ensures counts { IfOk result (λ p. SignatureCounts p.signature → ProblemCounts p) }
     ensures places { IfOk result (λ p. Each (λ x. Each (λ e. AssignsToPlace e.target) x.effects) p.schemas) }
 {

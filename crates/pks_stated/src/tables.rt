@@ -2,19 +2,19 @@
 ghost use Rattle.std.specs.Prelude.{◌≡◌, ◌≤◌, map, length, option_map, IfOk};
 ghost use Rattle.std.specs.Map.{keys_of};
 ghost use Rattle.pks_terms.specs.Sets.{Each};
-ghost use Rattle.pks_terms.specs.Counts.{SignatureCounts};
 ghost use Rattle.pks_terms.specs.Views.{types_of, shape_of, signature_of};
 ghost use Rattle.pks_meaning.specs.Tables.{entries_of};
 ghost use Rattle.pks_meaning.specs.Scopes.{signature_in};
 ghost use Rattle.pks_meaning.specs.Views.{names_of, seen};
 ghost use Rattle.pks_domain.specs.Views.{declared_view};
-ghost use Rattle.pks_stated.specs.Sizes.{IsSmall};
+ghost use Rattle.pks_stated.specs.Sizes.{IsSmall, IsCounted, AreCounted};
 
 use indexmap::IndexMap;
 use pks_meaning::scope::Declared;
 use pks_terms::ids::TypeId;
 use pks_terms::problem::{NameList, ParentList, Shape, ShapeList, Signature};
 use pks_terms::schema::SortList;
+use pks_terms::term::front;
 use std::alloc::{AllocError, Global};
 
 /// The names of a table, in the order of the file. The one error is want of memory.
@@ -62,14 +62,29 @@ fn parents(alloc: Global, table: &IndexMap<&str, Option<u8>>) -> Result<ParentLi
     Ok(ParentList::of(parents))
 }
 
+// The shape, its count being that of the arguments.
+#[tactic(auto, using(crate::proofs::Counted::counted_same, crate::proofs::Counted::counted_length))]
+fn counted(shape: &Shape) -> Shape
+    ensures says { shape_of result ≡ shape_of shape.now }
+    ensures counted { IsCounted result }
+{
+    let n = front(&shape.args, shape.n).len() as u8;
+    Shape {
+        n,
+        args: shape.args,
+        result: shape.result,
+    }
+}
+
 // The shapes of predicates or functions.
-#[tactic(auto, using(crate::proofs::Growing::pushed, crate::proofs::Growing::to_the_end, crate::proofs::Seen::shapes_shown))]
+#[tactic(auto, using(crate::proofs::Growing::pushed, crate::proofs::Growing::each_pushed, crate::proofs::Growing::to_the_end, crate::proofs::Seen::shapes_shown))]
 fn shapes(alloc: Global, table: &IndexMap<&str, Shape>) -> Result<ShapeList, AllocError>
-    ensures { IfOk result (λ shapes. map shape_of shapes ≡ entries_of (seen shape_of (names_of table.now))) }
+    ensures says { IfOk result (λ shapes. map shape_of shapes ≡ entries_of (seen shape_of (names_of table.now))) }
+    ensures counted { IfOk result (λ shapes. Each IsCounted shapes) }
 {
     let mut shapes = Vec::new(alloc);
     for shape in table.values() {
-        shapes.push(*shape)?;
+        shapes.push(counted(shape))?;
     }
     Ok(ShapeList::of(shapes))
 }
@@ -83,7 +98,8 @@ fn count_types(table: &IndexMap<&str, Option<u8>>) -> usize
 /// The signature of what is declared. The one error is want of memory.
 pub fn signature(alloc: Global, declared: &Declared<'_>) -> Result<Signature, AllocError>
     requires { IsSmall (declared_view declared.now) }
-    ensures { IfOk result (λ s. signature_of s ≡ signature_in (declared_view declared.now)) }
+    ensures says { IfOk result (λ s. signature_of s ≡ signature_in (declared_view declared.now)) }
+    ensures counted { IfOk result (λ s. AreCounted s) }
 {
     let parents = parents(alloc, &declared.types)?;
     let objects = sorts(alloc, &declared.objects)?;

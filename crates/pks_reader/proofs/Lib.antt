@@ -1,0 +1,6 @@
+pub mod Deciding
+pub mod Firsts
+pub mod Numbering
+pub mod Parted
+pub mod Stating
+pub mod Valid

@@ -1,0 +1,10 @@
+use Rattle.std.proofs.Common.{sym, subst}
+use Rattle.pks_text.specs.FormViews.{form_view}
+use Rattle.pks_meaning.specs.Scopes.{Scope}
+use Rattle.pks_meaning.specs.Parts.{behind_head}
+use Rattle.pks_stated.specs.Sizes.{IsSmall}
+use Rattle.pks_accepted.proofs.Signed.{scope_small}
+use Rattle.pks_reader.proofs.reading.meant.Goals as goal
+
+pub problem-requires : goal.problem-requires
+problem-requires c = subst (λ (s : Scope). IsSmall s) (sym c.in_ok-read.ensures.declared) (scope_small _ _)
