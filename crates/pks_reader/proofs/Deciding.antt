@@ -1,5 +1,5 @@
 -- Forms, and a text, state one problem or are refused with one fault.
-use Rattle.std.proofs.Common.{◌≡◌, ◌∙◌, ◌⊎◌, ◌↔◌, inl, inr, ℕ, List, [], ◌∷◌, Option, Some, None, IsNone, option_map, Result, Ok, Err, IsOk, IfOk, IfErr, OnOk, length, refl, sym, ap, subst}
+use Rattle.std.proofs.Common.{◌≡◌, ◌∙◌, ◌⊎◌, ◌↔◌, inl, inr, ℕ, List, Option, Some, None, IsNone, option_map, Result, Ok, Err, IsOk, IfOk, IfErr, length, refl, sym, ap, subst}
 use Rattle.std.proofs.lemmas.Option.{none-some}
 use Rattle.std.proofs.lemmas.Bool.{false≢true}
 use Rattle.pks_terms.specs.Problems.{Problem}
@@ -21,7 +21,7 @@ use Rattle.pks_stated.specs.Stated.{Named, problem_in, named_in}
 use Rattle.pks_reader.specs.declared.refusal.Turned.{Turned}
 use Rattle.pks_reader.specs.declared.refusal.Turned.TheVariants.{Refused, Memory}
 use Rattle.pks_reader.specs.Files.{IsFileOf, faults_by_section, AreRefused, by_shape, by_meaning, FormsState}
-use Rattle.pks_reader.specs.Texts.{Reads, IsRefused, by_text, by_forms, States, coded}
+use Rattle.pks_reader.specs.Texts.{IsRefused, by_text, by_forms, States, coded}
 use Rattle.pks_reader.specs.Turning.{Turns}
 use Rattle.pks_reader.proofs.Firsts.{first_fault, is_first, faultless}
 use Rattle.pks_reader.proofs.Parted.{some_same, same_parts, listed}

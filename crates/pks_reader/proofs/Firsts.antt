@@ -1,5 +1,5 @@
 -- The first fault of meaning is the least of the first section that has faults.
-use Rattle.std.proofs.Common.{◌≡◌, ◌∙◌, ◌⊎◌, inl, inr, ℕ, Bool, false, List, [], ◌∷◌, Option, Some, None, codes, refl, sym, ap, subst, arith}
+use Rattle.std.proofs.Common.{◌≡◌, ◌∙◌, inl, inr, ℕ, false, List, [], ◌∷◌, Option, Some, None, codes, refl, sym, ap, subst, arith}
 use Rattle.std.proofs.lemmas.Option.{none-some}
 use Rattle.std.proofs.lemmas.Bool.Decides.{nat_tests}
 use Rattle.pks_terms.specs.Sets.{Each}
@@ -87,6 +87,6 @@ meaning_first version domain problem =
     let m : Option Fault = least (problem_faults s problem) in
     or_assoc t (or_else o (or_else p f)) (or_else a m)
     ∙ ap (λ (x : Option Fault). or_else t x) (
-      or_assoc o (or_else p f) (or_else a m)
-      ∙ ap (λ (x : Option Fault). or_else o x) (or_assoc p f (or_else a m) ∙ ap (λ (x : Option Fault). or_else p (or_else f (or_else a x))) (sym (or_nothing m)))
+    or_assoc o (or_else p f) (or_else a m)
+    ∙ ap (λ (x : Option Fault). or_else o x) (or_assoc p f (or_else a m) ∙ ap (λ (x : Option Fault). or_else p (or_else f (or_else a x))) (sym (or_nothing m)))
     )

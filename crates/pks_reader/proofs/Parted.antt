@@ -1,12 +1,11 @@
 -- The parts of a file.
-use Rattle.std.proofs.Common.{◌≡◌, ◌∙◌, ◌≤◌, ℕ, List, [], ◌∷◌, Option, Some, None, length, map, slice_get, unwrap_or, refl, sym, ap, subst, arith}
-use Rattle.pks_text.specs.Forms.{Form, Forms, list_of, forms_of}
+use Rattle.std.proofs.Common.{◌≡◌, ◌∙◌, ◌≤◌, List, [], ◌∷◌, Option, Some, None, length, map, unwrap_or, refl, sym, ap, subst, arith}
+use Rattle.pks_text.specs.Forms.{Form, list_of, forms_of}
 use Rattle.pks_text.specs.FormViews.{form_view}
 use Rattle.pks_text.specs.declared.tree.Form.{Form as CodeForm}
 use Rattle.pks_grammar.specs.declared.grammar.Version.{Version}
 use Rattle.pks_grammar.specs.declared.grammar.Version.TheVariants.{First}
 use Rattle.pks_grammar.specs.declared.grammar.Sort.TheVariants.{Domain, Problem}
-use Rattle.pks_grammar.specs.Files.{stated, version_of}
 use Rattle.pks_grammar.specs.Language.{IsOf, IsFile}
 use Rattle.pks_reader.specs.Files.{IsFileOf}
 

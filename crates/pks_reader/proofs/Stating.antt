@@ -1,5 +1,5 @@
 -- What a file states by its domain and its problem.
-use Rattle.std.proofs.Common.{◌≡◌, ◌∙◌, ◌≤◌, ◌<◌, ◌^◌, ℕ, List, Some, None, Result, Ok, Err, IfOk, OnOk, length, map, slice_get, codes, sym, ap, subst, arith}
+use Rattle.std.proofs.Common.{◌≡◌, ◌∙◌, ◌≤◌, ◌<◌, ◌^◌, ℕ, List, Some, None, Result, Ok, Err, IfOk, OnOk, length, map, codes, sym, ap, subst, arith}
 use Rattle.std.proofs.lemmas.List.{length-map}
 use Rattle.pks_terms.specs.Sets.{Each}
 use Rattle.pks_terms.specs.Counts.{SignatureCounts, ProblemCounts}

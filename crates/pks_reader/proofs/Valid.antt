@@ -1,5 +1,5 @@
 -- The problem that a file without a fault states is valid.
-use Rattle.std.proofs.Common.{◌≡◌, ◌∙◌, ◌≤◌, ◌<◌, ◌^◌, ℕ, Bor, List, [], ◌∷◌, None, length, map, refl, sym, ap, subst, arith}
+use Rattle.std.proofs.Common.{◌≡◌, ◌∙◌, ◌≤◌, ◌<◌, ◌^◌, ℕ, Bor, List, [], ◌∷◌, None, length, map, refl, sym, subst}
 use Rattle.std.proofs.lemmas.List.{length-map}
 use Rattle.pks_terms.specs.Sets.{Each}
 use Rattle.pks_terms.specs.Signatures.{Shape}

@@ -1,5 +1,5 @@
 -- The count of the arguments in use.
-use Rattle.std.proofs.Common.{◌≡◌, ◌∙◌, ℕ, zero, suc, List, [], ◌∷◌, length, take, map, refl, sym, ap}
+use Rattle.std.proofs.Common.{◌≡◌, ◌∙◌, ℕ, zero, suc, List, [], ◌∷◌, length, take, refl, sym, ap}
 use Rattle.std.proofs.lemmas.List.{length-map}
 use Rattle.pks_terms.specs.declared.ids.TypeId.{TypeId}
 use Rattle.pks_terms.specs.Views.{types_of}

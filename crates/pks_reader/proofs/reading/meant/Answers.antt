@@ -1,7 +1,5 @@
 use Rattle.std.proofs.Common.{sym, subst}
-use Rattle.pks_text.specs.FormViews.{form_view}
 use Rattle.pks_meaning.specs.Scopes.{Scope}
-use Rattle.pks_meaning.specs.Parts.{behind_head}
 use Rattle.pks_stated.specs.Sizes.{IsSmall}
 use Rattle.pks_accepted.proofs.Signed.{scope_small}
 use Rattle.pks_reader.proofs.reading.meant.Goals as goal

@@ -1,5 +1,4 @@
 use Rattle.std.proofs.Common.{◌≡◌, List, Some, None, length, map, refl, sym, subst}
-use Rattle.pks_terms.specs.Views.{problem_of}
 use Rattle.pks_text.specs.FormViews.{form_view}
 use Rattle.pks_text.specs.declared.tree.Form.{Form as CodeForm}
 use Rattle.pks_grammar.specs.Files.{number_of, shape_fault}

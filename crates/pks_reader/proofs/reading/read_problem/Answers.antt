@@ -1,4 +1,4 @@
-use Rattle.std.proofs.Common.{◌≡◌, length, map, refl}
+use Rattle.std.proofs.Common.{length, map, refl}
 use Rattle.std.proofs.lemmas.Bool.{false≢true}
 use Rattle.pks_terms.specs.Views.{problem_of}
 use Rattle.pks_text.specs.Faults.{IsFirstFault, IsAnswered}
