@@ -1,11 +1,10 @@
 -- What a parse of the command has told of the words.
-use Rattle.std.proofs.Common.{◌≡◌, ◌∙◌, ◌∷◌, [], ℕ, List, Option, Some, None, Result, Ok, Err, IsErrOf, String, map, drop, codes, decimal, string_bytes, refl, sym, ap, ap₂, subst, ◌↔◌}
+use Rattle.std.proofs.Common.{◌≡◌, ◌∙◌, ◌∷◌, [], List, Option, Some, None, Result, Ok, Err, IsErrOf, String, map, drop, codes, decimal, string_bytes, refl, sym, ap, ap₂, ◌↔◌}
 use Rattle.std.specs.Str.{IsUtf8}
 use Rattle.std.specs.Result.{IsErrAnd}
 use Rattle.std.proofs.lemmas.Str.{IsUtf8-string_bytes}
 use Rattle.clap.specs.Walk.{Row, first_of, finished}
 use Rattle.clap.specs.Simple.{matches_of}
-use Rattle.clap.specs.Kinds.{Kinds, IsAmong}
 use Rattle.clap.specs.Faults.{fault_of}
 use Rattle.pks_terms.specs.Printed.{Text}
 use Rattle.pks_terms.specs.Sets.{Each}

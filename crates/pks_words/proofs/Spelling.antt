@@ -1,8 +1,8 @@
 -- Modes with numbers that spell no job.
-use Rattle.std.proofs.Common.{◌≡◌, ◌≤◌, ◌<◌, ◌∷◌, [], ℕ, List, codes, decimal, sym, subst, arith, ◌^◌}
+use Rattle.std.proofs.Common.{◌≡◌, ◌≤◌, ◌<◌, ◌∷◌, [], ℕ, codes, decimal, subst, arith}
 use Rattle.std.proofs.lemmas.Fmt.{decimal_injective}
 use Rattle.pks_terms.specs.Printed.{Text}
-use Rattle.pks_terms.specs.Jobs.{Job, Check, Plan, Exec, Bench, Spells}
+use Rattle.pks_terms.specs.Jobs.{Check, Plan, Exec, Bench}
 use Rattle.pks_words.specs.JobViews.{SpellNoJob}
 
 -- the same mode, and the same number

@@ -1,21 +1,21 @@
 -- What the parser's walk makes of words, for the command of a mode and a number.
-use Rattle.std.proofs.Common.{◌≡◌, ◌∙◌, ◌&&◌, ◌∷◌, [], ◌++◌, ℕ, zero, suc, Bool, true, false, List, Option, Some, None, map, fold, drop, length, codes, option_map, nat_eq, refl, sym, ap, ap₂, subst, option_and_then, unwrap_or}
+use Rattle.std.proofs.Common.{◌≡◌, ◌∙◌, ◌∷◌, [], ◌++◌, ℕ, Bool, true, false, List, Option, Some, None, fold, drop, codes, option_map, nat_eq, refl, sym, ap, ap₂, subst, option_and_then, unwrap_or}
 use Rattle.std.specs.Str.{bytes_eq, chars, IsUtf8}
 use Rattle.std.proofs.lemmas.Str.{encodes-chars}
 use lib.Utf8.{encodes}
 use Rattle.std.specs.Char.{encode_utf8}
 use Rattle.std.proofs.lemmas.Bool.{eqb-true}
 use Rattle.pks_terms.specs.Sets.{Each}
-use Rattle.clap.specs.Simple.{App, Shape, built, matches_of}
+use Rattle.clap.specs.Simple.{Shape, built, matches_of}
 use Rattle.clap.proofs.FaultLemmas.{leaf_fault}
-use Rattle.clap.specs.Walk.{Held, Names, Row, Rule, Text, Walk, finished, settled, idle, nothing_held, walk, walked, walk_from, word_met}
+use Rattle.clap.specs.Walk.{Held, Rule, Text, Walk, finished, settled, idle, nothing_held, walked}
 use Rattle.clap.specs.Lexer.{long_of, long_of_rest, short_of, short_of_rest, strip_byte, name_and_value}
 use Rattle.clap.specs.Kinds.{Kinds, or_else}
-use Rattle.clap.specs.Faults.{walk_fault, turn_fault, flags_fault, fault_of, word_fault, settle_fault, defaults_fault, check_fault}
+use Rattle.clap.specs.Faults.{walk_fault, turn_fault, flags_fault, fault_of, settle_fault, defaults_fault, check_fault}
 use Rattle.clap.specs.declared.error.kind.ErrorKind.TheVariants as kind
 use Rattle.clap.specs.declared.parser.matches.ValueSource.TheVariants.{CommandLine}
 use Rattle.clap.specs.declared.builder.value_parser.Reading.TheVariants as reading
-use Rattle.pks_terms.specs.Jobs.{positionals, is_option, same_text}
+use Rattle.pks_terms.specs.Jobs.{positionals, is_option}
 use Rattle.pks_words.specs.Command.{two_words}
 
 abbrev pub shape : Shape

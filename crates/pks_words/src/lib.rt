@@ -11,3 +11,6 @@ mod read;
 pub use end::WordsEnd;
 pub use job::Job;
 pub use read::read_words;
+
+#[cfg(test)]
+mod tests;

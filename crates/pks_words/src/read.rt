@@ -4,13 +4,11 @@ ghost use Rattle.std.specs.Prelude.{◌≡◌, ℕ, List, Option, map, option_ma
 ghost use Rattle.pks_terms.specs.Jobs.{Asks};
 ghost use Rattle.pks_words.specs.Command.{HasWords, text_of};
 ghost use Rattle.pks_words.specs.JobViews.{AskNoJob, job_of};
-ghost use Rattle.pks_words.specs.declared.end.WordsEnd.TheVariants.{Refused};
 
 use crate::command::command;
 use crate::end::WordsEnd;
 use crate::job::Job;
 use crate::modes::job_for;
-use clap::ArgMatches;
 use std::alloc::Global;
 
 /// The mode and the number.

@@ -1,7 +1,7 @@
-use Rattle.std.proofs.Common.{◌≡◌, ◌∙◌, ℕ, List, Option, Some, None, [], ◌∷◌, map, option_map, string_bytes, codes, inl, inr, refl, sym, ap, ap₂, subst}
-use Rattle.clap.specs.Words.{app_of, fault_of, found_of, is_simple, is_simple_and_free, HasKind, Kinds, kind_of, matches_of, rows_of}
+use Rattle.std.proofs.Common.{◌≡◌, ◌∙◌, [], map, option_map, string_bytes, codes, inl, inr, sym, ap, subst}
+use Rattle.clap.specs.Words.{app_of, fault_of, found_of, is_simple, is_simple_and_free, HasKind, Kinds, matches_of, rows_of}
 use Rattle.clap.proofs.WalkLemmas.{first_value-rows}
-use Rattle.pks_words.specs.Command.{HasWords, text_of, two_words}
+use Rattle.pks_words.specs.Command.{text_of, two_words}
 use Rattle.pks_words.proofs.Parsed.{are_texts, found, mode_found, no_fault, refused_by}
 use Rattle.pks_words.proofs.read.mode_and_number.Goals as goal
 
