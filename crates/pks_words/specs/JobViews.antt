@@ -1,5 +1,5 @@
 -- The program's jobs, as the definitions have them.
-use Rattle.std.specs.Prelude.{List}
+use Rattle.std.specs.Prelude.{◌≡◌, List}
 use Rattle.pks_terms.specs.Printed.{Text}
 use Rattle.pks_terms.specs.Jobs.{Job, Check, Plan, Exec, Bench, Spells, Asks}
 use Rattle.pks_words.specs.declared.job.Job.{Job as DJob}
@@ -19,3 +19,7 @@ SpellNoJob words = (job : Job) → Spells words job → ⊥
 -- the words ask for no job
 abbrev pub AskNoJob : List Text → Type 0
 AskNoJob words = (job : Job) → Asks words job → ⊥
+
+-- the words ask for the job, and for no other
+abbrev pub AskForOne : List Text → Job → Type 0
+AskForOne words job = Asks words job × ((other : Job) → Asks words other → other ≡ job)

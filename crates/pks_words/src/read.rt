@@ -1,9 +1,8 @@
 //! The job that words ask for.
 
 ghost use Rattle.std.specs.Prelude.{◌≡◌, ℕ, List, Option, map, option_map, string_bytes, IfOk, IsErrOf};
-ghost use Rattle.pks_terms.specs.Jobs.{Asks};
 ghost use Rattle.pks_words.specs.Command.{HasWords, text_of};
-ghost use Rattle.pks_words.specs.JobViews.{AskNoJob, job_of};
+ghost use Rattle.pks_words.specs.JobViews.{AskForOne, AskNoJob, job_of};
 
 use crate::command::command;
 use crate::end::WordsEnd;
@@ -30,7 +29,7 @@ fn mode_and_number<'a>(
 /// It answers `Refused` exactly where they ask for no job, and `Memory` where memory ran out, which may come before
 /// the other answers.
 pub fn read_words(alloc: Global, words: &[String]) -> Result<Job, WordsEnd>
-    ensures ok { IfOk result (λ job. Asks (map string_bytes words.now) (job_of job)) }
+    ensures ok { IfOk result (λ job. AskForOne (map string_bytes words.now) (job_of job)) }
     ensures refused { IsErrOf result WordsEnd.Refused → AskNoJob (map string_bytes words.now) }
 {
     let (mode, number) = mode_and_number(alloc, words)?;
