@@ -1,0 +1,14 @@
+//! Jobs.
+
+/// What the words of the command line ask for (docs/FORMAT.md, "Words and statuses").
+#[derive(Clone, Copy, Debug, PartialEq, Eq)]
+pub enum Job {
+    /// Read a file, and accept or refuse it.
+    Check,
+    /// Plan to this depth, from 0 to 16.
+    Plan(u8),
+    /// Plan to this depth, from 0 to 16, and run the plan.
+    Exec(u8),
+    /// Plan over the generated file with this many objects, from 1 to 64.
+    Bench(u8),
+}
