@@ -1,0 +1,5 @@
+pub mod Arguments
+pub mod Breaking
+pub mod Ending
+pub mod Listing
+pub mod Meeting
