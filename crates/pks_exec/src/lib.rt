@@ -4,7 +4,7 @@
 
 pub mod compatible;
 pub mod exec;
-// pub mod print;
+pub mod print;
 pub mod run;
 
 
