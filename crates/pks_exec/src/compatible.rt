@@ -206,9 +206,8 @@ fn slots_in(x: &Pattern) -> &[Option<Term>]
 
 /// Whether each true instance of the pattern is the value of an atom that the start says to be true.
 fn meets(p: &Problem<'_>, w: &World, x: &Pattern) -> bool
-    requires objects { length p.now.signature.objects ≤ 65536 }
-    requires world { IsWorld (signature_of p.now.signature) (world_of w.now) }
-    ensures { IsTrue result ↔ Meets (world_of w.now) (initial_entry (initial (problem_of p.now)).kf (pattern_of x.now)) }
+    requires { length p.now.signature.objects ≤ 65536 }
+    ensures { IsWorld (signature_of p.now.signature) (world_of w.now) → IsTrue result ↔ Meets (world_of w.now) (initial_entry (initial (problem_of p.now)).kf (pattern_of x.now)) }
 {
     tells_all(p, w, x.pred, slots_in(x), &Few::none())
 }
@@ -239,9 +238,8 @@ fn one_holds(w: &World, literals: &[Literal]) -> bool
 
 /// Whether the world keeps the initial item.
 fn keeps(p: &Problem<'_>, w: &World, start: &Init) -> bool
-    requires objects { length p.now.signature.objects ≤ 65536 }
-    requires world { IsWorld (signature_of p.now.signature) (world_of w.now) }
-    ensures { IsTrue result ↔ Keeps (problem_of p.now) (world_of w.now) (start_of start.now) }
+    requires { length p.now.signature.objects ≤ 65536 }
+    ensures { IsWorld (signature_of p.now.signature) (world_of w.now) → IsTrue result ↔ Keeps (problem_of p.now) (world_of w.now) (start_of start.now) }
 {
     match start {
         Init::Kf(l) => w.holds(l),
@@ -257,10 +255,9 @@ fn keeps(p: &Problem<'_>, w: &World, start: &Init) -> bool
 pub fn compatible(p: &Problem<'_>, w: &World) -> Option<ItemNo>
     requires objects { length p.now.signature.objects ≤ 65536 }
     requires numbered { length p.now.init < 2 ^ 32 }
-    requires world { IsWorld (signature_of p.now.signature) (world_of w.now) }
-    ensures first { IfSome result (λ n. IsFirstBroken (problem_of p.now) (world_of w.now) (problem_of p.now).init 1 n.0) }
-    ensures only { (n : ℕ) → IsFirstBroken (problem_of p.now) (world_of w.now) (problem_of p.now).init 1 n → option_map (λ i. i.0) result ≡ Some n }
-    ensures none { IsNone result ↔ IsCompatible (problem_of p.now) (world_of w.now) }
+    ensures first { IsWorld (signature_of p.now.signature) (world_of w.now) → IfSome result (λ n. IsFirstBroken (problem_of p.now) (world_of w.now) (problem_of p.now).init 1 n.0) }
+    ensures only { IsWorld (signature_of p.now.signature) (world_of w.now) → (n : ℕ) → IsFirstBroken (problem_of p.now) (world_of w.now) (problem_of p.now).init 1 n → option_map (λ i. i.0) result ≡ Some n }
+    ensures none { IsWorld (signature_of p.now.signature) (world_of w.now) → IsNone result ↔ IsCompatible (problem_of p.now) (world_of w.now) }
 {
     for (k, item) in p.init.as_slice().iter().enumerate() {
         if !keeps(p, w, &item.start) {

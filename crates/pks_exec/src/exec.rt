@@ -1,5 +1,5 @@
 //! The run of a plan in a world.
-ghost use Rattle.std.specs.Prelude.{◌≡◌, [], ◌∷◌, ◌++◌, map, IfOk, OnOk};
+ghost use Rattle.std.specs.Prelude.{◌≡◌, ◌≤◌, [], ◌∷◌, ◌++◌, map, length, IfOk, OnOk};
 ghost use Rattle.pks_terms.specs.Worlds.{inner_value};
 ghost use Rattle.pks_terms.specs.Knowledge.{Did, Saw, AtGoal, grounded, observations, run_of, run_cases};
 ghost use Rattle.pks_terms.specs.Problems.{IsCompatible};
@@ -64,7 +64,7 @@ fn add_action(
     i: &Instance,
     to: &mut Vec<Event>,
 ) -> Result<(), AllocError>
-    requires { IsValid (problem_of p.now) }
+    requires { length p.now.signature.objects ≤ 65536 }
     ensures { let g = grounded (world_of w.now) (instance_of i.now) in
         OnOk result (map event_of to.new.items ≡ map event_of to.old.items ++ Did g ∷ map Saw (observations (problem_of p.now) (world_of after.now) g)) }
 {
@@ -86,8 +86,8 @@ fn run_tree(
     w: &World,
     to: &mut Vec<Event>,
 ) -> Result<(), AllocError>
-    requires { IsValid (problem_of p.now) }
-    ensures { OnOk result (map event_of to.new.items ≡ map event_of to.old.items ++ run_of (problem_of p.now) (tree_of t.now) (world_of w.now)) }
+    requires { length p.now.signature.objects ≤ 65536 }
+    ensures { IsValid (problem_of p.now) → OnOk result (map event_of to.new.items ≡ map event_of to.old.items ++ run_of (problem_of p.now) (tree_of t.now) (world_of w.now)) }
 {
     match t {
         Tree::Goal => to.push(Event::End(End::Goal))?,
@@ -125,8 +125,8 @@ fn run_cases(
     w: &World,
     to: &mut Vec<Event>,
 ) -> Result<(), AllocError>
-    requires { IsValid (problem_of p.now) }
-    ensures { OnOk result (map event_of to.new.items ≡ map event_of to.old.items ++ run_cases (problem_of p.now) (chain_of k.now) value.0 (world_of w.now)) }
+    requires { length p.now.signature.objects ≤ 65536 }
+    ensures { IsValid (problem_of p.now) → OnOk result (map event_of to.new.items ≡ map event_of to.old.items ++ run_cases (problem_of p.now) (chain_of k.now) value.0 (world_of w.now)) }
 {
     match k {
         CaseChain::Empty => to.push(Event::End(End::NoCase))?,
@@ -146,9 +146,9 @@ fn run_cases(
 /// `NoCase` exactly where the tree has no case for the value. In a compatible world the run of a plan ends with `Goal`, where no add of
 /// the problem is without a case. It asks for a valid problem. `AllocError` comes for want of memory alone. `docs/RULES.md`, runs.
 pub fn exec(alloc: Global, p: &Problem<'_>, t: &Tree, w: &World) -> Result<Run, AllocError>
-    requires { IsValid (problem_of p.now) }
-    ensures run { IfOk result (λ r. map event_of r ≡ run_of (problem_of p.now) (tree_of t.now) (world_of w.now)) }
-    ensures goal { unjustified (problem_of p.now) ≡ [] → IsPlan (problem_of p.now) (tree_of t.now) → IsCompatible (problem_of p.now) (world_of w.now) → IfOk result (λ r. EndsWith AtGoal (map event_of r)) }
+    requires { length p.now.signature.objects ≤ 65536 }
+    ensures run { IsValid (problem_of p.now) → IfOk result (λ r. map event_of r ≡ run_of (problem_of p.now) (tree_of t.now) (world_of w.now)) }
+    ensures goal { IsValid (problem_of p.now) → unjustified (problem_of p.now) ≡ [] → IsPlan (problem_of p.now) (tree_of t.now) → IsCompatible (problem_of p.now) (world_of w.now) → IfOk result (λ r. EndsWith AtGoal (map event_of r)) }
 {
     let mut events = Vec::new(alloc);
     run_tree(alloc, p, t, w, &mut events)?;
