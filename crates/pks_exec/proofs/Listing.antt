@@ -62,8 +62,8 @@ module _ (p : Problem) (w : World) (x : Pattern) where
   told_meets : IsWorld p.signature w → tells ≡ true → Meets w (initial_entry (initial p).kf x)
   told_meets world all = record {
     closed = λ ds is holds.
-    let told = each_passes w (length p.signature.objects) (is_told p w x.predicate) x.slots [] ds all is (objects_below p.signature _ ds (world.atoms x.predicate ds holds)) in
-    listed_is p w x ds ∙ (sym (ap (λ t. not t || is_listed p w x.predicate ds) holds) ∙ told);
+        let told = each_passes w (length p.signature.objects) (is_told p w x.predicate) x.slots [] ds all is (objects_below p.signature _ ds (world.atoms x.predicate ds holds)) in
+        listed_is p w x ds ∙ (sym (ap (λ t. not t || is_listed p w x.predicate ds) holds) ∙ told);
   }
 
   untold_breaks : tells ≡ false → Meets w (initial_entry (initial p).kf x) → ⊥

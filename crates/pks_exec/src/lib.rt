@@ -6,5 +6,5 @@ pub mod compatible;
 pub mod exec;
 pub mod print;
 pub mod run;
-
-
+#[cfg(test)]
+mod tests;
