@@ -1,0 +1,6 @@
+pub mod Arguments
+pub mod Breaking
+pub mod Ending
+pub mod Listing
+pub mod Meeting
+pub mod Telling
