@@ -1,0 +1,6 @@
+mod Covering
+mod Giving
+mod Steps
+mod Once
+mod Putting
+mod TypedFacts
