@@ -1,5 +1,6 @@
 mod Covering
 mod Giving
+mod Sizes
 mod Steps
 mod Once
 mod Putting

@@ -1,6 +1,6 @@
 //! The world that facts without a fault state.
 ghost use Rattle.std.specs.Prelude.{◌≡◌, [], OnOk, IfOk, map, codes};
-ghost use Rattle.pks_terms.specs.ValidProblems.{IsValidProblem};
+ghost use Rattle.pks_terms.specs.Valid.{IsValidSignature};
 ghost use Rattle.pks_terms.specs.Views.{signature_of};
 ghost use Rattle.pks_text.specs.FormViews.{form_view, forms_view};
 ghost use Rattle.pks_meaning.specs.Scopes.{signature_in};
@@ -94,7 +94,7 @@ pub(crate) fn filled(
 ) -> Result<World, AllocError>
     requires small { IsSmall (scope_view scope.now) }
     requires shapes { HasShapes (scope_view scope.now) }
-    requires valid { IsValidProblem p.now }
+    requires valid { IsValidSignature (signature_of p.now.signature) }
     requires stated { signature_of p.now.signature ≡ signature_in (scope_view scope.now) }
     requires faultless { world_faults (scope_view scope.now) (forms_view parts.now) ≡ [] }
     ensures says { IfOk result (λ w. world_of w ≡ world_in (scope_view scope.now) (forms_view parts.now)) }

@@ -1,6 +1,6 @@
 //! The world of a file.
 ghost use Rattle.std.specs.Prelude.{◌≡◌, None, Some, Option, map, IfOk, IfErr, OnOk, slice_get, option_map};
-ghost use Rattle.pks_terms.specs.ValidProblems.{IsValidProblem};
+ghost use Rattle.pks_terms.specs.Valid.{IsValidSignature};
 ghost use Rattle.pks_terms.specs.Views.{signature_of};
 ghost use Rattle.pks_text.specs.FormViews.{form_view, forms_view};
 ghost use Rattle.pks_grammar.specs.FaultViews.{fault_view};
@@ -100,7 +100,7 @@ fn stated(
 ) -> Result<World, WorldEnd>
     requires small { IsSmall (scope_view scope.now) }
     requires shapes { HasShapes (scope_view scope.now) }
-    requires valid { IsValidProblem p.now }
+    requires valid { IsValidSignature (signature_of p.now.signature) }
     requires stated { signature_of p.now.signature ≡ signature_in (scope_view scope.now) }
     ensures says { IfOk result (λ w. world_of w ≡ world_in (scope_view scope.now) (behind_head (form_view form.now))) }
     ensures of_signature { IfOk result (IsWorldOf (signature_of p.now.signature)) }
@@ -128,7 +128,7 @@ fn among(
 ) -> Result<World, WorldEnd>
     requires small { IsSmall (declared_view declared.now) }
     requires shapes { HasShapes (declared_view declared.now) }
-    requires valid { IsValidProblem p.now }
+    requires valid { IsValidSignature (signature_of p.now.signature) }
     requires stated { signature_of p.now.signature ≡ signature_in (declared_view declared.now) }
     ensures says { IfOk result (λ w. world_of w ≡ world_in (declared_view declared.now) (behind_head (form_view form.now))) }
     ensures of_signature { IfOk result (IsWorldOf (signature_of p.now.signature)) }
@@ -152,7 +152,7 @@ fn declared(
     top: &[Form<'_>],
     form: &Form<'_>,
 ) -> Result<World, WorldEnd>
-    requires valid { IsValidProblem p.now }
+    requires valid { IsValidSignature (signature_of p.now.signature) }
     requires stated { signature_of p.now.signature ≡ signature_in (declared_by (map form_view top.now)) }
     ensures says { IfOk result (λ w. world_of w ≡ world_in (declared_by (map form_view top.now)) (behind_head (form_view form.now))) }
     ensures of_signature { IfOk result (IsWorldOf (signature_of p.now.signature)) }
@@ -164,8 +164,8 @@ fn declared(
     Ok(world)
 }
 
-/// The world that a file states, by its top forms. It asks that the problem was read from these forms: it is valid, and its
-/// signature is what they declare.
+/// The world that a file states, by its top forms. It asks that the problem was read from these forms: its signature is valid, and
+/// is what they declare.
 ///
 /// `Refused` has the first fault of the file's world, and comes exactly where there is one, unless memory is wanting: 310
 /// where there is no world, 300 for its shape, then 301, 302 and 304 for its facts, and then 303. `docs/FORMAT.md`.
@@ -175,7 +175,7 @@ pub fn read_world(
     p: &Problem<'_>,
     forms: &Forms<'_>,
 ) -> Result<World, WorldEnd>
-    requires valid { IsValidProblem p.now }
+    requires valid { IsValidSignature (signature_of p.now.signature) }
     requires stated { signature_of p.now.signature ≡ signature_in (declared_by (map form_view forms.now.top.items)) }
     ensures says { IfOk result (λ w. world_of w ≡ world_by (map form_view forms.now.top.items)) }
     ensures of_signature { IfOk result (IsWorldOf (signature_of p.now.signature)) }

@@ -10,6 +10,7 @@ use Rattle.pks_facts.specs.Typing.{IsAtom, IsValue}
 use Rattle.pks_facts.specs.Filling.{with_facts, with_entries}
 use Rattle.pks_facts.proofs.TypedFacts.{atoms_typed, values_typed}
 use Rattle.pks_facts.proofs.Putting.{all_put}
+use Rattle.pks_facts.proofs.Sizes.{few_objects, few_functions}
 use Rattle.pks_facts.proofs.fill.filled.Goals as goal
 
 pub put_facts-requires-clause-typed : goal.put_facts-requires-clause-typed
@@ -32,3 +33,9 @@ returns-clause-says c =
     ∙ (λ i. with_entries s (with_facts s (c.in_ok-world.ensures.world i) (c.section.ensures i)) values)
     ∙ ap (λ (x : Signature). with_entries s (with_facts s (first_world x) (section (codes "true") fs)) values) c.requires.stated
     ∙ all_put s fs
+
+pub first-requires-clause-objects : goal.first-requires-clause-objects
+first-requires-clause-objects c = few_objects c.args.p.now.signature (scope_view c.args.scope.now) c.requires.small c.requires.stated
+
+pub first-requires-clause-functions : goal.first-requires-clause-functions
+first-requires-clause-functions c = few_functions c.args.p.now.signature (scope_view c.args.scope.now) c.requires.small c.requires.stated
