@@ -1,0 +1,7 @@
+mod Covering
+mod Giving
+mod Sizes
+mod Steps
+mod Once
+mod Putting
+mod TypedFacts

@@ -1,0 +1,11 @@
+//! The world that a file states, and the first fault of its world (`docs/FORMAT.md`).
+#![tactic(auto)]
+
+mod faults;
+mod fill;
+pub mod laws;
+mod naming;
+mod places;
+mod read;
+
+pub use read::{WorldEnd, read_world};

@@ -1,0 +1,196 @@
+//! The world of a file.
+ghost use Rattle.std.specs.Prelude.{◌≡◌, None, Some, Option, map, IfOk, IfErr, OnOk, slice_get, option_map};
+ghost use Rattle.pks_terms.specs.Valid.{IsValidSignature};
+ghost use Rattle.pks_terms.specs.Views.{signature_of};
+ghost use Rattle.pks_text.specs.FormViews.{form_view, forms_view};
+ghost use Rattle.pks_grammar.specs.FaultViews.{fault_view};
+ghost use Rattle.pks_grammar.specs.Files.{or_else, world_shape_fault};
+ghost use Rattle.pks_meaning.specs.Scopes.{signature_in};
+ghost use Rattle.pks_meaning.specs.Parts.{behind_head};
+ghost use Rattle.pks_meaning.specs.Views.{scope_view};
+ghost use Rattle.pks_domain.specs.Views.{declared_view};
+ghost use Rattle.pks_stated.specs.Sizes.{IsSmall};
+ghost use Rattle.pks_accepted.specs.Facts.{HasShapes};
+ghost use Rattle.pks_world.specs.Contents.{world_of};
+ghost use Rattle.pks_world.specs.First.{IsWorldOf};
+ghost use Rattle.pks_facts.specs.Stated.{world_in, fact_fault, parts_at, place_at, declared_by, world_fault, world_by};
+ghost use Rattle.pks_facts.specs.Views.{IsRefusal};
+ghost use Rattle.pks_facts.specs.declared.read.WorldEnd.TheVariants as end;
+
+use crate::faults::facts;
+use crate::fill::filled;
+use crate::places::is_full;
+use indexmap::IndexMap;
+use pks_domain::declarations;
+use pks_grammar::report::Fault;
+use pks_grammar::shape::{version_of, world_shape_fault};
+use pks_meaning::parts::{behind_head, place_of};
+use pks_meaning::report::Report;
+use pks_meaning::scope::{Declared, Scope};
+use pks_terms::problem::Problem;
+use pks_text::{Form, Forms};
+use pks_world::world::World;
+use std::alloc::{AllocError, Global};
+
+/// Why there is no world: its first fault, or want of memory.
+#[derive(Clone, Copy, Debug, PartialEq, Eq)]
+pub enum WorldEnd {
+    /// The first fault of the world of a file, with its code 300 to 304 or 310 (`docs/FORMAT.md`).
+    Refused(Fault),
+    /// Memory ran out.
+    Memory,
+}
+
+impl From<AllocError> for WorldEnd {
+    ghost from_gives = { λ _ e. e ≡ end.Memory };
+
+    fn from(_e: AllocError) -> WorldEnd {
+        WorldEnd::Memory
+    }
+}
+
+impl From<pks_domain::Memory> for WorldEnd {
+    ghost from_gives = { λ _ e. e ≡ end.Memory };
+
+    fn from(_e: pks_domain::Memory) -> WorldEnd {
+        WorldEnd::Memory
+    }
+}
+
+fn refused(at: u32, code: u16) -> WorldEnd
+    ensures { IsRefusal (Some (at, code)) result }
+{
+    WorldEnd::Refused(Fault { at, code })
+}
+
+// The top form with a number, counted from 0.
+fn top_at<'f, 's>(top: &'f [Form<'s>], i: usize) -> Option<&'f Form<'s>>
+    ensures { option_map (λ f. form_view f.now) result ≡ slice_get (map form_view top.now) i }
+{
+    top.get(i)
+}
+
+// The parts behind its head.
+fn parts_at<'f, 's>(top: &'f [Form<'s>], i: usize) -> &'f [Form<'s>]
+    ensures { forms_view result.now ≡ parts_at (map form_view top.now) i }
+{
+    if top.len() <= i {
+        return &[];
+    }
+    behind_head(&top[i])
+}
+
+// Its place.
+fn place_at(top: &[Form<'_>], i: usize) -> u32
+    ensures { result ≡ place_at (map form_view top.now) i }
+{
+    match top_at(top, i) {
+        None => 0,
+        Some(form) => place_of(form),
+    }
+}
+
+// The world that a list states, which has the shape of one.
+#[tactic(auto, unfolding(crate::specs::Stated::fact_fault))]
+fn stated(
+    alloc: Global,
+    p: &Problem<'_>,
+    scope: &Scope<'_, '_>,
+    form: &Form<'_>,
+) -> Result<World, WorldEnd>
+    requires small { IsSmall (scope_view scope.now) }
+    requires shapes { HasShapes (scope_view scope.now) }
+    requires valid { IsValidSignature (signature_of p.now.signature) }
+    requires stated { signature_of p.now.signature ≡ signature_in (scope_view scope.now) }
+    ensures says { IfOk result (λ w. world_of w ≡ world_in (scope_view scope.now) (behind_head (form_view form.now))) }
+    ensures of_signature { IfOk result (IsWorldOf (signature_of p.now.signature)) }
+    ensures fine { OnOk result (fact_fault (scope_view scope.now) (form_view form.now) ≡ None) }
+    ensures refused { IfErr result (IsRefusal (fact_fault (scope_view scope.now) (form_view form.now))) }
+{
+    let mut report = Report::new();
+    let given = facts(alloc, &mut report, scope, behind_head(form))?;
+    if let Some(fault) = report.least {
+        return Err(WorldEnd::Refused(fault));
+    }
+    if !is_full(&p.signature, &given) {
+        return Err(refused(place_of(form), 303));
+    }
+    let world = filled(alloc, p, scope, behind_head(form))?;
+    Ok(world)
+}
+
+// The same where these names are declared.
+fn among(
+    alloc: Global,
+    p: &Problem<'_>,
+    declared: &Declared<'_>,
+    form: &Form<'_>,
+) -> Result<World, WorldEnd>
+    requires small { IsSmall (declared_view declared.now) }
+    requires shapes { HasShapes (declared_view declared.now) }
+    requires valid { IsValidSignature (signature_of p.now.signature) }
+    requires stated { signature_of p.now.signature ≡ signature_in (declared_view declared.now) }
+    ensures says { IfOk result (λ w. world_of w ≡ world_in (declared_view declared.now) (behind_head (form_view form.now))) }
+    ensures of_signature { IfOk result (IsWorldOf (signature_of p.now.signature)) }
+    ensures fine { OnOk result (fact_fault (declared_view declared.now) (form_view form.now) ≡ None) }
+    ensures refused { IfErr result (IsRefusal (fact_fault (declared_view declared.now) (form_view form.now))) }
+{
+    let none = IndexMap::new(alloc);
+    let scope = Scope {
+        declared,
+        parameters: &none,
+    };
+    let world = stated(alloc, p, &scope, form)?;
+    Ok(world)
+}
+
+// The same where the top forms declare the names.
+#[tactic(auto, unfolding(crate::specs::Stated::declared_by))]
+fn declared(
+    alloc: Global,
+    p: &Problem<'_>,
+    top: &[Form<'_>],
+    form: &Form<'_>,
+) -> Result<World, WorldEnd>
+    requires valid { IsValidSignature (signature_of p.now.signature) }
+    requires stated { signature_of p.now.signature ≡ signature_in (declared_by (map form_view top.now)) }
+    ensures says { IfOk result (λ w. world_of w ≡ world_in (declared_by (map form_view top.now)) (behind_head (form_view form.now))) }
+    ensures of_signature { IfOk result (IsWorldOf (signature_of p.now.signature)) }
+    ensures fine { OnOk result (fact_fault (declared_by (map form_view top.now)) (form_view form.now) ≡ None) }
+    ensures refused { IfErr result (IsRefusal (fact_fault (declared_by (map form_view top.now)) (form_view form.now))) }
+{
+    let domain = declarations(alloc, version_of(top).number(), parts_at(top, 1))?;
+    let world = among(alloc, p, &domain.declared, form)?;
+    Ok(world)
+}
+
+/// The world that a file states, by its top forms. It asks that the problem was read from these forms: its signature is valid, and
+/// is what they declare.
+///
+/// `Refused` has the first fault of the file's world, and comes exactly where there is one, unless memory is wanting: 310
+/// where there is no world, 300 for its shape, then 301, 302 and 304 for its facts, and then 303. `docs/FORMAT.md`.
+#[tactic(auto, unfolding(crate::specs::Stated::world_fault, crate::specs::Stated::world_by))]
+pub fn read_world(
+    alloc: Global,
+    p: &Problem<'_>,
+    forms: &Forms<'_>,
+) -> Result<World, WorldEnd>
+    requires valid { IsValidSignature (signature_of p.now.signature) }
+    requires stated { signature_of p.now.signature ≡ signature_in (declared_by (map form_view forms.now.top.items)) }
+    ensures says { IfOk result (λ w. world_of w ≡ world_by (map form_view forms.now.top.items)) }
+    ensures of_signature { IfOk result (IsWorldOf (signature_of p.now.signature)) }
+    ensures fine { OnOk result (world_fault (map form_view forms.now.top.items) ≡ None) }
+    ensures refused { IfErr result (IsRefusal (world_fault (map form_view forms.now.top.items))) }
+{
+    let top = forms.top.as_slice();
+    match top_at(top, 3) {
+        None => Err(refused(place_at(top, 2), 310)),
+        Some(form) => {
+            if let Some(fault) = world_shape_fault(top) {
+                return Err(WorldEnd::Refused(fault));
+            }
+            let world = declared(alloc, p, top, form)?;
+            Ok(world)
+        }
+    }
+}
