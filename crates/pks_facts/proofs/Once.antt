@@ -71,8 +71,8 @@ module _ (s : Scope) where
       let parts = nil_parts (value_faults s given f) (values_faults s (given_with s given f) fs) e in
       let after = given_with s given f in
       let head : Has (form f fs) f = λ t v d p o.
-          ap (λ x. value_given s fs t x) (put f t v d p o)
-          ∙ no_more after fs t v (ap (λ (q : Option Term). once_given given q t) p ∙ ap (λ b. cond b true (given t)) (same_eq t t refl)) parts.1 in
+      ap (λ x. value_given s fs t x) (put f t v d p o)
+      ∙ no_more after fs t v (ap (λ (q : Option Term). once_given given q t) p ∙ ap (λ b. cond b true (given t)) (same_eq t t refl)) parts.1 in
       (head, each_weaker (Has fs) (Has (form f fs)) (λ g h t v d p o. h t v (value_with s f t d) p o) fs (all_have after fs parts.1))
 
   pub values_hold : (fs : Forms) → world_faults s fs ≡ [] → EachForm (HasItsValue s (world_in s fs)) (section (codes "values") fs)

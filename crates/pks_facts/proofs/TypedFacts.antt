@@ -150,7 +150,8 @@ module _ (s : Scope) where
 
   pub value_may : (f : Form) (t : Term) (d : ℕ) → IsValue s f → place_named s (first_in f) ≡ Some t → object_named s (second_in f) ≡ Some d
       → IsTypedTarget (signature_in s) [] (Assign (function_of t) (arguments_of t) (Object d))
-  value_may f t d i e v =
-      (i.shape,
-      subst (λ (u : Term). slice_get (signature_in s).functions (function_of u) ≡ Some i.shape) (same_place f t i e) i.declared,
-      subst (λ (x : ℕ). IsIn x (objects_of (signature_in s) i.shape.result)) (same_Some i.value d (sym i.value_is ∙ v)) i.fits)
+  value_may f t d i e v = (
+    i.shape,
+    subst (λ (u : Term). slice_get (signature_in s).functions (function_of u) ≡ Some i.shape) (same_place f t i e) i.declared,
+    subst (λ (x : ℕ). IsIn x (objects_of (signature_in s) i.shape.result)) (same_Some i.value d (sym i.value_is ∙ v)) i.fits,
+  )
