@@ -1,5 +1,5 @@
 -- The signature that a file of the grammar declares.
-use Rattle.std.proofs.Common.{◌≡◌, ℕ, List, [], ◌∷◌, Option, None, Some, is_some, true, false, true≢false, refl, sym, ap, ◌∙◌, subst}
+use Rattle.std.proofs.Common.{◌≡◌, ℕ, List, [], ◌∷◌, Option, None, Some, is_some, false, true≢false, refl, sym, ap, ◌∙◌, subst}
 use Rattle.std.specs.Option.{IfSome}
 use Rattle.pks_terms.specs.Valid.{IsValidSignature}
 use Rattle.pks_text.specs.Forms.{Form, Forms}
@@ -8,7 +8,7 @@ use Rattle.pks_grammar.specs.declared.grammar.Version.TheVariants.{First}
 use Rattle.pks_grammar.specs.declared.grammar.Sort.TheVariants.{Domain}
 use Rattle.pks_grammar.specs.Language.{IsOf, IsFile}
 use Rattle.pks_grammar.specs.Files.{version_of, number_of}
-use Rattle.pks_meaning.specs.Scopes.{Scope, signature_in}
+use Rattle.pks_meaning.specs.Scopes.{signature_in}
 use Rattle.pks_meaning.specs.Parts.{behind_head}
 use Rattle.pks_meaning.specs.Meaning.{scope_of}
 use Rattle.pks_domain.specs.FirstFault.{declarations_fault}

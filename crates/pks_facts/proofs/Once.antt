@@ -1,5 +1,5 @@
 -- Without a fault each place is given one value.
-use Rattle.std.proofs.Common.{◌≡◌, ◌++◌, ℕ, Bool, true, false, cond, List, [], Option, Some, None, refl, sym, ap, ◌∙◌, subst, option_map, true≢false}
+use Rattle.std.proofs.Common.{◌≡◌, ◌++◌, ℕ, true, false, cond, [], Option, Some, None, refl, sym, ap, ◌∙◌, option_map, true≢false}
 use Rattle.std.specs.Prelude.{codes, unwrap_or}
 use Rattle.std.specs.Option.{option_map_or}
 use Rattle.std.specs.Ordering.{is_eq}
@@ -16,7 +16,7 @@ use Rattle.pks_accepted.specs.Facts.{EachForm}
 use Rattle.pks_accepted.proofs.Numbers.{nil_parts, when}
 use Rattle.pks_world.specs.First.{least_value}
 use Rattle.pks_facts.specs.Naming.{object_named, place_named}
-use Rattle.pks_facts.specs.Facts.{Given, with_given, once_given, again, function_at, fact_faults, object_faults, true_faults, value_faults, given_with, none_given, values_faults, world_faults}
+use Rattle.pks_facts.specs.Facts.{Given, once_given, again, function_at, fact_faults, object_faults, true_faults, value_faults, given_with, none_given, values_faults, world_faults}
 use Rattle.pks_facts.specs.Stated.{value_with, value_given, world_in}
 use Rattle.pks_facts.specs.Typing.{HasItsValue}
 

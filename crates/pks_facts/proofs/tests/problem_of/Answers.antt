@@ -1,9 +1,8 @@
-use Rattle.std.proofs.Common.{◌≡◌, ◌∙◌, List, Option, None, map, option_map, sym, ap, subst}
+use Rattle.std.proofs.Common.{◌≡◌, ◌∙◌, None, map, option_map, sym, ap, subst}
 use Rattle.std.specs.Option.{IfSome}
 use Rattle.pks_terms.specs.declared.problem.Problem.{Problem}
 use Rattle.pks_terms.specs.Valid.{IsValidSignature}
 use Rattle.pks_terms.specs.Views.{signature_of}
-use Rattle.pks_text.specs.Forms.{Form, Forms}
 use Rattle.pks_text.specs.FormViews.{form_view, forms_view}
 use Rattle.pks_grammar.specs.FaultViews.{fault_view}
 use Rattle.pks_grammar.specs.Files.{version_of, number_of}
