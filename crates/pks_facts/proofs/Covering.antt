@@ -1,10 +1,10 @@
 -- Each place of a signature has a value exactly where the walk over them finds none without.
-use Rattle.std.proofs.Common.{◌≡◌, ◌&&◌, ◌+◌, ℕ, zero, suc, Bool, true, false, List, [], ◌∷◌, ◌++◌, slice_get, Some, refl, sym, ap, ◌∙◌, subst, arith, append-nil, append_assoc, ⊎_elim, ◌⊎◌, inl, inr, true≢false}
+use Rattle.std.proofs.Common.{◌≡◌, ◌+◌, ℕ, zero, suc, Bool, true, List, [], ◌∷◌, ◌++◌, slice_get, Some, refl, sym, subst, arith, append-nil, append_assoc, ⊎_elim, inl, inr}
 use Rattle.std.specs.List.{list_all}
 use Rattle.std.proofs.lemmas.Bool.{and_parts, and_from}
 use Rattle.std.proofs.lemmas.Option.{none-some, same_Some}
 use Rattle.pks_terms.specs.Sets.{IsIn}
-use Rattle.pks_terms.specs.Syntax.{Term, place}
+use Rattle.pks_terms.specs.Syntax.{place}
 use Rattle.pks_terms.specs.Signatures.{Shape, Signature, objects_of}
 use Rattle.pks_terms.specs.Meaning.{AreOfTypes}
 use Rattle.pks_facts.specs.Facts.{Given}

@@ -67,8 +67,8 @@ gave old new t h =
     let listed : BTreeSet Term → syntax.Term → Bool = λ m u. list_any (λ x. is_eq (term_cmp u (term_of x))) m.keys in
     let each : (u : syntax.Term) → given_of new u ≡ with_given (given_of old) (term_of t) u =
     λ u. any_mapped (λ x. is_eq (term_cmp u x)) term_of new.keys
-        ∙ subst (λ (x : syntax.Term). listed new x ≡ cond (is_eq (term_cmp (term_of t) x)) true (listed old x)) (term_viewed u) (h (term_at u))
-        ∙ ap (λ b. cond (is_eq (term_cmp (term_of t) u)) true b) (sym (any_mapped (λ x. is_eq (term_cmp u x)) term_of old.keys)) in
+    ∙ subst (λ (x : syntax.Term). listed new x ≡ cond (is_eq (term_cmp (term_of t) x)) true (listed old x)) (term_viewed u) (h (term_at u))
+    ∙ ap (λ b. cond (is_eq (term_cmp (term_of t) u)) true b) (sym (any_mapped (λ x. is_eq (term_cmp u x)) term_of old.keys)) in
     λ i u. each u i
 
 -- none has a value

@@ -1,4 +1,5 @@
 mod Covering
+mod Files
 mod Giving
 mod Sizes
 mod Steps

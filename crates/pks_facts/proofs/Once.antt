@@ -1,5 +1,5 @@
 -- Without a fault each place is given one value.
-use Rattle.std.proofs.Common.{◌≡◌, ◌++◌, ℕ, Bool, true, false, cond, List, [], Option, Some, None, refl, sym, ap, ◌∙◌, subst, option_map, true≢false}
+use Rattle.std.proofs.Common.{◌≡◌, ◌++◌, ℕ, true, false, cond, [], Option, Some, None, refl, sym, ap, ◌∙◌, option_map, true≢false}
 use Rattle.std.specs.Prelude.{codes, unwrap_or}
 use Rattle.std.specs.Option.{option_map_or}
 use Rattle.std.specs.Ordering.{is_eq}
@@ -16,7 +16,7 @@ use Rattle.pks_accepted.specs.Facts.{EachForm}
 use Rattle.pks_accepted.proofs.Numbers.{nil_parts, when}
 use Rattle.pks_world.specs.First.{least_value}
 use Rattle.pks_facts.specs.Naming.{object_named, place_named}
-use Rattle.pks_facts.specs.Facts.{Given, with_given, once_given, again, function_at, fact_faults, object_faults, true_faults, value_faults, given_with, none_given, values_faults, world_faults}
+use Rattle.pks_facts.specs.Facts.{Given, once_given, again, function_at, fact_faults, object_faults, true_faults, value_faults, given_with, none_given, values_faults, world_faults}
 use Rattle.pks_facts.specs.Stated.{value_with, value_given, world_in}
 use Rattle.pks_facts.specs.Typing.{HasItsValue}
 
@@ -71,8 +71,8 @@ module _ (s : Scope) where
       let parts = nil_parts (value_faults s given f) (values_faults s (given_with s given f) fs) e in
       let after = given_with s given f in
       let head : Has (form f fs) f = λ t v d p o.
-          ap (λ x. value_given s fs t x) (put f t v d p o)
-          ∙ no_more after fs t v (ap (λ (q : Option Term). once_given given q t) p ∙ ap (λ b. cond b true (given t)) (same_eq t t refl)) parts.1 in
+      ap (λ x. value_given s fs t x) (put f t v d p o)
+      ∙ no_more after fs t v (ap (λ (q : Option Term). once_given given q t) p ∙ ap (λ b. cond b true (given t)) (same_eq t t refl)) parts.1 in
       (head, each_weaker (Has fs) (Has (form f fs)) (λ g h t v d p o. h t v (value_with s f t d) p o) fs (all_have after fs parts.1))
 
   pub values_hold : (fs : Forms) → world_faults s fs ≡ [] → EachForm (HasItsValue s (world_in s fs)) (section (codes "values") fs)

@@ -1,18 +1,18 @@
 -- A world with the facts put in is the world that they state.
-use Rattle.std.proofs.Common.{◌≡◌, ◌||◌, ℕ, Bool, true, false, cond, List, Option, Some, None, refl, sym, ap, ◌∙◌}
+use Rattle.std.proofs.Common.{◌≡◌, ◌||◌, ℕ, Bool, true, false, cond, List, Option, Some, None, refl, ap, ◌∙◌}
 use Rattle.std.specs.Prelude.{codes, unwrap_or}
 use Rattle.std.specs.Option.{option_map_or}
 use Rattle.pks_terms.specs.Syntax.{Term, Atom, place}
 use Rattle.pks_terms.specs.Orders.{term_eq}
 use Rattle.pks_terms.specs.Worlds.{World}
-use Rattle.pks_text.specs.Forms.{Form, Forms, no_forms, form}
+use Rattle.pks_text.specs.Forms.{Forms, no_forms, form}
 use Rattle.pks_meaning.specs.Scopes.{Scope, signature_in}
 use Rattle.pks_meaning.specs.Parts.{section}
 use Rattle.pks_meaning.specs.Declarations.{first_in, second_in}
-use Rattle.pks_world.specs.Contents.{ground, atom_eq, with_truth, with_value}
+use Rattle.pks_world.specs.Contents.{ground, atom_eq}
 use Rattle.pks_world.specs.First.{first_world}
 use Rattle.pks_facts.specs.Naming.{object_named, atom_named, place_named}
-use Rattle.pks_facts.specs.Stated.{is_listed, value_with, value_given, world_in}
+use Rattle.pks_facts.specs.Stated.{is_listed, value_given, world_in}
 use Rattle.pks_facts.specs.Filling.{with_atom, with_facts, with_place, with_entries}
 
 turned : (a b c : Bool) → (b || cond a true c) ≡ ((a || b) || c)

@@ -1,5 +1,5 @@
 -- Facts without a fault name atoms and values of the declared types.
-use Rattle.std.proofs.Common.{◌≡◌, ◌≤◌, ◌==◌, ◌++◌, ℕ, zero, suc, Bool, true, false, cond, List, [], ◌∷◌, map, length, slice_get, Option, Some, None, refl, sym, ap, ◌∙◌, subst, arith, option_map}
+use Rattle.std.proofs.Common.{◌≡◌, ◌≤◌, ◌==◌, ◌++◌, ℕ, zero, suc, true, false, List, [], ◌∷◌, map, length, slice_get, Option, Some, None, refl, sym, ap, ◌∙◌, subst, arith, option_map}
 use Rattle.std.specs.Prelude.{codes, unwrap_or, option_and_then}
 use Rattle.std.specs.Option.{option_map_or}
 use Rattle.std.proofs.lemmas.Bool.{eqb-true}
@@ -150,7 +150,8 @@ module _ (s : Scope) where
 
   pub value_may : (f : Form) (t : Term) (d : ℕ) → IsValue s f → place_named s (first_in f) ≡ Some t → object_named s (second_in f) ≡ Some d
       → IsTypedTarget (signature_in s) [] (Assign (function_of t) (arguments_of t) (Object d))
-  value_may f t d i e v =
-      (i.shape,
-      subst (λ (u : Term). slice_get (signature_in s).functions (function_of u) ≡ Some i.shape) (same_place f t i e) i.declared,
-      subst (λ (x : ℕ). IsIn x (objects_of (signature_in s) i.shape.result)) (same_Some i.value d (sym i.value_is ∙ v)) i.fits)
+  value_may f t d i e v = (
+    i.shape,
+    subst (λ (u : Term). slice_get (signature_in s).functions (function_of u) ≡ Some i.shape) (same_place f t i e) i.declared,
+    subst (λ (x : ℕ). IsIn x (objects_of (signature_in s) i.shape.result)) (same_Some i.value d (sym i.value_is ∙ v)) i.fits,
+  )

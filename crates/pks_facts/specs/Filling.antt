@@ -1,7 +1,7 @@
 -- What is put into a world, one fact after another.
 use Rattle.std.specs.Prelude.{true, Option, Some, None}
 use Rattle.pks_terms.specs.Worlds.{World}
-use Rattle.pks_text.specs.Forms.{Form, Forms, no_forms, form}
+use Rattle.pks_text.specs.Forms.{Forms, no_forms, form}
 use Rattle.pks_terms.specs.Syntax.{Term, Atom}
 use Rattle.pks_meaning.specs.Scopes.{Scope}
 use Rattle.pks_meaning.specs.Declarations.{first_in, second_in}

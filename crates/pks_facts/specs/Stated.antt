@@ -47,8 +47,8 @@ abbrev pub missing_fault : Scope → Form → Option Fault
 missing_fault s w = if is_full (signature_in s) (given_by s none_given (section (codes "values") (behind_head w))) then None else Some (place_of w, 303)
 
 -- the first fault of a world of this shape
-unfoldable pub fact_fault : Scope → Form → Option Fault
-fact_fault s w = or_else (least (world_faults s (behind_head w))) (missing_fault s w)
+unfoldable pub contents_fault : Scope → Form → Option Fault
+contents_fault s w = or_else (least (world_faults s (behind_head w))) (missing_fault s w)
 
 -- the parts behind the head of the top form with this number, counted from 0
 abbrev pub parts_at : List Form → ℕ → Forms
@@ -64,7 +64,7 @@ declared_by fs = scope_of (number_of (version_of fs)) (parts_at fs 1)
 
 -- the first fault of a file's world: that there is none, its shape, its facts
 unfoldable pub world_fault : List Form → Option Fault
-world_fault fs = elim (slice_get fs 3) [ None ↦ Some (place_at fs 2, 310) | Some w ↦ or_else (world_shape_fault fs) (fact_fault (declared_by fs) w) ]
+world_fault fs = elim (slice_get fs 3) [ None ↦ Some (place_at fs 2, 310) | Some w ↦ or_else (world_shape_fault fs) (contents_fault (declared_by fs) w) ]
 
 -- the world of a file, whose fourth form it is
 unfoldable pub world_by : List Form → World

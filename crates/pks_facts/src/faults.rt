@@ -103,7 +103,12 @@ fn fact(report: &mut Report, scope: &Scope<'_, '_>, shape: Option<&Shape>, form:
 fn truth(report: &mut Report, scope: &Scope<'_, '_>, form: &Form<'_>)
     ensures { found_of report.new ≡ all_noted (found_of report.old) (true_faults (scope_view scope.now) (form_view form.now)) }
 {
-    fact(report, scope, scope.predicate(head_of(parts_of(form))), form);
+    fact(
+        report,
+        scope,
+        scope.predicate(head_of(parts_of(form))),
+        form,
+    );
 }
 
 // The atoms that are true.
@@ -169,7 +174,13 @@ fn result_of(shape: Option<&Shape>) -> Option<u8>
 
 // The words of a place and of its value.
 #[tactic(auto, using(pks_meaning::proofs::Noting::noted_both), unfolding(crate::specs::Facts::value_faults))]
-fn value(report: &mut Report, scope: &Scope<'_, '_>, given: &BTreeSet<Term>, form: &Form<'_>, place: Option<&Term>)
+fn value(
+    report: &mut Report,
+    scope: &Scope<'_, '_>,
+    given: &BTreeSet<Term>,
+    form: &Form<'_>,
+    place: Option<&Term>,
+)
     requires { option_map (λ t. term_of t.now) place ≡ place_named (scope_view scope.now) (first_in (form_view form.now)) }
     ensures { found_of report.new ≡ all_noted (found_of report.old) (value_faults (scope_view scope.now) (given_of given.now) (form_view form.now)) }
 {

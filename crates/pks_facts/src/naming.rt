@@ -84,10 +84,7 @@ fn objects_named(scope: &Scope<'_, '_>, n: u8, words: &[Form<'_>]) -> Option<Obj
             if n == 0 {
                 return None;
             }
-            one_more(
-                object_named(scope, word),
-                objects_named(scope, n - 1, rest),
-            )
+            one_more(object_named(scope, word), objects_named(scope, n - 1, rest))
         }
     }
 }

@@ -13,7 +13,7 @@ ghost use Rattle.pks_stated.specs.Sizes.{IsSmall};
 ghost use Rattle.pks_accepted.specs.Facts.{HasShapes};
 ghost use Rattle.pks_world.specs.Contents.{world_of};
 ghost use Rattle.pks_world.specs.First.{IsWorldOf};
-ghost use Rattle.pks_facts.specs.Stated.{world_in, fact_fault, parts_at, place_at, declared_by, world_fault, world_by};
+ghost use Rattle.pks_facts.specs.Stated.{world_in, contents_fault, parts_at, place_at, declared_by, world_fault, world_by};
 ghost use Rattle.pks_facts.specs.Views.{IsRefusal};
 ghost use Rattle.pks_facts.specs.declared.read.WorldEnd.TheVariants as end;
 
@@ -71,7 +71,7 @@ fn top_at<'f, 's>(top: &'f [Form<'s>], i: usize) -> Option<&'f Form<'s>>
 }
 
 // The parts behind its head.
-fn parts_at<'f, 's>(top: &'f [Form<'s>], i: usize) -> &'f [Form<'s>]
+pub(crate) fn parts_at<'f, 's>(top: &'f [Form<'s>], i: usize) -> &'f [Form<'s>]
     ensures { forms_view result.now ≡ parts_at (map form_view top.now) i }
 {
     if top.len() <= i {
@@ -91,7 +91,7 @@ fn place_at(top: &[Form<'_>], i: usize) -> u32
 }
 
 // The world that a list states, which has the shape of one.
-#[tactic(auto, unfolding(crate::specs::Stated::fact_fault))]
+#[tactic(auto, unfolding(crate::specs::Stated::contents_fault))]
 fn stated(
     alloc: Global,
     p: &Problem<'_>,
@@ -104,8 +104,8 @@ fn stated(
     requires stated { signature_of p.now.signature ≡ signature_in (scope_view scope.now) }
     ensures says { IfOk result (λ w. world_of w ≡ world_in (scope_view scope.now) (behind_head (form_view form.now))) }
     ensures of_signature { IfOk result (IsWorldOf (signature_of p.now.signature)) }
-    ensures fine { OnOk result (fact_fault (scope_view scope.now) (form_view form.now) ≡ None) }
-    ensures refused { IfErr result (IsRefusal (fact_fault (scope_view scope.now) (form_view form.now))) }
+    ensures fine { OnOk result (contents_fault (scope_view scope.now) (form_view form.now) ≡ None) }
+    ensures refused { IfErr result (IsRefusal (contents_fault (scope_view scope.now) (form_view form.now))) }
 {
     let mut report = Report::new();
     let given = facts(alloc, &mut report, scope, behind_head(form))?;
@@ -132,8 +132,8 @@ fn among(
     requires stated { signature_of p.now.signature ≡ signature_in (declared_view declared.now) }
     ensures says { IfOk result (λ w. world_of w ≡ world_in (declared_view declared.now) (behind_head (form_view form.now))) }
     ensures of_signature { IfOk result (IsWorldOf (signature_of p.now.signature)) }
-    ensures fine { OnOk result (fact_fault (declared_view declared.now) (form_view form.now) ≡ None) }
-    ensures refused { IfErr result (IsRefusal (fact_fault (declared_view declared.now) (form_view form.now))) }
+    ensures fine { OnOk result (contents_fault (declared_view declared.now) (form_view form.now) ≡ None) }
+    ensures refused { IfErr result (IsRefusal (contents_fault (declared_view declared.now) (form_view form.now))) }
 {
     let none = IndexMap::new(alloc);
     let scope = Scope {
@@ -156,8 +156,8 @@ fn declared(
     requires stated { signature_of p.now.signature ≡ signature_in (declared_by (map form_view top.now)) }
     ensures says { IfOk result (λ w. world_of w ≡ world_in (declared_by (map form_view top.now)) (behind_head (form_view form.now))) }
     ensures of_signature { IfOk result (IsWorldOf (signature_of p.now.signature)) }
-    ensures fine { OnOk result (fact_fault (declared_by (map form_view top.now)) (form_view form.now) ≡ None) }
-    ensures refused { IfErr result (IsRefusal (fact_fault (declared_by (map form_view top.now)) (form_view form.now))) }
+    ensures fine { OnOk result (contents_fault (declared_by (map form_view top.now)) (form_view form.now) ≡ None) }
+    ensures refused { IfErr result (IsRefusal (contents_fault (declared_by (map form_view top.now)) (form_view form.now))) }
 {
     let domain = declarations(alloc, version_of(top).number(), parts_at(top, 1))?;
     let world = among(alloc, p, &domain.declared, form)?;
@@ -170,11 +170,7 @@ fn declared(
 /// `Refused` has the first fault of the file's world, and comes exactly where there is one, unless memory is wanting: 310
 /// where there is no world, 300 for its shape, then 301, 302 and 304 for its facts, and then 303. `docs/FORMAT.md`.
 #[tactic(auto, unfolding(crate::specs::Stated::world_fault, crate::specs::Stated::world_by))]
-pub fn read_world(
-    alloc: Global,
-    p: &Problem<'_>,
-    forms: &Forms<'_>,
-) -> Result<World, WorldEnd>
+pub fn read_world(alloc: Global, p: &Problem<'_>, forms: &Forms<'_>) -> Result<World, WorldEnd>
     requires valid { IsValidSignature (signature_of p.now.signature) }
     requires stated { signature_of p.now.signature ≡ signature_in (declared_by (map form_view forms.now.top.items)) }
     ensures says { IfOk result (λ w. world_of w ≡ world_by (map form_view forms.now.top.items)) }

@@ -1,5 +1,4 @@
 use Rattle.std.proofs.Common.{◌≡◌, map, drop}
-use Rattle.pks_terms.specs.Sets.{Each}
 use Rattle.pks_terms.specs.Views.{shape_of, signature_of}
 use Rattle.pks_facts.specs.Places.{have_values, is_full}
 use Rattle.pks_facts.specs.Views.{given_of}

@@ -1,4 +1,4 @@
-use Rattle.std.proofs.Common.{◌≡◌, ◌++◌, [], ◌∷◌, map, drop}
+use Rattle.std.proofs.Common.{◌≡◌, [], ◌∷◌, map, drop}
 use Rattle.std.specs.List.{list_all}
 use Rattle.pks_terms.specs.Signatures.{fits_type, objects_from}
 use Rattle.pks_terms.specs.Views.{object_of, signature_of}

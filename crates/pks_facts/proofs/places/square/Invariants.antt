@@ -1,7 +1,7 @@
-use Rattle.std.proofs.Common.{◌≡◌, ◌++◌, [], ◌∷◌, map, drop}
+use Rattle.std.proofs.Common.{◌≡◌, [], ◌∷◌, map, drop}
 use Rattle.std.specs.List.{list_all}
 use Rattle.pks_terms.specs.Signatures.{fits_type, objects_from}
-use Rattle.pks_terms.specs.Views.{object_of, signature_of}
+use Rattle.pks_terms.specs.Views.{signature_of}
 use Rattle.pks_facts.specs.Places.{all_given}
 use Rattle.pks_facts.specs.Views.{given_of}
 use Rattle.pks_facts.proofs.places.square.Given as goal

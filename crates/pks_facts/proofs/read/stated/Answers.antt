@@ -1,6 +1,6 @@
-use Rattle.std.proofs.Common.{◌≡◌, ◌∙◌, [], List, Option, None, option_map, sym, ap, subst}
+use Rattle.std.proofs.Common.{◌≡◌, ◌∙◌, Option, None, option_map, sym, ap}
 use Rattle.pks_text.specs.Forms.{Forms}
-use Rattle.pks_text.specs.FormViews.{form_view, forms_view}
+use Rattle.pks_text.specs.FormViews.{forms_view}
 use Rattle.pks_grammar.specs.Files.{Fault}
 use Rattle.pks_grammar.specs.FaultViews.{fault_view}
 use Rattle.pks_meaning.specs.Meaning.{all_noted}
