@@ -1,5 +1,5 @@
 -- The first item that is broken.
-use Rattle.std.proofs.Common.{◌≡◌, ◌<◌, ◌+◌, ℕ, suc, List, [], ◌∷◌, map, drop, length, get_or, add-one, inl, inr, ⊎_elim, sym, ap, ◌∙◌}
+use Rattle.std.proofs.Common.{◌≡◌, ◌<◌, ◌+◌, ℕ, suc, List, [], ◌∷◌, map, drop, length, get_or, add-one, ⊎_elim, sym, ap, ◌∙◌}
 use Rattle.std.proofs.Math.Seq.{drop-cons}
 use Rattle.pks_terms.specs.Sets.{Each}
 use Rattle.pks_terms.specs.Worlds.{World}

@@ -1,11 +1,11 @@
 -- A good run ends with the goal.
-use Rattle.std.proofs.Common.{◌≡◌, ℕ, Bool, true, false, cond, List, [], ◌∷◌, ◌++◌, map, ◌==◌, append_assoc, refl, sym, ap, ◌∙◌, subst}
+use Rattle.std.proofs.Common.{◌≡◌, ℕ, true, false, cond, List, [], ◌∷◌, ◌++◌, map, ◌==◌, append_assoc, refl, sym, ap, ◌∙◌, subst}
 use Rattle.std.proofs.lemmas.Bool.{eqb-true, eq-eqb}
 use Rattle.pks_terms.specs.Worlds.{World, value_of, all_true_in}
 use Rattle.pks_terms.specs.Actions.{Instance}
 use Rattle.pks_terms.specs.Problems.{Problem, IsCompatible}
 use Rattle.pks_terms.specs.Trees.{Tree, Goal, Impossible, Do, Branch, Cases, Chain, End, More, IsPlan}
-use Rattle.pks_terms.specs.Knowledge.{grounded, after_action, observations, after_actions, Ending, AtGoal, Event, Did, Saw, Tested, Told, Ended, run_of, run_cases, GoodFrom, GoodCase, Good}
+use Rattle.pks_terms.specs.Knowledge.{grounded, after_action, observations, after_actions, Ending, AtGoal, Event, Did, Saw, Tested, Told, Ended, run_of, run_cases, GoodFrom, GoodCase}
 use Rattle.pks_terms.specs.Answers.{unjustified}
 use Rattle.pks_terms.specs.Valid.{IsValid}
 use Rattle.pks_laws.proofs.Accepting.{all_justified}

@@ -3,17 +3,15 @@ use Rattle.std.proofs.Common.{◌≡◌, ◌||◌, ℕ, Bool, true, false, not, 
 use Rattle.std.specs.List.{list_any, cons_option}
 use Rattle.std.specs.Option.{option_map_or}
 use Rattle.pks_terms.specs.Sets.{set_of}
-use Rattle.pks_terms.specs.Syntax.{Literal, Atom, Pattern, object, affirmed}
+use Rattle.pks_terms.specs.Syntax.{Atom, Pattern, object, affirmed}
 use Rattle.pks_terms.specs.Orders.{literal_cmp, atom_cmp}
 use Rattle.pks_terms.specs.Worlds.{World, value_of, true_in}
 use Rattle.pks_terms.specs.Meaning.{IsWorld, Meets, is_value_of}
 use Rattle.pks_terms.specs.Problems.{Problem, known_start, atom_on, initial_entry, initial}
-use Rattle.pks_terms.specs.declared.literal.PredAtom.{PredAtom}
-use Rattle.pks_terms.specs.Views.{atom_of}
 use Rattle.pks_terms.proofs.ListLaws.{any_set_of}
 use Rattle.pks_terms.proofs.OrderLaws.{literal_cmp_tells, atom_cmp_tells}
 use Rattle.pks_world.specs.Contents.{ground}
-use Rattle.pks_exec.specs.Instances.{is_value, lists, is_listed, is_told, all_instances}
+use Rattle.pks_exec.specs.Instances.{is_value, is_listed, is_told, all_instances}
 use Rattle.pks_exec.proofs.Meeting.{each_passes, some_fails, objects_below}
 
 -- ---- an atom at objects

@@ -5,7 +5,7 @@ use Rattle.std.specs.Option.{option_map_or}
 use Rattle.pks_terms.specs.Syntax.{Term, Literal}
 use Rattle.pks_terms.specs.Worlds.{World, value_of}
 use Rattle.pks_terms.specs.Meaning.{is_value_of}
-use Rattle.pks_terms.specs.Problems.{Start, Problem, known_start, atom_on, initial_entry, initial}
+use Rattle.pks_terms.specs.Problems.{Start, Problem, known_start, atom_on}
 use Rattle.pks_terms.specs.Printed.{numbers_from}
 use Rattle.pks_exec.specs.declared.compatible.Few.{Few}
 

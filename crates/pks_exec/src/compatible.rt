@@ -250,8 +250,8 @@ fn keeps(p: &Problem<'_>, w: &World, start: &Init) -> bool
 }
 
 /// The first initial item that the world breaks, the items counted from 1 as written: a literal that is false, a group of which not exactly
-/// one literal is true, a region that the world doesn't meet. It asks for a world of the signature, and that objects and items can be
-/// numbered. There is none exactly where the world is compatible. It takes no memory. `docs/RULES.md`, worlds.
+/// one literal is true, a region that the world doesn't meet. There is none exactly where the world is compatible. It asks that objects and
+/// items can be numbered, and says this of worlds of the signature. It takes no memory. `docs/RULES.md`, databases.
 pub fn compatible(p: &Problem<'_>, w: &World) -> Option<ItemNo>
     requires objects { length p.now.signature.objects ≤ 65536 }
     requires numbered { length p.now.init < 2 ^ 32 }

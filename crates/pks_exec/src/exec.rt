@@ -142,9 +142,10 @@ fn run_cases(
 }
 
 /// The run of the tree in the world: each action with the values of its arguments in the world before it, and what each of its senses finds
-/// in the world after it; the truth of each conjunction that the tree branches on; each value that it has cases for; the end. It ends with
-/// `NoCase` exactly where the tree has no case for the value. In a compatible world the run of a plan ends with `Goal`, where no add of
-/// the problem is without a case. It asks for a valid problem. `AllocError` comes for want of memory alone. `docs/RULES.md`, runs.
+/// in the world after it; the truth of each conjunction that the tree branches on; each value that it has cases for; the end, which is
+/// `NoCase` exactly where the tree has no case for the value. In a compatible world the run of a derived tree ends with `Goal`, where no add
+/// of the problem is without a case. It asks that objects can be numbered, and says this of valid problems. `AllocError` comes for want of
+/// memory alone. `docs/RULES.md`, runs.
 pub fn exec(alloc: Global, p: &Problem<'_>, t: &Tree, w: &World) -> Result<Run, AllocError>
     requires { length p.now.signature.objects ≤ 65536 }
     ensures run { IsValid (problem_of p.now) → IfOk result (λ r. map event_of r ≡ run_of (problem_of p.now) (tree_of t.now) (world_of w.now)) }

@@ -207,7 +207,7 @@ fn print_events(p: &Problem<'_>, events: &[Event], out: &mut Vec<u8>) -> Result<
     Ok(())
 }
 
-/// The text of a run: the line `run`, and a line for each event (docs/FORMAT.md, "Texts"). It errs only where memory runs out.
+/// The text of a run: the line `run`, and a line for each event (docs/FORMAT.md, "Printed texts"). It errs only where memory runs out.
 #[tactic(auto, unfolding(pks_terms::specs::Printed::run_text))]
 pub fn print_run(alloc: Global, p: &Problem<'_>, r: &Run) -> Result<Vec<u8>, AllocError>
     ensures { IfOk result (λ text. text.items ≡ run_text (names_of p.now) (map event_of r.now)) }

@@ -265,27 +265,35 @@ fn lawn_plan(alloc: Global) -> Result<Tree, AllocError> {
     Ok(pour)
 }
 
+fn lawn_told(alloc: Global, atoms: &[PredAtom]) -> Result<Vec<u8>, AllocError> {
+    let p = lawn(alloc)?;
+    let plan = lawn_plan(alloc)?;
+    let w = world(alloc, &p, atoms)?;
+    let text = told(alloc, &p, &plan, &w)?;
+    Ok(text)
+}
+
+fn lawn_broken(alloc: Global, atoms: &[PredAtom]) -> Result<Option<ItemNo>, AllocError> {
+    let p = lawn(alloc)?;
+    let w = world(alloc, &p, atoms)?;
+    Ok(compatible(&p, &w))
+}
+
 #[test]
 fn lawn_in_three_worlds(rt: HostRuntime) -> Result<(), Fail> {
     let alloc = rt.alloc();
-    let p = lawn(alloc)?;
-    let plan = lawn_plan(alloc)?;
-    let both = world(alloc, &p, &[plain(0), plain(1)])?;
-    let text = told(alloc, &p, &plan, &both)?;
+    let both = lawn_told(alloc, &[plain(0), plain(1)])?;
     assert!(rt;
-        text.as_slice()
+        both.as_slice()
             == b"run\ndo (pour)\ndo (look)\nwhether (alive) false\nbranch (alive) false\ngoal\n".as_slice()
     );
-    assert!(rt; compatible(&p, &both) == None);
-    let alive = world(alloc, &p, &[plain(0)])?;
-    let text = told(alloc, &p, &plan, &alive)?;
+    let alive = lawn_told(alloc, &[plain(0)])?;
     assert!(rt;
-        text.as_slice()
+        alive.as_slice()
             == b"run\ndo (pour)\ndo (look)\nwhether (alive) true\nbranch (alive) true\ngoal\n".as_slice()
     );
-    assert!(rt; compatible(&p, &alive) == None);
-    let poison = world(alloc, &p, &[plain(1)])?;
-    assert!(rt; compatible(&p, &poison) == Some(ItemNo(1)));
+    let poison = lawn_broken(alloc, &[plain(1)])?;
+    assert!(rt; poison == Some(ItemNo(1)));
     Ok(())
 }
 
@@ -324,31 +332,41 @@ fn safe_plan(alloc: Global) -> Result<Tree, AllocError> {
     Ok(read)
 }
 
+/// The text of the run in the world where the number is c3.
+fn safe_told(alloc: Global, plan: &Tree) -> Result<Vec<u8>, AllocError> {
+    let p = safe(alloc)?;
+    let first = world(alloc, &p, &[])?;
+    let w = first.apply(&p, &bare(2))?;
+    let text = told(alloc, &p, plan, &w)?;
+    Ok(text)
+}
+
 #[test]
 fn safe_with_the_number_c3(rt: HostRuntime) -> Result<(), Fail> {
     let alloc = rt.alloc();
-    let p = safe(alloc)?;
     let plan = safe_plan(alloc)?;
-    let w = world(alloc, &p, &[])?.apply(&p, &bare(2))?;
-    let text = told(alloc, &p, &plan, &w)?;
+    let text = safe_told(alloc, &plan)?;
     assert!(rt;
         text.as_slice() == b"run\ndo (read)\nvalue (combo) c3\ndo (dial c3)\ngoal\n".as_slice()
     );
     Ok(())
 }
 
+/// The text of the run of a plan that has a case for this number alone.
+fn case_told(alloc: Global, d: u16) -> Result<Vec<u8>, AllocError> {
+    let dial = act(alloc, with(1, object(d)), Tree::Goal)?;
+    let plan = case(alloc, ObjId(d), dial)?;
+    let text = safe_told(alloc, &plan)?;
+    Ok(text)
+}
+
 #[test]
 fn cases_with_and_without_the_value(rt: HostRuntime) -> Result<(), Fail> {
     let alloc = rt.alloc();
-    let p = safe(alloc)?;
-    let w = world(alloc, &p, &[])?.apply(&p, &bare(2))?;
-    let dial = act(alloc, with(1, object(2)), Tree::Goal)?;
-    let third = case(alloc, ObjId(2), dial)?;
-    let text = told(alloc, &p, &third, &w)?;
-    assert!(rt; text.as_slice() == b"run\ncase (combo) c3\ndo (dial c3)\ngoal\n".as_slice());
-    let first = case(alloc, ObjId(0), Tree::Goal)?;
-    let text = told(alloc, &p, &first, &w)?;
-    assert!(rt; text.as_slice() == b"run\ncase (combo) c3\nno case\n".as_slice());
+    let third = case_told(alloc, 2)?;
+    assert!(rt; third.as_slice() == b"run\ncase (combo) c3\ndo (dial c3)\ngoal\n".as_slice());
+    let first = case_told(alloc, 0)?;
+    assert!(rt; first.as_slice() == b"run\ncase (combo) c3\nno case\n".as_slice());
     Ok(())
 }
 
@@ -407,13 +425,18 @@ fn house_plan(alloc: Global) -> Result<Tree, AllocError> {
     Ok(locate)
 }
 
-#[test]
-fn house_with_the_cup_in_the_study(rt: HostRuntime) -> Result<(), Fail> {
-    let alloc = rt.alloc();
+fn house_told(alloc: Global) -> Result<Vec<u8>, AllocError> {
     let p = house(alloc)?;
     let plan = house_plan(alloc)?;
-    let w = world(alloc, &p, &[])?.apply(&p, &bare(4))?;
+    let first = world(alloc, &p, &[])?;
+    let w = first.apply(&p, &bare(4))?;
     let text = told(alloc, &p, &plan, &w)?;
+    Ok(text)
+}
+
+#[test]
+fn house_with_the_cup_in_the_study(rt: HostRuntime) -> Result<(), Fail> {
+    let text = house_told(rt.alloc())?;
     assert!(rt;
         text.as_slice()
             == b"run\ndo (locate cup)\nvalue (loc cup) study\ndo (go study)\ndo (take cup)\ndo (go kitchen)\ndo (put cup)\ngoal\n".as_slice()
@@ -436,13 +459,17 @@ fn shelf(alloc: Global, init: Vec<InitItem>) -> Result<Problem<'static>, AllocEr
     Ok(p)
 }
 
-#[test]
-fn instances_are_told_in_order(rt: HostRuntime) -> Result<(), Fail> {
-    let alloc = rt.alloc();
+fn look_told(alloc: Global, atoms: &[PredAtom]) -> Result<Vec<u8>, AllocError> {
     let p = shelf(alloc, Vec::new(alloc))?;
     let look = act(alloc, bare(0), Tree::Impossible)?;
-    let w = world(alloc, &p, &[at(2, 2), at(2, 0)])?;
+    let w = world(alloc, &p, atoms)?;
     let text = told(alloc, &p, &look, &w)?;
+    Ok(text)
+}
+
+#[test]
+fn instances_are_told_in_order(rt: HostRuntime) -> Result<(), Fail> {
+    let text = look_told(rt.alloc(), &[at(2, 2), at(2, 0)])?;
     assert!(rt;
         text.as_slice() == b"run\ndo (look)\nall (p _) (p a) (p c)\nimpossible\n".as_slice()
     );
@@ -465,18 +492,28 @@ fn items(alloc: Global) -> Result<Vec<InitItem>, AllocError>
     Ok(items)
 }
 
+fn shelf_broken(alloc: Global, atoms: &[PredAtom]) -> Result<Option<ItemNo>, AllocError> {
+    let items = items(alloc)?;
+    let p = shelf(alloc, items)?;
+    let w = world(alloc, &p, atoms)?;
+    Ok(compatible(&p, &w))
+}
+
+#[test]
+fn no_item_is_broken(rt: HostRuntime) -> Result<(), Fail> {
+    let found = shelf_broken(rt.alloc(), &[at(2, 0), at(3, 0)])?;
+    assert!(rt; found == None);
+    Ok(())
+}
+
 #[test]
 fn the_first_broken_item_is_named(rt: HostRuntime) -> Result<(), Fail> {
     let alloc = rt.alloc();
-    let items = items(alloc)?;
-    let p = shelf(alloc, items)?;
-    let kept = world(alloc, &p, &[at(2, 0), at(3, 0)])?;
-    assert!(rt; compatible(&p, &kept) == None);
-    let two = world(alloc, &p, &[at(2, 0), at(2, 1)])?;
-    assert!(rt; compatible(&p, &two) == Some(ItemNo(2)));
-    let unlisted = world(alloc, &p, &[at(2, 1), at(3, 0), at(3, 1)])?;
-    assert!(rt; compatible(&p, &unlisted) == Some(ItemNo(3)));
-    let denied = world(alloc, &p, &[at(2, 1)])?;
-    assert!(rt; compatible(&p, &denied) == Some(ItemNo(4)));
+    let two = shelf_broken(alloc, &[at(2, 0), at(2, 1)])?;
+    assert!(rt; two == Some(ItemNo(2)));
+    let unlisted = shelf_broken(alloc, &[at(2, 1), at(3, 0), at(3, 1)])?;
+    assert!(rt; unlisted == Some(ItemNo(3)));
+    let denied = shelf_broken(alloc, &[at(2, 1)])?;
+    assert!(rt; denied == Some(ItemNo(4)));
     Ok(())
 }

@@ -1,4 +1,4 @@
-use Rattle.std.proofs.Common.{◌<◌, ◌≡◌, ◌+◌, true, Option, Some, map, drop, length, inl, inr, refl, sym, ap, ◌∙◌, subst, arith, true≢false}
+use Rattle.std.proofs.Common.{◌<◌, ◌+◌, Some, map, length, inl, inr, refl, sym, ap, ◌∙◌, subst, arith, true≢false}
 use Rattle.std.proofs.lemmas.List.{drop_all}
 use Rattle.pks_terms.specs.declared.problem.InitItem.{InitItem}
 use Rattle.pks_terms.specs.Sets.{Each}

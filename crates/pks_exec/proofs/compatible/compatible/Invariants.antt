@@ -1,4 +1,4 @@
-use Rattle.std.proofs.Common.{◌≡◌, ℕ, ◌+◌, map, drop, slice_get}
+use Rattle.std.proofs.Common.{ℕ, ◌+◌, map, drop}
 use Rattle.pks_terms.specs.Sets.{Each}
 use Rattle.pks_terms.specs.Meaning.{IsWorld}
 use Rattle.pks_terms.specs.Answers.{Keeps, IsFirstBroken}

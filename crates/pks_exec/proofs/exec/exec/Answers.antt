@@ -1,5 +1,5 @@
 use Rattle.std.proofs.Common.{◌≡◌, map, rules, sym, subst}
-use Rattle.pks_terms.specs.Knowledge.{Event, AtGoal, run_of}
+use Rattle.pks_terms.specs.Knowledge.{AtGoal, run_of}
 use Rattle.pks_terms.specs.Views.{problem_of}
 use Rattle.pks_world.specs.Contents.{world_of}
 use Rattle.pks_plan.specs.TreeViews.{tree_of}

@@ -1,7 +1,5 @@
-use Rattle.std.proofs.Common.{◌≡◌, length, rules, ap}
+use Rattle.std.proofs.Common.{◌≡◌, length, rules}
 use Rattle.pks_terms.specs.declared.term.Inner.TheVariants as inner_is
-use Rattle.pks_terms.specs.Actions.{Instance}
-use Rattle.pks_terms.specs.Syntax.{Inner}
 use Rattle.pks_world.specs.Contents.{world_of}
 use Rattle.pks_exec.proofs.Arguments.{first_values}
 use Rattle.pks_exec.proofs.exec.grounded.Goals as goal
