@@ -1,0 +1,5 @@
+//! What databases tell: which literals hold.
+#![tactic(auto)]
+
+pub mod derived;
+pub mod ranges;
