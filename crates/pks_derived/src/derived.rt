@@ -125,12 +125,28 @@ impl Derived {
         self.normals.normal_literal(k) == *form
     }
 
+    /// Whether a known literal has the same normal form. It takes no memory.
+    #[tactic(auto, using(crate::proofs::Known::any_of_mapped), unfolding(pks_terms::specs::Databases::is_known))]
+    pub fn is_known(&self, l: &Literal) -> bool
+        ensures { result ≡ is_known (literals_of self.now.kf) (literal_of l.now) }
+    {
+        self.has_form(&self.normals.normal_literal(l))
+    }
+
+    /// Whether the literal is evident from the normal forms of its terms.
+    fn is_evident(&self, s: &Signature, l: &Literal) -> bool
+        ensures { result ≡ is_evident (signature_of s.now) (literal_of l.now).relation (map (normal (literals_of self.now.kf)) (literal_of l.now).arguments) (literal_of l.now).positive }
+    {
+        let arguments = self.normals.normal_arguments(&l.atom.arguments());
+        is_evident(s, &l.atom, arguments.terms(), l.positive)
+    }
+
     /// Whether the literal is known up to normal form, or evident from the normal forms of its terms. It takes no memory.
+    #[tactic(auto, unfolding(pks_terms::specs::Databases::is_plain))]
     pub fn is_plain(&self, s: &Signature, l: &Literal) -> bool
         ensures { result ≡ is_plain (signature_of s.now) (literals_of self.now.kf) (literal_of l.now) }
     {
-        let args = self.normals.normal_arguments(&l.atom.arguments());
-        self.has_form(&l.atom.with(&args, l.positive)) || is_evident(s, &l.atom, args.terms(), l.positive)
+        self.is_known(l) || self.is_evident(s, l)
     }
 
     /// Whether the two terms are different: whether their inequation holds. It takes no memory.
@@ -145,13 +161,17 @@ impl Derived {
     pub fn some_differ(&self, s: &Signature, ts: &[Term], us: &[Term]) -> bool
         ensures { result ≡ some_differ (signature_of s.now) (literals_of self.now.kf) (terms_of ts.now) (terms_of us.now) }
     {
-        match (ts, us) {
-            ([t, ts @ ..], [u, us @ ..]) => self.differ(s, t, u) || self.some_differ(s, ts, us),
-            _ => false,
+        match ts {
+            [] => false,
+            [t, ts @ ..] => match us {
+                [] => false,
+                [u, us @ ..] => self.differ(s, t, u) || self.some_differ(s, ts, us),
+            },
         }
     }
 
     /// Whether each fixed position has the normal form of its argument.
+    #[tactic(auto, unfolding(pks_terms::specs::Orders::term_eq))]
     fn fits(&self, slots: &[Option<Term>], args: &[Term]) -> bool
         ensures { result ≡ fits (literals_of self.now.kf) (map (option_map term_of) slots.now) (terms_of args.now) }
     {

@@ -113,7 +113,12 @@ impl Normals {
 
     /// The objects that the known literals give as the value of the function at the objects, in order.
     #[tactic(auto, using(crate::proofs::Lists::read), unfolding(pks_terms::specs::Databases::values_at))]
-    pub fn values_at(&self, alloc: Global, fun: FnId, at: &[ObjId]) -> Result<Vec<ObjId>, AllocError>
+    pub fn values_at(
+        &self,
+        alloc: Global,
+        fun: FnId,
+        at: &[ObjId],
+    ) -> Result<Vec<ObjId>, AllocError>
         ensures { IfOk result (λ v. map object_of v.items ≡ values_at (literals_of self.now.kf) fun.0 (map object_of at.now)) }
     {
         let mut found = Vec::new(alloc);
