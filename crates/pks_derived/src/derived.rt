@@ -106,6 +106,14 @@ impl Derived {
         &self.normals
     }
 
+    /// The same, all of whose memory is shared. The error is want of memory for one more reference.
+    pub fn share(&self) -> Result<Derived, AllocError>
+        ensures { IfOk result (λ same. five_of same ≡ five_of self.now) }
+    {
+        let normals = self.normals.share()?;
+        Ok(Derived { normals })
+    }
+
     /// Whether a known literal has this normal form.
     fn has_form(&self, form: &Literal) -> bool
         ensures { result ≡ list_any (λ k. literal_eq (normal_literal (literals_of self.now.kf) (literal_of k)) (literal_of form.now)) self.now.kf }

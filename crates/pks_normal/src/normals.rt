@@ -111,6 +111,14 @@ impl Normals {
         self.five
     }
 
+    /// The same, all of whose memory is shared. The error is want of memory for one more reference.
+    pub fn share(&self) -> Result<Normals, AllocError>
+        ensures { IfOk result (λ same. five_of same ≡ five_of self.now) }
+    {
+        let five = self.five.share()?;
+        Ok(Normals { five })
+    }
+
     /// The objects that the known literals give as the value of the function at the objects, in order.
     #[tactic(auto, using(crate::proofs::Lists::read), unfolding(pks_terms::specs::Databases::values_at))]
     pub fn values_at(
