@@ -1,0 +1,4 @@
+//! Closing of databases by rounds.
+#![tactic(auto)]
+
+pub mod steps;
