@@ -1,5 +1,5 @@
 -- Lists read through a function.
-use Rattle.std.proofs.Common.{◌≡◌, ℕ, zero, suc, List, [], ◌∷◌, map, take, Option, Some, None, refl, ap, ◌∙◌, length, arith, get_or, ◌++◌, append-nil, append_assoc}
+use Rattle.std.proofs.Common.{◌≡◌, List, [], ◌∷◌, map, Option, Some, None, refl, ap, ◌∙◌, ◌++◌, append-nil, append_assoc}
 use Rattle.std.proofs.lemmas.List.{map_push, map-set}
 use Rattle.std.proofs.Math.Seq.{take-set-lt}
 use Rattle.pks_terms.specs.Syntax.{Literal, Apply, Object}
@@ -20,13 +20,3 @@ each_push P [] y a p = (p, tt)
 each_push P (x ∷ xs) y a p = (a.0, each_push P xs y a.1 p)
 
 pub ruleset read = (all_some-map, map_same, map_push, append_assoc, append-nil, each_push, take-set-lt, map-set)
-
--- the front of two that say what two others do
-pub taken_two : {X Y Z : Type 0} (v : X → Z) (u : Y → Z) (ys : List Y) (d : Y) (a b : X) (n : ℕ) → length ys ≡ 2 → v a ≡ u (get_or ys 0 d) → v b ≡ u (get_or ys 1 d) → map v (take n (a ∷ b ∷ [])) ≡ map u (take n ys)
-taken_two v u [] d a b n h p q = absurd (omega arith)
-taken_two v u (x ∷ []) d a b n h p q = absurd (omega arith)
-taken_two v u (x ∷ y ∷ z ∷ zs) d a b n h p q = absurd (omega arith)
-taken_two v u (x ∷ y ∷ []) d a b zero h p q = refl
-taken_two v u (x ∷ y ∷ []) d a b (suc zero) h p q = λ i. p i ∷ []
-taken_two v u (x ∷ y ∷ []) d a b (suc (suc zero)) h p q = λ i. p i ∷ q i ∷ []
-taken_two v u (x ∷ y ∷ []) d a b (suc (suc (suc n))) h p q = λ i. p i ∷ q i ∷ []

@@ -199,6 +199,24 @@ fn applications(alloc: Global, d: &Derived) -> Result<SetOf<Term>, AllocError>
     Ok(set)
 }
 
+/// Puts what is added of each application of a set after the others.
+#[tactic(auto, using(crate::proofs::Lists::read))]
+fn put_each(
+    alloc: Global,
+    to: &mut Vec<Literal>,
+    s: &Signature,
+    d: &Derived,
+    set: &SetOf<Term>,
+) -> Result<(), AllocError>
+    requires { length s.now.objects ≤ 65536 }
+    ensures { OnOk result (map literal_of to.new.items ≡ map literal_of to.old.items ++ flat_map (by_range (signature_of s.now) (five_of d.now)) (terms_of set.now)) }
+{
+    for t in set.items() {
+        put_by_range(alloc, to, s, d, t)?;
+    }
+    Ok(())
+}
+
 /// Puts what is added of values that are the only ones left after the others, each application being looked at once.
 /// `docs/RULES.md` has the rule. It asks for at most 65,536 objects. The one error is want of memory.
 #[tactic(auto, using(crate::proofs::Lists::read))]
@@ -212,8 +230,6 @@ pub fn put_by_ranges(
     ensures { OnOk result (map literal_of to.new.items ≡ map literal_of to.old.items ++ flat_map (by_range (signature_of s.now) (five_of d.now)) (set_of term_cmp (occurring (literals_of d.now.kf)))) }
 {
     let set = applications(alloc, d)?;
-    for t in set.items() {
-        put_by_range(alloc, to, s, d, t)?;
-    }
+    put_each(alloc, to, s, d, &set)?;
     Ok(())
 }

@@ -3,7 +3,7 @@ use Rattle.pks_terms.specs.Syntax.{Object, Apply, Inner}
 use Rattle.pks_terms.specs.declared.ids.ObjId.{ObjId}
 use Rattle.pks_terms.specs.Views.{object_of, inner_of}
 use Rattle.pks_terms.proofs.ListLaws.{map-map}
-use Rattle.pks_closing.proofs.Lists.{taken_two}
+use Rattle.pks_terms.proofs.Fronts.{taken_two}
 use Rattle.pks_closing.proofs.ranges.applied.Goals as goal
 
 pub returns : goal.returns

@@ -2,7 +2,7 @@ use Rattle.std.proofs.Common.{◌≡◌, ◌++◌, map, flat_map}
 use Rattle.pks_terms.specs.Closure.{by_range}
 use Rattle.pks_terms.specs.Views.{literal_of, terms_of, signature_of}
 use Rattle.pks_normal.specs.Fives.{five_of}
-use Rattle.pks_closing.proofs.ranges.put_by_ranges.Given as goal
+use Rattle.pks_closing.proofs.ranges.put_each.Given as goal
 
 abbrev pub invariant-loop-t : goal.invariant-loop-t
 invariant-loop-t l =
