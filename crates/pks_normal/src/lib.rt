@@ -5,3 +5,4 @@ pub mod five;
 pub mod literals;
 pub mod normals;
 pub mod regions;
+mod table;
