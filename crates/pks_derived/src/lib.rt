@@ -2,4 +2,5 @@
 #![tactic(auto)]
 
 pub mod derived;
+mod forms;
 pub mod ranges;
