@@ -4,3 +4,5 @@
 pub mod derived;
 mod forms;
 pub mod ranges;
+#[cfg(test)]
+mod tests;

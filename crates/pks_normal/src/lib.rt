@@ -6,3 +6,5 @@ pub mod literals;
 pub mod normals;
 pub mod regions;
 mod table;
+#[cfg(test)]
+mod tests;

@@ -10,9 +10,9 @@ ghost use Rattle.pks_normal.specs.Fives.{five_of};
 ghost use Rattle.pks_normal.specs.Reading.{first_objects, first_inners};
 
 use crate::five::Five;
-use crate::table::{Table, key_of, kept, least_of, table_of};
+use crate::table::{Table, kept, key_of, least_of, table_of};
 use pks_terms::ids::{FnId, ObjId};
-use pks_terms::literal::{Arguments};
+use pks_terms::literal::Arguments;
 use pks_terms::term::{Inner, Term, front};
 use std::alloc::{AllocError, Global};
 use std::marker::Model;
