@@ -3,14 +3,16 @@ ghost use Rattle.std.specs.Prelude.{◌≡◌, ◌||◌, List, [], ◌∷◌, ma
 ghost use Rattle.std.specs.Option.{option_map};
 ghost use Rattle.std.specs.List.{list_any, list_all};
 ghost use Rattle.pks_terms.specs.Syntax.{Equality, negated};
-ghost use Rattle.pks_terms.specs.Databases.{normal, normal_literal, is_known, is_evident, is_plain, differ, some_differ, fits, is_shut_out, is_closed_off, holds};
-ghost use Rattle.pks_terms.specs.Orders.{literal_eq, inequation};
+ghost use Rattle.pks_terms.specs.Databases.{normal, is_known, is_evident, is_plain, differ, some_differ, fits, is_shut_out, is_closed_off, holds};
+ghost use Rattle.pks_terms.specs.Orders.{inequation};
 ghost use Rattle.pks_terms.specs.Views.{object_of, term_of, terms_of, literal_of, atom_of, arguments_in, places_of, relation_of, signature_of};
 ghost use Rattle.pks_kf.specs.Known.{literals_of};
 ghost use Rattle.pks_lcw.specs.Entries.{atoms_of, entry_of, entries_of};
 ghost use Rattle.pks_normal.specs.Fives.{five_of};
 
+use crate::forms::forms_of;
 use crate::ranges::is_foreign;
+use pks_kf::Kf;
 use pks_lcw::entry::Entry;
 use pks_normal::five::Five;
 use pks_normal::normals::Normals;
@@ -25,14 +27,19 @@ use std::marker::Model;
 #[derive(Drop)]
 pub struct Derived {
     normals: Normals,
+    forms: Kf,
 }
 
 impl Model for Derived {
+    ghost use Rattle.pks_kf.specs.Known.{literals_of};
     ghost use Rattle.pks_normal.specs.declared.five.Five.{Five};
+    ghost use Rattle.pks_derived.specs.Forms.{AreForms};
 
     ghost Value = { Five };
 
     ghost view = { λ d. d.normals };
+
+    ghost invariant = { λ d. AreForms (literals_of d.normals.kf) (literals_of d.forms) };
 }
 
 /// Of the normal forms of the terms of an atom: the same on both sides of an equation; or, on those of a negated one, two
@@ -82,7 +89,8 @@ impl Derived {
         ensures { IfOk result (λ d. d ≡ five) }
     {
         let normals = Normals::of(alloc, five)?;
-        Ok(Derived { normals })
+        let forms = forms_of(alloc, &normals)?;
+        Ok(Derived { normals, forms })
     }
 
     /// Lends the databases. It takes no memory.
@@ -106,39 +114,13 @@ impl Derived {
         &self.normals
     }
 
-    /// The same, all of whose memory is shared. The error is want of memory for one more reference.
-    pub fn share(&self) -> Result<Derived, AllocError>
-        ensures { IfOk result (λ same. five_of same ≡ five_of self.now) }
-    {
-        let normals = self.normals.share()?;
-        Ok(Derived { normals })
-    }
-
-    /// Whether a known literal has this normal form.
-    fn has_form(&self, form: &Literal) -> bool
-        ensures { result ≡ list_any (λ k. literal_eq (normal_literal (literals_of self.now.kf) (literal_of k)) (literal_of form.now)) self.now.kf }
-    {
-        for k in self.five().kf.items() {
-            if self.is_form_of(k, form) {
-                return true;
-            }
-        }
-        false
-    }
-
-    #[tactic(auto, unfolding(pks_terms::specs::Orders::literal_eq))]
-    fn is_form_of(&self, k: &Literal, form: &Literal) -> bool
-        ensures { result ≡ literal_eq (normal_literal (literals_of self.now.kf) (literal_of k.now)) (literal_of form.now) }
-    {
-        self.normals.normal_literal(k) == *form
-    }
-
-    /// Whether a known literal has the same normal form. It takes no memory.
-    #[tactic(auto, using(crate::proofs::Known::any_of_mapped), unfolding(pks_terms::specs::Databases::is_known))]
+    /// Whether a known literal has the same normal form. It takes no memory, and compares this form with as many as the
+    /// logarithm of the number of known literals.
+    #[tactic(auto, unfolding(pks_terms::specs::Databases::is_known))]
     pub fn is_known(&self, l: &Literal) -> bool
         ensures { result ≡ is_known (literals_of self.now.kf) (literal_of l.now) }
     {
-        self.has_form(&self.normals.normal_literal(l))
+        self.forms.has(&self.normals.normal_literal(l))
     }
 
     /// Whether the literal is evident from the normal forms of its terms.

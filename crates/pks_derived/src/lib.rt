@@ -2,4 +2,7 @@
 #![tactic(auto)]
 
 pub mod derived;
+mod forms;
 pub mod ranges;
+#[cfg(test)]
+mod tests;

@@ -1,15 +1,9 @@
 -- Words for reading values out of literals.
 use Rattle.std.specs.Prelude.{ℕ, cond, nat_lt, List, map, take, Option, Some, None}
-use Rattle.std.specs.Option.{option_and_then}
 use Rattle.pks_terms.specs.declared.ids.ObjId.{ObjId}
 use Rattle.pks_terms.specs.declared.term.Inner as inner
-use Rattle.pks_terms.specs.Syntax.{Literal, Inner}
+use Rattle.pks_terms.specs.Syntax.{Inner}
 use Rattle.pks_terms.specs.Views.{object_of, inner_of}
-use Rattle.pks_terms.specs.Databases.{told, value_if_at}
-
--- the value that the literal gives at the place, if it gives one
-abbrev pub value_by : ℕ → List ℕ → Literal → Option ℕ
-value_by f ds l = option_and_then (value_if_at f ds) (told l.relation l.arguments l.positive)
 
 -- the lower of two values, where there are two
 abbrev pub lower : Option ℕ → Option ℕ → Option ℕ

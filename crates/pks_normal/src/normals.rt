@@ -3,15 +3,16 @@ ghost use Rattle.std.specs.Prelude.{◌≡◌, ℕ, List, [], ◌∷◌, map, So
 ghost use Rattle.std.specs.Option.{option_map};
 ghost use Rattle.pks_terms.specs.Syntax.{as_object};
 ghost use Rattle.pks_terms.specs.Sets.{all_some};
-ghost use Rattle.pks_terms.specs.Databases.{values_at, least, applied, inner_normal, normal, same_objects};
-ghost use Rattle.pks_terms.specs.Views.{object_of, inner_of, term_of, literal_of, arguments_in};
+ghost use Rattle.pks_terms.specs.Databases.{values_at, least, applied, inner_normal, normal};
+ghost use Rattle.pks_terms.specs.Views.{object_of, inner_of, term_of, arguments_in};
 ghost use Rattle.pks_kf.specs.Known.{literals_of};
 ghost use Rattle.pks_normal.specs.Fives.{five_of};
-ghost use Rattle.pks_normal.specs.Reading.{value_by, lower, first_objects, first_inners};
+ghost use Rattle.pks_normal.specs.Reading.{first_objects, first_inners};
 
 use crate::five::Five;
+use crate::table::{Table, kept, key_of, least_of, table_of};
 use pks_terms::ids::{FnId, ObjId};
-use pks_terms::literal::{Arguments, Atom, Literal};
+use pks_terms::literal::Arguments;
 use pks_terms::term::{Inner, Term, front};
 use std::alloc::{AllocError, Global};
 use std::marker::Model;
@@ -20,14 +21,19 @@ use std::marker::Model;
 #[derive(Drop)]
 pub struct Normals {
     five: Five,
+    table: Table,
 }
 
 impl Model for Normals {
+    ghost use Rattle.pks_kf.specs.Known.{literals_of};
     ghost use Rattle.pks_normal.specs.declared.five.Five.{Five};
+    ghost use Rattle.pks_normal.specs.Tables.{IsTableOf};
 
     ghost Value = { Five };
 
     ghost view = { λ n. n.five };
+
+    ghost invariant = { λ n. IsTableOf (literals_of n.five.kf) n.table };
 }
 
 /// The objects that the first `n` arguments are.
@@ -48,53 +54,13 @@ fn object(t: &Inner) -> Option<ObjId>
     }
 }
 
-fn same(ds: &[ObjId], es: &[ObjId]) -> bool
-    ensures { result ≡ same_objects (map object_of ds.now) (map object_of es.now) }
-{
-    ds == es
-}
-
-/// The value that the literal gives at the place, if it gives one.
-#[tactic(auto, unfolding(pks_terms::specs::Databases::told))]
-fn value_by(l: &Literal, fun: FnId, at: &[ObjId]) -> Option<ObjId>
-    ensures { option_map object_of result ≡ value_by fun.0 (map object_of at.now) (literal_of l.now) }
-{
-    if !l.positive {
-        return None;
-    }
-    match &l.atom {
-        Atom::Eq {
-            left: Term::App { fun: f, n, args },
-            right: Term::Obj(d),
-        } => {
-            let own = objects(*n, args)?;
-            if *f == fun && same(at, front(&own, *n)) {
-                Some(*d)
-            } else {
-                None
-            }
-        }
-        _ => None,
-    }
-}
-
-/// The lower of two values, where there are two.
-fn lower(a: Option<ObjId>, b: Option<ObjId>) -> Option<ObjId>
-    ensures { option_map object_of result ≡ lower (option_map object_of a) (option_map object_of b) }
-{
-    match (a, b) {
-        (None, b) => b,
-        (a, None) => a,
-        (Some(d), Some(e)) => Some(if e.0 < d.0 { e } else { d }),
-    }
-}
-
 impl Normals {
     /// Reads the known literals of the five.
-    pub fn of(_alloc: Global, five: Five) -> Result<Normals, AllocError>
+    pub fn of(alloc: Global, five: Five) -> Result<Normals, AllocError>
         ensures { IfOk result (λ n. n ≡ five) }
     {
-        Ok(Normals { five })
+        let table = table_of(alloc, &five.kf)?;
+        Ok(Normals { five, table })
     }
 
     /// Lends the five. It takes no memory.
@@ -111,16 +77,19 @@ impl Normals {
         self.five
     }
 
-    /// The same, all of whose memory is shared. The error is want of memory for one more reference.
-    pub fn share(&self) -> Result<Normals, AllocError>
-        ensures { IfOk result (λ same. five_of same ≡ five_of self.now) }
+    /// Lends the objects that the known literals give as the value of the function at the objects, in the order of the
+    /// literals. It takes no memory, and compares the place with as many as their logarithm.
+    pub fn values(&self, fun: FnId, at: &[ObjId]) -> &[ObjId]
+        ensures { map object_of result.now ≡ values_at (literals_of self.now.kf) fun.0 (map object_of at.now) }
     {
-        let five = self.five.share()?;
-        Ok(Normals { five })
+        let table = &self.table;
+        match key_of(fun, at) {
+            Some(key) => kept(table, &key),
+            None => &[],
+        }
     }
 
-    /// The objects that the known literals give as the value of the function at the objects, in order.
-    #[tactic(auto, using(crate::proofs::Lists::read), unfolding(pks_terms::specs::Databases::values_at))]
+    /// The objects that `values` lends.
     pub fn values_at(
         &self,
         alloc: Global,
@@ -129,24 +98,15 @@ impl Normals {
     ) -> Result<Vec<ObjId>, AllocError>
         ensures { IfOk result (λ v. map object_of v.items ≡ values_at (literals_of self.now.kf) fun.0 (map object_of at.now)) }
     {
-        let mut found = Vec::new(alloc);
-        for l in self.five.kf.items() {
-            if let Some(d) = value_by(l, fun, at) {
-                found.push(d)?;
-            }
-        }
-        Ok(found)
+        let values = Vec::from_slice(alloc, self.values(fun, at))?;
+        Ok(values)
     }
 
     /// The least of them, or `None` where there is none. It takes no memory.
     pub fn least_value(&self, fun: FnId, at: &[ObjId]) -> Option<ObjId>
         ensures { option_map object_of result ≡ least (values_at (literals_of self.now.kf) fun.0 (map object_of at.now)) }
     {
-        let mut best = None;
-        for l in self.five.kf.items() {
-            best = lower(best, value_by(l, fun, at));
-        }
-        best
+        least_of(self.values(fun, at))
     }
 
     /// The normal form of an argument.
