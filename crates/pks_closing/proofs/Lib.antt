@@ -1,0 +1,7 @@
+pub mod Lists
+pub mod Replacing
+pub mod Members
+pub mod Sequences
+pub mod Alike
+pub mod LastRounds
+pub mod Truth

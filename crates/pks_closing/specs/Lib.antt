@@ -1,0 +1,4 @@
+pub mod Reading
+pub mod Possible
+pub mod Rounds
+pub mod Closing

@@ -1,0 +1,238 @@
+//! Looking up literals. `docs/RULES.md` has the rule.
+ghost use Rattle.std.specs.Prelude.{◌≡◌, ◌||◌, List, [], ◌∷◌, map, Some, None, take, IfOk};
+ghost use Rattle.std.specs.Option.{option_map};
+ghost use Rattle.std.specs.List.{list_any, list_all};
+ghost use Rattle.pks_terms.specs.Syntax.{Equality, negated};
+ghost use Rattle.pks_terms.specs.Databases.{normal, is_known, is_evident, is_plain, differ, some_differ, fits, is_shut_out, is_closed_off, holds};
+ghost use Rattle.pks_terms.specs.Orders.{inequation};
+ghost use Rattle.pks_terms.specs.Views.{object_of, term_of, terms_of, literal_of, atom_of, arguments_in, places_of, relation_of, signature_of};
+ghost use Rattle.pks_kf.specs.Known.{literals_of};
+ghost use Rattle.pks_lcw.specs.Entries.{atoms_of, entry_of, entries_of};
+ghost use Rattle.pks_normal.specs.Fives.{five_of};
+
+use crate::forms::forms_of;
+use crate::ranges::is_foreign;
+use pks_kf::Kf;
+use pks_lcw::entry::Entry;
+use pks_normal::five::Five;
+use pks_normal::normals::Normals;
+use pks_terms::ids::PredId;
+use pks_terms::literal::{Arguments, Atom, Literal, PredAtom, equation};
+use pks_terms::problem::Signature;
+use pks_terms::term::{Term, front};
+use std::alloc::{AllocError, Global};
+use std::marker::Model;
+
+/// Databases in which literals are looked up, seen as those databases.
+#[derive(Drop)]
+pub struct Derived {
+    normals: Normals,
+    forms: Kf,
+}
+
+impl Model for Derived {
+    ghost use Rattle.pks_kf.specs.Known.{literals_of};
+    ghost use Rattle.pks_normal.specs.declared.five.Five.{Five};
+    ghost use Rattle.pks_derived.specs.Forms.{AreForms};
+
+    ghost Value = { Five };
+
+    ghost view = { λ d. d.normals };
+
+    ghost invariant = { λ d. AreForms (literals_of d.normals.kf) (literals_of d.forms) };
+}
+
+/// Of the normal forms of the terms of an atom: the same on both sides of an equation; or, on those of a negated one, two
+/// different objects, or an application and an object that is not one of its result type.
+fn is_evident(s: &Signature, atom: &Atom, terms: &[Term], positive: bool) -> bool
+    ensures { result ≡ is_evident (signature_of s.now) (relation_of atom.now) (terms_of terms.now) positive }
+{
+    match atom {
+        Atom::Pred(_) => false,
+        Atom::Eq { .. } => are_evident(s, terms, positive),
+    }
+}
+
+fn are_evident(s: &Signature, terms: &[Term], positive: bool) -> bool
+    ensures { result ≡ is_evident (signature_of s.now) Equality (terms_of terms.now) positive }
+{
+    match terms {
+        [left, rest @ ..] => match rest {
+            [right, more @ ..] => match more {
+                [] => is_evident_of(s, left, right, positive),
+                [_, ..] => false,
+            },
+            [] => false,
+        },
+        [] => false,
+    }
+}
+
+#[tactic(auto, unfolding(pks_terms::specs::Orders::term_eq))]
+fn is_evident_of(s: &Signature, left: &Term, right: &Term, positive: bool) -> bool
+    ensures { result ≡ is_evident (signature_of s.now) Equality (term_of left.now ∷ term_of right.now ∷ []) positive }
+{
+    if positive {
+        return *left == *right;
+    }
+    match (left, right) {
+        (Term::Obj(d), Term::Obj(e)) => *d != *e,
+        (Term::Obj(d), Term::App { fun, .. }) => is_foreign(s, *fun, *d),
+        (Term::App { fun, .. }, Term::Obj(d)) => is_foreign(s, *fun, *d),
+        _ => false,
+    }
+}
+
+impl Derived {
+    /// Reads the databases.
+    pub fn of(alloc: Global, five: Five) -> Result<Derived, AllocError>
+        ensures { IfOk result (λ d. d ≡ five) }
+    {
+        let normals = Normals::of(alloc, five)?;
+        let forms = forms_of(alloc, &normals)?;
+        Ok(Derived { normals, forms })
+    }
+
+    /// Lends the databases. It takes no memory.
+    pub fn five(&self) -> &Five
+        ensures { result.now ≡ self.now }
+    {
+        self.normals.five()
+    }
+
+    /// Gives the databases back. It takes no memory.
+    pub fn into_five(self) -> Five
+        ensures { result ≡ self }
+    {
+        self.normals.into_five()
+    }
+
+    /// Lends what makes normal forms. It takes no memory.
+    pub fn normals(&self) -> &Normals
+        ensures { result.now ≡ self.now }
+    {
+        &self.normals
+    }
+
+    /// Whether a known literal has the same normal form. It takes no memory, and compares this form with as many as the
+    /// logarithm of the number of known literals.
+    #[tactic(auto, unfolding(pks_terms::specs::Databases::is_known))]
+    pub fn is_known(&self, l: &Literal) -> bool
+        ensures { result ≡ is_known (literals_of self.now.kf) (literal_of l.now) }
+    {
+        self.forms.has(&self.normals.normal_literal(l))
+    }
+
+    /// Whether the literal is evident from the normal forms of its terms.
+    fn is_evident(&self, s: &Signature, l: &Literal) -> bool
+        ensures { result ≡ is_evident (signature_of s.now) (literal_of l.now).relation (map (normal (literals_of self.now.kf)) (literal_of l.now).arguments) (literal_of l.now).positive }
+    {
+        let arguments = self.normals.normal_arguments(&l.atom.arguments());
+        is_evident(s, &l.atom, arguments.terms(), l.positive)
+    }
+
+    /// Whether the literal is known up to normal form, or evident from the normal forms of its terms. It takes no memory.
+    #[tactic(auto, unfolding(pks_terms::specs::Databases::is_plain))]
+    pub fn is_plain(&self, s: &Signature, l: &Literal) -> bool
+        ensures { result ≡ is_plain (signature_of s.now) (literals_of self.now.kf) (literal_of l.now) }
+    {
+        self.is_known(l) || self.is_evident(s, l)
+    }
+
+    /// Whether the two terms are different: whether their inequation holds. It takes no memory.
+    #[tactic(auto, unfolding(pks_terms::specs::Databases::differ))]
+    pub fn differ(&self, s: &Signature, t: &Term, u: &Term) -> bool
+        ensures { result ≡ differ (signature_of s.now) (literals_of self.now.kf) (term_of t.now) (term_of u.now) }
+    {
+        self.is_plain(s, &equation(t, u, false))
+    }
+
+    /// Whether the terms differ at some position. It takes no memory.
+    pub fn some_differ(&self, s: &Signature, ts: &[Term], us: &[Term]) -> bool
+        ensures { result ≡ some_differ (signature_of s.now) (literals_of self.now.kf) (terms_of ts.now) (terms_of us.now) }
+    {
+        match ts {
+            [] => false,
+            [t, ts @ ..] => match us {
+                [] => false,
+                [u, us @ ..] => self.differ(s, t, u) || self.some_differ(s, ts, us),
+            },
+        }
+    }
+
+    /// Whether each fixed position has the normal form of its argument.
+    #[tactic(auto, unfolding(pks_terms::specs::Orders::term_eq))]
+    fn fits(&self, slots: &[Option<Term>], args: &[Term]) -> bool
+        ensures { result ≡ fits (literals_of self.now.kf) (map (option_map term_of) slots.now) (terms_of args.now) }
+    {
+        match (slots, args) {
+            ([], []) => true,
+            ([None, slots @ ..], [_, args @ ..]) => self.fits(slots, args),
+            ([Some(u), slots @ ..], [t, args @ ..]) => {
+                self.normals.normal(u) == self.normals.normal(t) && self.fits(slots, args)
+            }
+            _ => false,
+        }
+    }
+
+    /// Whether each atom of the list differs from these arguments.
+    fn all_differ(&self, s: &Signature, atoms: &[PredAtom], args: &[Term]) -> bool
+        ensures { result ≡ list_all (λ a. some_differ (signature_of s.now) (literals_of self.now.kf) a.arguments (terms_of args.now)) (atoms_of atoms.now) }
+    {
+        match atoms {
+            [] => true,
+            [a, atoms @ ..] => {
+                self.some_differ(s, front(&a.args, a.n), args) && self.all_differ(s, atoms, args)
+            }
+        }
+    }
+
+    /// Whether the region tells that the predicate at these arguments is false.
+    fn is_shut_out(&self, s: &Signature, pred: PredId, args: &[Term], region: &Entry) -> bool
+        ensures { result ≡ is_shut_out (signature_of s.now) (literals_of self.now.kf) pred.0 (terms_of args.now) (entry_of region.now) }
+    {
+        region.pattern.pred == pred
+            && self.fits(front(&region.pattern.args, region.pattern.n), args)
+            && self.all_differ(s, region.list.as_slice(), args)
+    }
+
+    /// Whether some region tells that the predicate at these arguments is false.
+    fn is_outside(&self, s: &Signature, pred: PredId, args: &[Term]) -> bool
+        ensures { result ≡ list_any (is_shut_out (signature_of s.now) (literals_of self.now.kf) pred.0 (terms_of args.now)) (entries_of self.now.lcw) }
+    {
+        for region in self.five().lcw.items() {
+            if self.is_shut_out(s, pred, args, region) {
+                return true;
+            }
+        }
+        false
+    }
+
+    /// Whether the literal is the negation of an atom that some region shuts out.
+    fn is_closed_off(&self, s: &Signature, l: &Literal) -> bool
+        ensures { result ≡ is_closed_off (signature_of s.now) (five_of self.now) (literal_of l.now).relation (literal_of l.now).arguments (literal_of l.now).positive }
+    {
+        if l.positive {
+            return false;
+        }
+        match &l.atom {
+            Atom::Pred(a) => self.is_outside(s, a.pred, front(&a.args, a.n)),
+            Atom::Eq { .. } => false,
+        }
+    }
+
+    /// Whether the literal holds. It takes no memory.
+    #[tactic(auto, unfolding(pks_terms::specs::Databases::holds))]
+    pub fn holds(&self, s: &Signature, l: &Literal) -> bool
+        ensures { result ≡ holds (signature_of s.now) (five_of self.now) (literal_of l.now) }
+    {
+        self.is_plain(s, l) || self.is_closed_off(s, l)
+    }
+
+    /// Whether the negation of the literal holds: whether it is false as far as the databases tell. It takes no memory.
+    pub fn denies(&self, s: &Signature, l: &Literal) -> bool
+        ensures { result ≡ holds (signature_of s.now) (five_of self.now) (negated (literal_of l.now)) }
+    {
+        self.holds(s, &l.negated())
+    }
+}

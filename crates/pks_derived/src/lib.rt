@@ -1,0 +1,8 @@
+//! What databases tell: which literals hold.
+#![tactic(auto)]
+
+pub mod derived;
+mod forms;
+pub mod ranges;
+#[cfg(test)]
+mod tests;

@@ -1,0 +1,65 @@
+//! The objects that a term may have as its value.
+ghost use Rattle.std.specs.Prelude.{◌≡◌, ◌≤◌, List, [], ◌∷◌, map, length, IfOk};
+ghost use Rattle.pks_terms.specs.Signatures.{is_foreign, object_is_of, objects_of, range_of};
+ghost use Rattle.pks_terms.specs.Views.{object_of, term_of, signature_of};
+
+use pks_terms::ids::{FnId, ObjId, TypeId};
+use pks_terms::problem::Signature;
+use pks_terms::term::Term;
+use std::alloc::{AllocError, Global};
+
+/// Whether the object is one of the type: its own type fits it. It takes no memory.
+#[tactic(auto, unfolding(pks_terms::specs::Signatures::object_is_of))]
+pub fn object_is_of(s: &Signature, of: TypeId, d: ObjId) -> bool
+    ensures { result ≡ object_is_of (signature_of s.now) of.0 d.0 }
+{
+    match s.objects.as_slice().get(d.0 as usize) {
+        None => false,
+        Some(own) => s.fits(*own, of),
+    }
+}
+
+/// Whether the object is not one of the function's result type. It takes no memory.
+#[tactic(auto, unfolding(pks_terms::specs::Signatures::is_foreign))]
+pub fn is_foreign(s: &Signature, fun: FnId, d: ObjId) -> bool
+    ensures { result ≡ is_foreign (signature_of s.now) fun.0 d.0 }
+{
+    match s.functions.as_slice().get(fun.0 as usize) {
+        None => false,
+        Some(shape) => !object_is_of(s, shape.result, d),
+    }
+}
+
+/// The objects of the type, in order. It asks for at most 65,536 objects.
+#[tactic(auto, unfolding(pks_terms::specs::Signatures::objects_of))]
+pub fn objects_of(alloc: Global, s: &Signature, of: TypeId) -> Result<Vec<ObjId>, AllocError>
+    requires { length s.now.objects ≤ 65536 }
+    ensures { IfOk result (λ v. map object_of v.items ≡ objects_of (signature_of s.now) of.0) }
+{
+    let mut objects = Vec::new(alloc);
+    for (i, own) in s.objects.as_slice().iter().enumerate() {
+        if s.fits(*own, of) {
+            objects.push(ObjId(i as u16))?;
+        }
+    }
+    Ok(objects)
+}
+
+/// The objects that may be the value of the term, in order: itself, or those of the function's result type.
+/// It asks for at most 65,536 objects.
+pub fn range_of(alloc: Global, s: &Signature, t: &Term) -> Result<Vec<ObjId>, AllocError>
+    requires { length s.now.objects ≤ 65536 }
+    ensures { IfOk result (λ v. map object_of v.items ≡ range_of (signature_of s.now) (term_of t.now)) }
+{
+    match t {
+        Term::Obj(d) => {
+            let own = vec![in alloc; *d]?;
+            Ok(own)
+        }
+        Term::Param(_) => Ok(Vec::new(alloc)),
+        Term::App { fun, .. } => match s.functions.as_slice().get(fun.0 as usize) {
+            None => Ok(Vec::new(alloc)),
+            Some(shape) => objects_of(alloc, s, shape.result),
+        },
+    }
+}

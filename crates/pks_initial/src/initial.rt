@@ -1,0 +1,194 @@
+//! The databases of the initial items, not closed. `docs/RULES.md` has the rule on regions.
+ghost use Rattle.std.specs.Prelude.{◌≡◌, List, [], map, option_map, IfOk, OnOk};
+ghost use Rattle.std.specs.List.{filter_map};
+ghost use Rattle.pks_terms.specs.Sets.{set_of};
+ghost use Rattle.pks_terms.specs.Orders.{term_cmp, literal_cmp, conj_cmp, atom_cmp};
+ghost use Rattle.pks_terms.specs.Databases.{entry_cmp};
+ghost use Rattle.pks_terms.specs.Problems.{known_start, whether_start, value_start, group_start, region_start, atom_on, initial_entry, initial};
+ghost use Rattle.pks_terms.specs.Views.{atom_of, conj_of, literal_of, literals_in, pattern_of, term_of, terms_of, problem_of};
+ghost use Rattle.pks_kf.specs.Known.{literals_of};
+ghost use Rattle.pks_kw.specs.Formulas.{formulas_of};
+ghost use Rattle.pks_kx.specs.Groups.{groups_of};
+ghost use Rattle.pks_lcw.specs.Entries.{atoms_of, entry_of, entries_of};
+ghost use Rattle.pks_normal.specs.Fives.{five_of};
+ghost use Rattle.pks_initial.specs.Starts.{starts_of};
+
+use pks_kf::Kf;
+use pks_kv::Kv;
+use pks_kw::Kw;
+use pks_kx::Kx;
+use pks_lcw::Lcw;
+use pks_lcw::atoms::AtomSet;
+use pks_lcw::entry::Entry;
+use pks_normal::five::Five;
+use pks_terms::group::Group;
+use pks_terms::ids::PredId;
+use pks_terms::literal::{Atom, Conj, Literal, Pattern, PredAtom};
+use pks_terms::problem::{Init, InitItem, Problem};
+use pks_terms::term::Term;
+use std::alloc::{AllocError, Global};
+
+/// The known literals in written order.
+fn known_items(alloc: Global, init: &[InitItem]) -> Result<Vec<Literal>, AllocError>
+    ensures { IfOk result (λ items. map literal_of items.items ≡ filter_map known_start (starts_of init.now)) }
+{
+    let mut items = Vec::new(alloc);
+    for item in init {
+        if let Init::Kf(l) = &item.start {
+            items.push(*l)?;
+        }
+    }
+    Ok(items)
+}
+
+/// The known literals as a set.
+fn known(alloc: Global, init: &[InitItem]) -> Result<Kf, AllocError>
+    ensures { IfOk result (λ set. literals_of set ≡ set_of literal_cmp (filter_map known_start (starts_of init.now))) }
+{
+    let items = known_items(alloc, init)?;
+    let set = Kf::empty().added(alloc, items)?;
+    Ok(set)
+}
+
+/// The formulas that are known to be true or false in written order.
+fn whether_items(alloc: Global, init: &[InitItem]) -> Result<Vec<Conj>, AllocError>
+    ensures { IfOk result (λ items. map conj_of items.items ≡ filter_map whether_start (starts_of init.now)) }
+{
+    let mut items = Vec::new(alloc);
+    for item in init {
+        if let Init::Kw(c) = &item.start {
+            items.push(*c)?;
+        }
+    }
+    Ok(items)
+}
+
+/// The formulas that are known to be true or false as a set.
+fn whether(alloc: Global, init: &[InitItem]) -> Result<Kw, AllocError>
+    ensures { IfOk result (λ set. formulas_of set ≡ set_of conj_cmp (filter_map whether_start (starts_of init.now))) }
+{
+    let items = whether_items(alloc, init)?;
+    let set = Kw::empty().added(alloc, items)?;
+    Ok(set)
+}
+
+/// The terms whose values are known in written order.
+fn values_items(alloc: Global, init: &[InitItem]) -> Result<Vec<Term>, AllocError>
+    ensures { IfOk result (λ items. map term_of items.items ≡ filter_map value_start (starts_of init.now)) }
+{
+    let mut items = Vec::new(alloc);
+    for item in init {
+        if let Init::Kv(t) = &item.start {
+            items.push(*t)?;
+        }
+    }
+    Ok(items)
+}
+
+/// The terms whose values are known as a set.
+fn values(alloc: Global, init: &[InitItem]) -> Result<Kv, AllocError>
+    ensures { IfOk result (λ set. terms_of set ≡ set_of term_cmp (filter_map value_start (starts_of init.now))) }
+{
+    let items = values_items(alloc, init)?;
+    let set = Kv::empty().added(alloc, items)?;
+    Ok(set)
+}
+
+/// The exclusive groups in written order.
+fn groups_items(alloc: Global, init: &[InitItem]) -> Result<Vec<Group>, AllocError>
+    ensures { IfOk result (λ items. map literals_in items.items ≡ filter_map group_start (starts_of init.now)) }
+{
+    let mut items = Vec::new(alloc);
+    for item in init {
+        if let Init::Kx(g) = &item.start {
+            items.push(g.copied()?)?;
+        }
+    }
+    Ok(items)
+}
+
+/// The exclusive groups as a set.
+fn groups(alloc: Global, init: &[InitItem]) -> Result<Kx, AllocError>
+    ensures { IfOk result (λ set. groups_of set ≡ set_of conj_cmp (filter_map group_start (starts_of init.now))) }
+{
+    let items = groups_items(alloc, init)?;
+    let set = Kx::empty().added(alloc, items)?;
+    Ok(set)
+}
+
+/// The atom of the literal, where it is a positive one of the predicate.
+fn atom_on(pred: PredId, l: &Literal) -> Option<PredAtom>
+    ensures { option_map atom_of result ≡ atom_on pred.0 (literal_of l.now) }
+{
+    match &l.atom {
+        Atom::Pred(a) if a.pred == pred && l.positive => Some(*a),
+        Atom::Pred(_) | Atom::Eq { .. } => None,
+    }
+}
+
+/// The known atoms of the predicate.
+#[tactic(auto, using(crate::proofs::Carried::atom_inserted))]
+fn known_atoms(alloc: Global, kf: &Kf, pred: PredId) -> Result<AtomSet, AllocError>
+    ensures { IfOk result (λ set. atoms_of set ≡ set_of atom_cmp (filter_map (atom_on pred.0) (literals_of kf.now))) }
+{
+    let mut atoms = AtomSet::empty();
+    for l in kf.items() {
+        if let Some(a) = atom_on(pred, l) {
+            atoms = atoms.add(alloc, a)?;
+        }
+    }
+    Ok(atoms)
+}
+
+/// The region of the pattern, with the known atoms of its predicate.
+fn region(alloc: Global, kf: &Kf, pattern: &Pattern) -> Result<Entry, AllocError>
+    ensures { IfOk result (λ e. entry_of e ≡ initial_entry (literals_of kf.now) (pattern_of pattern.now)) }
+{
+    let list = known_atoms(alloc, kf, pattern.pred)?;
+    Ok(Entry {
+        pattern: *pattern,
+        list,
+    })
+}
+
+/// The closed regions in written order.
+fn region_items(alloc: Global, kf: &Kf, init: &[InitItem]) -> Result<Vec<Entry>, AllocError>
+    ensures { IfOk result (λ items. entries_of items.items ≡ map (initial_entry (literals_of kf.now)) (filter_map region_start (starts_of init.now))) }
+{
+    let mut items = Vec::new(alloc);
+    for item in init {
+        if let Init::Lcw(pattern) = &item.start {
+            items.push(region(alloc, kf, pattern)?)?;
+        }
+    }
+    Ok(items)
+}
+
+/// The closed regions as a set.
+fn regions(alloc: Global, kf: &Kf, init: &[InitItem]) -> Result<Lcw, AllocError>
+    ensures { IfOk result (λ set. entries_of set ≡ set_of entry_cmp (map (initial_entry (literals_of kf.now)) (filter_map region_start (starts_of init.now)))) }
+{
+    let items = region_items(alloc, kf, init)?;
+    let set = Lcw::empty().added(alloc, items)?;
+    Ok(set)
+}
+
+/// The databases of the problem's initial items, not closed. The error is want of memory.
+#[tactic(auto, unfolding(pks_terms::specs::Problems::initial))]
+pub fn initial(alloc: Global, p: &Problem) -> Result<Five, AllocError>
+    ensures { IfOk result (λ d. five_of d ≡ initial (problem_of p.now)) }
+{
+    let init = p.init.as_slice();
+    let kf = known(alloc, init)?;
+    let kw = whether(alloc, init)?;
+    let kv = values(alloc, init)?;
+    let kx = groups(alloc, init)?;
+    let lcw = regions(alloc, &kf, init)?;
+    Ok(Five {
+        kf,
+        kw,
+        kv,
+        kx,
+        lcw,
+    })
+}

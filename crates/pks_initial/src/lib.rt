@@ -1,0 +1,4 @@
+//! The databases in which a problem begins.
+#![tactic(auto)]
+
+pub mod initial;

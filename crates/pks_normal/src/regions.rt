@@ -1,0 +1,1 @@
+//! Normal forms of atoms, patterns and regions.

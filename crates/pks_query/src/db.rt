@@ -1,0 +1,107 @@
+//! Closed databases. `docs/RULES.md` has the rule on closing.
+ghost use Rattle.std.specs.Prelude.{◌≡◌, ◌≤◌, length, IfOk, IfErr};
+ghost use Rattle.pks_terms.specs.Signatures.{HasValues};
+ghost use Rattle.pks_terms.specs.Worlds.{World};
+ghost use Rattle.pks_terms.specs.Meaning.{IsTrueOf};
+ghost use Rattle.pks_terms.specs.Closure.{Closes, Next, Clash};
+ghost use Rattle.pks_terms.specs.Problems.{initial, StartAlike};
+ghost use Rattle.pks_terms.specs.Valid.{AreOf};
+ghost use Rattle.pks_terms.specs.ValidProblems.{IsValidProblem};
+ghost use Rattle.pks_terms.specs.Views.{literal_of, signature_of, problem_of};
+ghost use Rattle.pks_laws.specs.Lookup.{AreInOrder};
+ghost use Rattle.pks_laws.specs.OfSignature.{IsMomentOf};
+ghost use Rattle.pks_normal.specs.Fives.{five_of};
+ghost use Rattle.pks_closing.specs.Closing.{IfClash};
+ghost use Rattle.pks_query.specs.Closed.{AreClosed};
+
+use pks_closing::closing::{CloseEnd, close};
+use pks_derived::derived::Derived;
+use pks_initial::initial::initial;
+use pks_normal::five::Five;
+use pks_terms::literal::Literal;
+use pks_terms::problem::{Problem, Signature};
+use std::alloc::{AllocError, Global};
+use std::marker::Model;
+
+/// Closed databases without a clash, seen as those databases. They do not keep the signature by which they are closed.
+#[derive(Drop)]
+pub struct Db {
+    derived: Derived,
+}
+
+impl Model for Db {
+    ghost use Rattle.pks_normal.specs.declared.five.Five.{Five};
+    ghost use Rattle.pks_normal.specs.Fives.{five_of};
+    ghost use Rattle.pks_query.specs.Closed.{AreClosed};
+
+    ghost Value = { Five };
+
+    ghost view = { λ d. d.derived };
+
+    ghost invariant = { λ d. AreClosed (five_of d.derived) };
+}
+
+/// What a step makes of databases: the next ones, or the least literal that is derived false.
+#[derive(Drop)]
+pub enum Step {
+    /// The closed databases.
+    Next(Db),
+    /// The least literal that is derived false.
+    Clash(Literal),
+}
+
+impl Db {
+    /// The databases that the five become by closing. It asks for at most 65,536 objects, and for an object of each
+    /// function's result type. The error is the least literal that is derived false, or want of memory.
+    pub fn close(alloc: Global, s: &Signature, five: Five) -> Result<Db, CloseEnd>
+        requires few { length s.now.objects ≤ 65536 }
+        requires values { HasValues (signature_of s.now) }
+        ensures closes { IfOk result (λ db. Closes (signature_of s.now) (five_of five) (Next (five_of db))) }
+        ensures clashes { IfErr result (IfClash (λ l. Closes (signature_of s.now) (five_of five) (Clash (literal_of l)))) }
+        ensures moment { AreOf (signature_of s.now) (five_of five) → AreInOrder (five_of five) → IfOk result (λ db. IsMomentOf (signature_of s.now) (five_of db)) }
+        ensures keeps_truth { (w w' : World) → IsTrueOf (signature_of s.now) w w' (five_of five) → IfOk result (λ db. IsTrueOf (signature_of s.now) w w' (five_of db)) }
+        ensures no_clash { (w w' : World) → IsTrueOf (signature_of s.now) w w' (five_of five) → IfErr result (IfClash (λ l. ⊥)) }
+    {
+        match close(alloc, s, five) {
+            Ok(derived) => Ok(Db { derived }),
+            Err(end) => Err(end),
+        }
+    }
+
+    /// The databases that the problem's initial items become by closing. It asks for a valid problem. The error is the
+    /// least literal that is derived false, or want of memory.
+    pub fn first(alloc: Global, p: &Problem) -> Result<Db, CloseEnd>
+        requires { IsValidProblem p.now }
+        ensures closes { IfOk result (λ db. Closes (problem_of p.now).signature (initial (problem_of p.now)) (Next (five_of db))) }
+        ensures clashes { IfErr result (IfClash (λ l. Closes (problem_of p.now).signature (initial (problem_of p.now)) (Clash (literal_of l)))) }
+        ensures moment { IfOk result (λ db. IsMomentOf (problem_of p.now).signature (five_of db)) }
+        ensures keeps_truth { (w w' : World) → StartAlike (problem_of p.now) w w' → IfOk result (λ db. IsTrueOf (problem_of p.now).signature w w' (five_of db)) }
+        ensures no_clash { (w w' : World) → StartAlike (problem_of p.now) w w' → IfErr result (IfClash (λ l. ⊥)) }
+    {
+        let five = initial(alloc, p)?;
+        Db::close(alloc, &p.signature, five)
+    }
+
+    /// Lends the five. It takes no memory.
+    pub fn parts(&self) -> &Five
+        ensures lent { result.now ≡ self.now }
+        ensures closed { AreClosed (five_of self.now) }
+    {
+        self.derived.five()
+    }
+
+    /// Lends what looks literals up. It takes no memory.
+    pub fn derived(&self) -> &Derived
+        ensures { result.now ≡ self.now }
+    {
+        &self.derived
+    }
+
+    /// Equal databases, all of whose memory is shared. The error is want of memory for one more reference.
+    pub fn share(&self) -> Result<Db, AllocError>
+        ensures { IfOk result (λ same. five_of same ≡ five_of self.now) }
+    {
+        let derived = self.derived.share()?;
+        Ok(Db { derived })
+    }
+}

@@ -1,0 +1,5 @@
+//! Closed databases, and asking them.
+#![tactic(auto)]
+
+pub mod asking;
+pub mod db;
