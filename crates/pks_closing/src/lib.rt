@@ -8,3 +8,6 @@ pub mod ranges;
 pub mod rounds;
 pub mod steps;
 pub mod tidied;
+
+#[cfg(test)]
+mod tests;
