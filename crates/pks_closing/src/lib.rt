@@ -7,7 +7,6 @@ pub mod groups;
 pub mod ranges;
 pub mod rounds;
 pub mod steps;
-pub mod tidied;
-
 #[cfg(test)]
 mod tests;
+pub mod tidied;

@@ -57,13 +57,19 @@ fn signature(alloc: Global) -> Result<Signature, AllocError>
     })
 }
 
-/// Databases that know these literals, of these groups.
-fn five(alloc: Global, known: &[Literal], groups: &[&[Literal]]) -> Result<Five, AllocError> {
-    let kf = Kf::empty().added(alloc, Vec::from_slice(alloc, known)?)?;
+/// The set of these groups.
+fn exclusive(alloc: Global, groups: &[&[Literal]]) -> Result<Kx, AllocError> {
     let mut kx = Kx::empty();
     for group in groups {
         kx = kx.add(alloc, Group::of(alloc, group)?)?;
     }
+    Ok(kx)
+}
+
+/// Databases that know these literals, of these groups.
+fn five(alloc: Global, known: &[Literal], groups: &[&[Literal]]) -> Result<Five, AllocError> {
+    let kf = Kf::empty().added(alloc, Vec::from_slice(alloc, known)?)?;
+    let kx = exclusive(alloc, groups)?;
     Ok(Five {
         kf,
         kw: Kw::empty(),

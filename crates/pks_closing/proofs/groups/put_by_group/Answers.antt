@@ -15,7 +15,7 @@ loop-i-init c = ap (λ ps. map literal_of c.args.to.now.items ++ flat_map (by_me
 pub loop-i-preserved : goal.loop-i-preserved
 loop-i-preserved c =
     let g = c.args.g.now in
-        let split : drop c.loop-i.i (map literal_of g) ≡ literal_of c.in-Some.l.now ∷ map literal_of c.in-Some.after.now =
+    let split : drop c.loop-i.i (map literal_of g) ≡ literal_of c.in-Some.l.now ∷ map literal_of c.in-Some.after.now =
     drop-map literal_of c.loop-i.i g ∙ ap (map literal_of) (sym c.split_at.ensures.back ∙ c.in-Some.ensures.cases.0) in
     let before : map literal_of c.split_at.result.0.now ≡ take c.loop-i.i (map literal_of g) = ap (map literal_of) c.split_at.ensures.front ∙ sym (take-map literal_of c.loop-i.i g) in
     let more = others_from-split (map literal_of g) c.loop-i.i (literal_of c.in-Some.l.now) (map literal_of c.in-Some.after.now) split in
