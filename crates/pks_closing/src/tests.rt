@@ -57,18 +57,23 @@ fn signature(alloc: Global) -> Result<Signature, AllocError>
     })
 }
 
-/// The set of these groups.
-fn exclusive(alloc: Global, groups: &[&[Literal]]) -> Result<Kx, AllocError> {
-    let mut kx = Kx::empty();
-    for group in groups {
-        kx = kx.add(alloc, Group::of(alloc, group)?)?;
+fn literals(alloc: Global, items: &[Literal]) -> Result<Kf, AllocError> {
+    let all = Vec::from_slice(alloc, items)?;
+    Kf::empty().added(alloc, all)
+}
+
+fn exclusive(alloc: Global, items: &[&[Literal]]) -> Result<Kx, AllocError> {
+    let mut all = Vec::new(alloc);
+    for item in items {
+        let group = Group::of(alloc, item)?;
+        all.push(group)?;
     }
-    Ok(kx)
+    Kx::empty().added(alloc, all)
 }
 
 /// Databases that know these literals, of these groups.
 fn five(alloc: Global, known: &[Literal], groups: &[&[Literal]]) -> Result<Five, AllocError> {
-    let kf = Kf::empty().added(alloc, Vec::from_slice(alloc, known)?)?;
+    let kf = literals(alloc, known)?;
     let kx = exclusive(alloc, groups)?;
     Ok(Five {
         kf,

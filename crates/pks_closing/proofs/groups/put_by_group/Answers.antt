@@ -1,9 +1,7 @@
-use Rattle.std.proofs.Common.{◌≡◌, ◌∙◌, ◌++◌, ◌+◌, ◌∷◌, map, take, drop, flat_map, sym, ap, append_assoc}
+use Rattle.std.proofs.Common.{◌≡◌, ◌∙◌, ◌++◌, ◌∷◌, map, take, drop, flat_map, sym, ap, append_assoc}
 use Rattle.std.specs.List.{take-map}
-use Rattle.std.proofs.lemmas.List.{map_push}
 use Rattle.pks_terms.specs.Closure.{by_group, by_member}
 use Rattle.pks_terms.specs.Views.{literal_of, signature_of}
-use Rattle.pks_closing.specs.Reading.{others_from}
 use Rattle.pks_normal.specs.Fives.{five_of}
 use Rattle.pks_closing.proofs.Members.{others_from-start, others_from-split, drop-map}
 use Rattle.pks_closing.proofs.groups.put_by_group.Goals as goal
