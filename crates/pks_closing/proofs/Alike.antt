@@ -1,10 +1,10 @@
 -- Lists with the same members give the same set.
-use Rattle.std.proofs.Common.{◌≡◌, List, [], ◌++◌, flat_map, Ordering, inl, inr, ⊎_elim, append-nil, sym, ap, ◌∙◌}
+use Rattle.std.proofs.Common.{◌≡◌, List, ◌++◌, flat_map, Ordering, inl, inr, ⊎_elim, ap, ◌∙◌}
 use Rattle.std.specs.Cmp.{IsTotalOrder}
 use Rattle.std.specs.FinMap.{IsAntisymmetric}
-use Rattle.pks_terms.specs.Sets.{IsIn, IsOrdered, added, set_of}
+use Rattle.pks_terms.specs.Sets.{IsOrdered, added, set_of}
 use Rattle.pks_terms.specs.Syntax.{Literal}
-use Rattle.pks_terms.specs.Orders.{term_cmp, literal_cmp}
+use Rattle.pks_terms.specs.Orders.{literal_cmp}
 use Rattle.pks_terms.specs.Totality.{term_cmp_total, literal_cmp_total}
 use Rattle.pks_terms.specs.Signatures.{Signature}
 use Rattle.pks_terms.specs.Databases.{Five}
@@ -14,7 +14,6 @@ use Rattle.pks_terms.proofs.ListLaws.{in_flat_mapped}
 use Rattle.pks_terms.proofs.OrderLaws.{term_cmp_tells, literal_cmp_tells}
 use Rattle.pks_terms.proofs.SetLaws.{ordered_added, in_added, added_in, in_set_of, set_of_in, same_members}
 use Rattle.pks_laws.proofs.Least.{in_flat, within_append}
-use Rattle.pks_closing.specs.Reading.{occurring}
 use Rattle.pks_closing.specs.Rounds.{HaveSameMembers, added_once}
 
 module _ {X : Type 0} {cmp : X → X → Ordering} (o : IsTotalOrder cmp) (tells : IsAntisymmetric cmp) where

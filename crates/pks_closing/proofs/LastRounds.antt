@@ -3,7 +3,6 @@ use Rattle.std.proofs.Common.{◌≡◌, ◌≤◌, List, length, None, Some, re
 use Rattle.std.proofs.lemmas.List.{length-map}
 use Rattle.pks_terms.specs.declared.literal.Literal.{Literal as DLiteral}
 use Rattle.pks_terms.specs.Syntax.{Literal}
-use Rattle.pks_terms.specs.Sets.{added}
 use Rattle.pks_terms.specs.Orders.{literal_cmp}
 use Rattle.pks_terms.specs.Signatures.{Signature}
 use Rattle.pks_terms.specs.Databases.{Five}

@@ -2,10 +2,7 @@
 use Rattle.std.proofs.Common.{◌≡◌, List, [], ◌∷◌, map, Option, Some, None, refl, ap, ◌∙◌, ◌++◌, append-nil, append_assoc}
 use Rattle.std.proofs.lemmas.List.{map_push, map-set}
 use Rattle.std.proofs.Math.Seq.{take-set-lt}
-use Rattle.pks_terms.specs.Syntax.{Literal, Apply, Object}
-use Rattle.pks_terms.specs.Sets.{all_some, one_replaced, Each}
-use Rattle.pks_terms.specs.Closure.{inner_steps}
-use Rattle.pks_terms.specs.Databases.{values_at}
+use Rattle.pks_terms.specs.Sets.{all_some, Each}
 
 pub all_some-map : {X : Type 0} (xs : List X) → all_some (map Some xs) ≡ Some xs
 all_some-map [] = refl

@@ -1,5 +1,5 @@
 -- Literals put in one after another.
-use Rattle.std.proofs.Common.{◌≡◌, suc, cond, List, [], ◌∷◌, ◌++◌, map, take, drop, refl, ap, Ordering, Less, Equal, Greater}
+use Rattle.std.proofs.Common.{◌≡◌, suc, cond, List, [], ◌∷◌, ◌++◌, take, drop, refl, ap, Less, Equal, Greater}
 use Rattle.std.specs.Ordering.{is_gt}
 use Rattle.pks_terms.specs.declared.literal.Literal.{Literal as DLiteral}
 use Rattle.pks_terms.specs.Syntax.{Literal}

@@ -1,5 +1,5 @@
 -- What the laws say of the end of closing.
-use Rattle.std.proofs.Common.{◌≡◌, Bool, true, false, sym, ap, ◌∙◌, subst, true≢false}
+use Rattle.std.proofs.Common.{Bool, true, false, sym, ap, subst, true≢false}
 use Rattle.pks_terms.specs.Syntax.{Literal}
 use Rattle.pks_terms.specs.Signatures.{Signature}
 use Rattle.pks_terms.specs.Worlds.{World}

@@ -36,7 +36,13 @@ impl Remaining {
     {
         match self {
             Remaining::Nothing => Remaining::One(o),
-            Remaining::One(x) => { if o == x { Remaining::One(x) } else { Remaining::More } }
+            Remaining::One(x) => {
+                if o == x {
+                    Remaining::One(x)
+                } else {
+                    Remaining::More
+                }
+            }
             Remaining::More => Remaining::More,
         }
     }
