@@ -4,9 +4,8 @@ use Rattle.std.specs.Cmp.Lexicographic.{pointwise}
 use Rattle.std.specs.List.{list_any, list_all}
 use Rattle.std.proofs.lemmas.List.{map_push, map-set}
 use Rattle.std.proofs.Math.Seq.{take-set-lt}
-use Rattle.pks_terms.specs.Syntax.{Literal, Apply, Object}
 use Rattle.pks_terms.specs.Sets.{all_some, one_replaced, Each}
-use Rattle.pks_terms.specs.Databases.{same_objects, values_at}
+use Rattle.pks_terms.specs.Databases.{same_objects}
 
 pub same_objects-map : {X : Type 0} (v : X → ℕ) (xs ys : List X) → pointwise (λ x y. v x == v y) xs ys ≡ same_objects (map v xs) (map v ys)
 same_objects-map v [] [] = refl

@@ -22,11 +22,12 @@ use pks_terms::literal::Literal;
 use pks_terms::problem::{Problem, Signature};
 use std::alloc::{AllocError, Global};
 use std::marker::Model;
+use std::rc::Rc;
 
 /// Closed databases without a clash, seen as those databases. They do not keep the signature by which they are closed.
 #[derive(Drop)]
 pub struct Db {
-    derived: Derived,
+    derived: Rc<Derived>,
 }
 
 impl Model for Db {
@@ -36,9 +37,9 @@ impl Model for Db {
 
     ghost Value = { Five };
 
-    ghost view = { λ d. d.derived };
+    ghost view = { λ d. d.derived.value };
 
-    ghost invariant = { λ d. AreClosed (five_of d.derived) };
+    ghost invariant = { λ d. AreClosed (five_of d.derived.value) };
 }
 
 /// What a step makes of databases: the next ones, or the least literal that is derived false.
@@ -63,7 +64,10 @@ impl Db {
         ensures no_clash { (w w' : World) → IsTrueOf (signature_of s.now) w w' (five_of five) → IfErr result (IfClash (λ l. ⊥)) }
     {
         match close(alloc, s, five) {
-            Ok(derived) => Ok(Db { derived }),
+            Ok(derived) => {
+                let derived = Rc::new(alloc, derived)?;
+                Ok(Db { derived })
+            }
             Err(end) => Err(end),
         }
     }
@@ -99,9 +103,9 @@ impl Db {
 
     /// Equal databases, all of whose memory is shared. The error is want of memory for one more reference.
     pub fn share(&self) -> Result<Db, AllocError>
-        ensures { IfOk result (λ same. five_of same ≡ five_of self.now) }
+        ensures { IfOk result (λ same. same ≡ self.now) }
     {
-        let derived = self.derived.share()?;
+        let derived = self.derived.clone()?;
         Ok(Db { derived })
     }
 }

@@ -1,7 +1,4 @@
-use Rattle.std.proofs.Common.{sym, ap, ◌∙◌}
-use Rattle.std.specs.Option.{option_map}
 use Rattle.pks_terms.specs.Views.{literal_of}
-use Rattle.pks_normal.specs.Tables.{told_of}
 use Rattle.pks_normal.proofs.TableLaws.{adds_none, short_none, adds_one, short_one}
 use Rattle.pks_normal.proofs.table.add.Goals as goal
 

@@ -1,7 +1,5 @@
-use Rattle.std.proofs.Common.{◌≡◌, map, ap, ◌∙◌, rules}
+use Rattle.std.proofs.Common.{map, ◌∙◌}
 use Rattle.pks_terms.specs.Views.{object_of}
-use Rattle.pks_terms.specs.Databases.{values_at}
-use Rattle.pks_kf.specs.Known.{literals_of}
 use Rattle.pks_normal.proofs.TableLaws.{at_key}
 use Rattle.pks_normal.proofs.normals.Normals.values.Goals as goal
 
