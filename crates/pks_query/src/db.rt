@@ -51,6 +51,14 @@ pub enum Step {
     Clash(Literal),
 }
 
+// Databases behind a count of references.
+fn shared(alloc: Global, derived: Derived) -> Result<Rc<Derived>, AllocError>
+    ensures { IfOk result (λ rc. rc.value ≡ derived) }
+{
+    let rc = Rc::new(alloc, derived)?;
+    Ok(rc)
+}
+
 impl Db {
     /// The databases that the five become by closing. It asks for at most 65,536 objects, and for an object of each
     /// function's result type. The error is the least literal that is derived false, or want of memory.
@@ -65,7 +73,7 @@ impl Db {
     {
         match close(alloc, s, five) {
             Ok(derived) => {
-                let derived = Rc::new(alloc, derived)?;
+                let derived = shared(alloc, derived)?;
                 Ok(Db { derived })
             }
             Err(end) => Err(end),
