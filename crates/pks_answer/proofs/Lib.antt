@@ -1,0 +1,4 @@
+pub mod Aiming
+pub mod Planned
+pub mod OneReply
+pub mod Found

@@ -1,0 +1,137 @@
+-- A job about a file has one reply, and what is done is good.
+use Rattle.std.proofs.Common.{◌≡◌, ◌≤◌, ℕ, List, [], ◌∷◌, ◌++◌, Option, Some, None, inl, inr, ◌⊎◌, refl, sym, ◌∙◌, ap, subst, codes, decimal}
+use Rattle.std.proofs.lemmas.Option.{none-some, same_Some}
+use Rattle.pks_terms.specs.Worlds.{World}
+use Rattle.pks_terms.specs.Problems.{Problem}
+use Rattle.pks_terms.specs.Valid.{IsValid}
+use Rattle.pks_terms.specs.Trees.{Tree, depth, IsPlan, IsBest}
+use Rattle.pks_terms.specs.Knowledge.{run_of}
+use Rattle.pks_terms.specs.Jobs.{Job, Check, Plan, Exec, Bench, depth_for}
+use Rattle.pks_terms.specs.Printed.{Text, Refusal, name_in, none_text, refusal_text, tree_text, run_text}
+use Rattle.pks_terms.specs.Answers.{Stated, NoWorld, BadWorld, GivenWorld, File, refusal, unjustified, RefusesAdd, RefusesStart, RefusesWorld, RefusesRun, RefusesFor, NoneApplies, RefusesFile, IsDone}
+use Rattle.pks_laws.proofs.BestTree.{best_one}
+use Rattle.pks_laws.proofs.Accepting.{best_good}
+use Rattle.pks_exec.proofs.Breaking.{one_broken}
+use Rattle.pks_file.specs.Inputs.{Reads}
+use Rattle.pks_answer.specs.declared.reply.Verdict.{Verdict}
+use Rattle.pks_answer.specs.declared.reply.Verdict.TheVariants.{Done, NoPlan, Refused}
+use Rattle.pks_answer.specs.Goodness.{PrintsGoodPlan}
+use Rattle.pks_answer.specs.Replies.{IsPostponed, IsReply}
+
+-- ---- one refusal
+
+-- the refusal of an add
+abbrev pub add_refusal : File → ℕ × ℕ → Refusal
+add_refusal f x = refusal (f.add_at x.0 x.1) 260 (codes " action " ++ (name_in f.names.actions x.0 ++ (codes " effect " ++ decimal x.1)))
+
+same_first : (x y : ℕ × ℕ) (xs ys : List (ℕ × ℕ)) → x ∷ xs ≡ y ∷ ys → x ≡ y
+same_first x y xs ys e = cc
+
+one_add : (f : File) (r q : Refusal) → RefusesAdd f r → RefusesAdd f q → r ≡ q
+one_add f r q a b = a.4 ∙ ap (add_refusal f) (same_first (a.0, a.1) (b.0, b.1) a.2 b.2 (sym a.3 ∙ b.3)) ∙ sym b.4
+
+one_world : (f : File) (w : Stated) (r q : Refusal) → RefusesWorld f w r → RefusesWorld f w q → r ≡ q
+one_world f NoWorld r q a b = absurd a
+one_world f (BadWorld at code) r q a b = a ∙ sym b
+one_world f (GivenWorld w) r q a b = absurd a
+
+one_run : (f : File) (w : Stated) (r q : Refusal) → RefusesRun f w r → RefusesRun f w q → r ≡ q
+one_run f NoWorld r q a b = a ∙ sym b
+one_run f (BadWorld at code) r q a b = absurd a
+one_run f (GivenWorld w) r q a b =
+    a.2 ∙ ap (λ (n : ℕ). refusal f.world_at 311 (codes " item " ++ decimal n)) (one_broken f.problem w f.problem.init 1 a.0 b.0 a.1 b.1) ∙ sym b.2
+
+world_or_run : (f : File) (w : Stated) (r q : Refusal) → RefusesWorld f w r → RefusesRun f w q → ⊥
+world_or_run f NoWorld r q a b = a
+world_or_run f (BadWorld at code) r q a b = b
+world_or_run f (GivenWorld w) r q a b = a
+
+one_for : (j : Job) (f : File) (r q : Refusal) → RefusesFor j f r → RefusesFor j f q → r ≡ q
+one_for Check f r q a b = one_world f f.world r q a b
+one_for (Plan n) f r q a b = one_world f f.world r q a b
+one_for (Exec n) f r q (inl a) (inl b) = one_world f f.world r q a b
+one_for (Exec n) f r q (inl a) (inr b) = absurd (world_or_run f f.world r q a b)
+one_for (Exec n) f r q (inr a) (inl b) = absurd (world_or_run f f.world q r b a)
+one_for (Exec n) f r q (inr a) (inr b) = one_run f f.world r q a b
+one_for (Bench n) f r q a b = absurd a
+
+abbrev RefusesLater : Job → File → Refusal → Type 0
+RefusesLater j f r = RefusesStart f r ⊎ (NoneApplies (RefusesStart f) × RefusesFor j f r)
+
+one_later : (j : Job) (f : File) (r q : Refusal) → RefusesLater j f r → RefusesLater j f q → r ≡ q
+one_later j f r q (inl a) (inl b) = a.2 ∙ sym b.2
+one_later j f r q (inl a) (inr b) = absurd (b.0 r a)
+one_later j f r q (inr a) (inl b) = absurd (a.0 q b)
+one_later j f r q (inr a) (inr b) = one_for j f r q a.1 b.1
+
+one_refusal : (j : Job) (f : File) (r q : Refusal) → RefusesFile j f r → RefusesFile j f q → r ≡ q
+one_refusal j f r q (inl a) (inl b) = one_add f r q a b
+one_refusal j f r q (inl a) (inr b) = absurd (b.0 r a)
+one_refusal j f r q (inr a) (inl b) = absurd (a.0 q b)
+one_refusal j f r q (inr a) (inr b) = one_later j f r q a.1 b.1
+
+-- ---- one reply
+
+one_best : (p : Problem) (n : ℕ) (t u : Option Tree) → IsBest p n t → IsBest p n u → t ≡ u
+one_best p n t u a b = best_one p (λ t. IsPlan p t × (depth t ≤ n)) t u a b
+
+one_tree : (p : Problem) (n : ℕ) (t u : Tree) → IsBest p n (Some t) → IsBest p n (Some u) → t ≡ u
+one_tree p n t u a b = same_Some t u (one_best p n (Some t) (Some u) a b)
+
+none_or_tree : (p : Problem) (n m : ℕ) (t : Tree) → Some m ≡ Some n → IsBest p n None → IsBest p m (Some t) → ⊥
+none_or_tree p n m t e a b = none-some t (one_best p n None (Some t) a (subst (λ k. IsBest p k (Some t)) (same_Some m n e) b))
+
+none_or_done : (j : Job) (f : File) (n : ℕ) (y : Text) → (IsPostponed j f → ⊥) → depth_for j ≡ Some n → IsBest f.problem n None → IsDone Reads j f y → ⊥
+none_or_done Check f n y post e a b = none-some n e
+none_or_done (Plan m) f n y post e a b = none_or_tree f.problem n m b.0 e a b.1
+none_or_done (Exec m) f n y post e a b = none_or_tree f.problem n m b.0 e a b.1
+none_or_done (Bench m) f n y post e a b = post tt
+
+same_world : (w v : World) → GivenWorld w ≡ GivenWorld v → w ≡ v
+same_world w v e = cc
+
+one_done : (j : Job) (f : File) (x y : Text) → (IsPostponed j f → ⊥) → IsDone Reads j f x → IsDone Reads j f y → x ≡ y
+one_done Check f x y post a b = a ∙ sym b
+one_done (Plan n) f x y post a b = a.2 ∙ ap (tree_text f.names) (one_tree f.problem n a.0 b.0 a.1 b.1) ∙ sym b.2
+one_done (Exec n) f x y post a b =
+    let trees : a.0 ≡ b.0 = one_tree f.problem n a.0 b.0 a.1 b.1 in
+    let worlds : a.2.0 ≡ b.2.0 = same_world a.2.0 b.2.0 (sym a.2.1 ∙ b.2.1) in
+    a.2.2 ∙ (λ i. run_text f.names (run_of f.problem (trees i) (worlds i))) ∙ sym b.2.2
+one_done (Bench n) f x y post a b = absurd (post tt)
+
+pub one_reply : (j : Job) (f : File) (v u : Verdict) (x y : Text) → IsReply j f v x → IsReply j f u y → (v ≡ u) × (x ≡ y)
+one_reply j f Refused Refused x y (inl a) (inl b) = (refl, a.2 ∙ ap refusal_text (one_refusal j f a.0 b.0 a.1 b.1) ∙ sym b.2)
+one_reply j f Refused Refused x y (inl a) (inr b) = absurd (b.0 a.0 a.1)
+one_reply j f Refused Refused x y (inr a) (inl b) = absurd (a.0 b.0 b.1)
+one_reply j f Refused Refused x y (inr a) (inr b) = (refl, a.2 ∙ sym b.2)
+one_reply j f Refused NoPlan x y (inl a) b = absurd (b.0 a.0 a.1)
+one_reply j f Refused NoPlan x y (inr a) b = absurd (b.1 a.1)
+one_reply j f Refused Done x y (inl a) b = absurd (b.0 a.0 a.1)
+one_reply j f Refused Done x y (inr a) b = absurd (b.1 a.1)
+one_reply j f NoPlan Refused x y a (inl b) = absurd (a.0 b.0 b.1)
+one_reply j f NoPlan Refused x y a (inr b) = absurd (a.1 b.1)
+one_reply j f NoPlan NoPlan x y a b = (refl, a.2.3 ∙ ap none_text (same_Some a.2.0 b.2.0 (sym a.2.1 ∙ b.2.1)) ∙ sym b.2.3)
+one_reply j f NoPlan Done x y a b = absurd (none_or_done j f a.2.0 y a.1 a.2.1 a.2.2 b.2)
+one_reply j f Done Refused x y a (inl b) = absurd (a.0 b.0 b.1)
+one_reply j f Done Refused x y a (inr b) = absurd (a.1 b.1)
+one_reply j f Done NoPlan x y a b = absurd (none_or_done j f b.2.0 x b.1 b.2.1 b.2.2 a.2)
+one_reply j f Done Done x y a b = (refl, one_done j f x y a.1 a.2 b.2)
+
+-- ---- good plans
+
+no_first : (xs : List (ℕ × ℕ)) → ((x : ℕ × ℕ) (rest : List (ℕ × ℕ)) → xs ≡ x ∷ rest → ⊥) → xs ≡ []
+no_first [] h = refl
+no_first (x ∷ xs) h = absurd (h x xs refl)
+
+all_justified : (j : Job) (f : File) → NoneApplies (RefusesFile j f) → unjustified f.problem ≡ []
+all_justified j f none = no_first (unjustified f.problem) (λ x rest e. none (add_refusal f x) (inl (x.0, x.1, rest, e, refl)))
+
+pub good_reply : (j : Job) (f : File) (x : Text) → IsValid f.problem → IsReply j f Done x → PrintsGoodPlan j f x
+good_reply Check f x valid a = tt
+good_reply (Plan n) f x valid a =
+    let justified = all_justified (Plan n) f a.0 in
+    (a.2.0, a.2.1, a.2.2, λ w fits. best_good f.problem n a.2.0 w justified valid a.2.1 fits)
+good_reply (Exec n) f x valid a =
+    let justified = all_justified (Exec n) f a.0 in
+    (a.2.0, a.2.1, a.2.2, λ w fits. best_good f.problem n a.2.0 w justified valid a.2.1 fits)
+good_reply (Bench n) f x valid a = absurd (a.1 tt)

@@ -1,0 +1,4 @@
+pub mod Once
+mod Answered
+mod Lows
+mod Stating

@@ -1,0 +1,39 @@
+-- Files that were read, and places, as they lie in memory.
+use Rattle.std.specs.Prelude.{◌≡◌, ◌≤◌, ℕ, map, length, Option, Some, None}
+use Rattle.pks_terms.specs.Answers.{Place, Stated, NoWorld, BadWorld, GivenWorld, File}
+use Rattle.pks_terms.specs.Views.{signature_of, problem_of}
+use Rattle.pks_terms.specs.ValidProblems.{IsValidProblem}
+use Rattle.pks_text.specs.FormViews.{form_view}
+use Rattle.pks_meaning.specs.Scopes.{signature_in}
+use Rattle.pks_stated.specs.Spans.{named_of}
+use Rattle.pks_world.specs.Contents.{world_of}
+use Rattle.pks_world.specs.declared.world.World.{World}
+use Rattle.pks_facts.specs.Stated.{declared_by}
+use Rattle.pks_facts.specs.declared.read.WorldEnd.{WorldEnd}
+use Rattle.pks_facts.specs.declared.read.WorldEnd.TheVariants.{Refused, Memory}
+use Rattle.pks_file.specs.declared.input.InputFile.{InputFile}
+use Rattle.pks_file.specs.Inputs.{line_and_column, file_in}
+
+-- what the file states
+abbrev pub file_of : InputFile → File
+file_of f = file_in f.source.now (map form_view f.forms.top.items) (problem_of f.problem) (named_of f.problem)
+
+-- the text isn't too long, and its forms state the problem, which is valid
+pub record IsWhole (f : InputFile) : Type 0 where
+  pub short : length f.source.now ≤ 262144
+  pub valid : IsValidProblem f.problem
+  pub declared : signature_of f.problem.signature ≡ signature_in (declared_by (map form_view f.forms.top.items))
+
+-- a line and a column
+abbrev pub place_at : ℕ × ℕ → Place
+place_at p = record { line = p.0; column = p.1 }
+
+-- the world, or that there is none
+abbrev pub stated_as : Option World → Stated
+stated_as None = NoWorld
+stated_as (Some w) = GivenWorld (world_of w)
+
+-- the file's world has this fault, or memory was wanting
+abbrev pub IsBadWorld : InputFile → WorldEnd → Type 0
+IsBadWorld f (Refused fault) = (file_of f).world ≡ BadWorld (line_and_column f.source.now fault.at) fault.code
+IsBadWorld f Memory = Unit {0}

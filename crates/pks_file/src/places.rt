@@ -1,0 +1,102 @@
+//! Places in an input, as refusals name them.
+ghost use Rattle.std.specs.Prelude.{◌≡◌, ◌≤◌, length, map, slice_get};
+ghost use Rattle.std.specs.Option.{option_map_or};
+ghost use Rattle.pks_text.specs.Forms.{place_of};
+ghost use Rattle.pks_text.specs.FormViews.{form_view};
+ghost use Rattle.pks_stated.specs.Spans.{bytes_in, adds_in};
+ghost use Rattle.pks_file.specs.Inputs.{line_and_column, add_begins};
+ghost use Rattle.pks_file.specs.Views.{file_of, place_at};
+
+use crate::input::InputFile;
+use crate::world::world_form;
+use pks_meaning::parts::place_of;
+use pks_terms::ids::ActId;
+use pks_terms::schema::{Adds, Schema};
+
+/// The line and the column of a byte of an input of at most 262,144 bytes, or, where `at` is greater, of its end. Lines count
+/// from 1 by line feeds, columns from 1 by bytes (`docs/FORMAT.md`).
+#[tactic(auto, unfolding(pks_text::specs::Lines::line_column_of))]
+pub fn place(input: &[u8], at: u32) -> (u32, u32)
+    requires { length input.now ≤ 262144 }
+    ensures { place_at result ≡ line_and_column input.now at }
+{
+    let end = (at as usize).min(input.len());
+    let mut line = 0;
+    let mut column = 0;
+    for byte in &input[..end] {
+        if *byte == b'\n' {
+            line += 1;
+            column = 0;
+        } else {
+            column += 1;
+        }
+    }
+    (line + 1, column + 1)
+}
+
+// Where the add with this number begins, among those of one action.
+fn begins_among(adds: &[Adds], i: usize) -> u32
+    ensures { result ≡ option_map_or (λ b. b.0) (slice_get (map (λ a. bytes_in a.span) adds.now) i) 0 }
+{
+    match adds.get(i) {
+        None => 0,
+        Some(add) => add.span.start,
+    }
+}
+
+// Where an add begins.
+fn add_begins(schemas: &[Schema<'_>], action: ActId, number: u32) -> u32
+    ensures { result ≡ add_begins (map adds_in schemas.now) action.0 number }
+{
+    if number == 0 {
+        return 0;
+    }
+    match schemas.get(action.0 as usize) {
+        None => 0,
+        Some(schema) => begins_among(schema.adds.as_slice(), (number - 1) as usize),
+    }
+}
+
+/// Where an add of an action begins; adds are counted from 1. The text has at most 262,144 bytes.
+pub fn add_place(f: &InputFile<'_>, action: ActId, number: u32) -> (u32, u32)
+    requires { length f.now.source.now ≤ 262144 }
+    ensures { place_at result ≡ (file_of f.now).add_at action.0 number }
+{
+    place(
+        f.source.as_bytes(),
+        add_begins(f.problem.schemas.as_slice(), action, number),
+    )
+}
+
+/// Where the initial items begin; the first place where there are none. The text has at most 262,144 bytes.
+pub fn init_place(f: &InputFile<'_>) -> (u32, u32)
+    requires { length f.now.source.now ≤ 262144 }
+    ensures { place_at result ≡ (file_of f.now).init_at }
+{
+    place(f.source.as_bytes(), f.problem.init_span.start)
+}
+
+/// Where the problem begins. The text has at most 262,144 bytes.
+pub fn problem_place(f: &InputFile<'_>) -> (u32, u32)
+    requires { length f.now.source.now ≤ 262144 }
+    ensures { place_at result ≡ (file_of f.now).problem_at }
+{
+    place(f.source.as_bytes(), f.problem.problem_span.start)
+}
+
+fn world_begins(f: &InputFile<'_>) -> u32
+    ensures { result ≡ option_map_or place_of (slice_get (map form_view f.now.forms.top.items) 3) 0 }
+{
+    match world_form(&f.forms) {
+        None => 0,
+        Some(form) => place_of(form),
+    }
+}
+
+/// Where the world begins; the first place where there is none. The text has at most 262,144 bytes.
+pub fn world_place(f: &InputFile<'_>) -> (u32, u32)
+    requires { length f.now.source.now ≤ 262144 }
+    ensures { place_at result ≡ (file_of f.now).world_at }
+{
+    place(f.source.as_bytes(), world_begins(f))
+}

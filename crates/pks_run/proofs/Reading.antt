@@ -1,0 +1,46 @@
+-- An input reads in one way, by what reading it gave.
+use Rattle.std.proofs.Common.{◌≡◌, ◌<◌, ◌≤◌, ℕ, [], length, Option, Some, None, IfSome, refl, sym, ap, ◌∙◌, subst, arith}
+use Rattle.pks_terms.specs.Printed.{Text}
+use Rattle.pks_terms.specs.Answers.{Place, Reading, ReadAs, Faulty, File}
+use Rattle.pks_grammar.specs.Files.{Fault}
+use Rattle.pks_run.specs.Answer.{IsWhole}
+use Rattle.pks_run.specs.Replied.{IsReplied}
+use Rattle.pks_run.specs.declared.status.Status.{Status}
+use Rattle.pks_run.specs.declared.status.Status.TheVariants as status_is
+use Rattle.pks_file.specs.Inputs.{line_and_column, first_high, IsFaulty, too_long, too_high, refused, IsRead, Reads}
+
+-- as this file alone
+pub one_file : (input : Text) (f : File) → ((g : File) → IsRead input g → g ≡ f) → ((fault : Fault) → IsFaulty input fault → ⊥) → (x : Reading) → Reads input x → x ≡ ReadAs f
+one_file input f same none (ReadAs g) r = ap ReadAs (same g r)
+one_file input f same none (Faulty at code) (byte, fault, e) = absurd (none (byte, code) fault)
+
+-- as this fault alone
+pub one_fault : (input : Text) (fault : Fault) → ((g : File) → IsRead input g → ⊥) → ((other : Fault) → IsFaulty input other → other ≡ fault) → (x : Reading) → Reads input x → x ≡ Faulty (line_and_column input fault.0) fault.1
+one_fault input fault none same (ReadAs g) r = absurd (none g r)
+one_fault input fault none same (Faulty at code) (byte, other, e) =
+    let is : (byte, code) ≡ fault = same (byte, code) other in
+    ap (λ a. Faulty a code) e ∙ (λ i. Faulty (line_and_column input (is i).0) (is i).1)
+
+-- an input that is too long is that fault alone
+pub long_file : (input : Text) → 262144 < length input → (g : File) → IsRead input g → ⊥
+long_file input long g r = let short = r.short in absurd (omega arith)
+
+pub long_fault : (input : Text) → 262144 < length input → (other : Fault) → IsFaulty input other → other ≡ (0, 100)
+long_fault input long _ (too_long h) = refl
+long_fault input long _ (too_high short at h) = absurd (omega arith)
+long_fault input long _ (refused short h fault r) = absurd (omega arith)
+
+-- what holds of all inputs holds of the one that is told
+pub of_any : {X : Type 0} (P : X → Type 0) (o : Option X) → ((x : X) → P x) → IfSome o P
+of_any P None all = tt
+of_any P (Some x) all = all x
+
+-- a reply is a whole answer
+pub replied_whole : (s : Status) → IsReplied s → IsWhole s
+replied_whole status_is.Done h = tt
+replied_whole status_is.NoPlan h = tt
+replied_whole status_is.Refused h = tt
+replied_whole status_is.Words h = absurd h
+replied_whole status_is.ReadFault h = absurd h
+replied_whole status_is.WriteFault h = absurd h
+replied_whole status_is.Memory h = absurd h
