@@ -67,31 +67,48 @@ fn signature(alloc: Global) -> Result<Signature, AllocError> {
     })
 }
 
-// The first function is object 1, and the predicate is true at it and object 0; of the atoms with object 2 on the left,
-// all but the one with the first function on the right are false.
-fn databases(alloc: Global) -> Result<Derived, AllocError> {
+// The first function is object 1, and the predicate is true at it and object 0.
+fn known(alloc: Global) -> Result<Kf, AllocError> {
     let facts = vec![in alloc;
         fact(plain(0), object(0)),
         equation(&plain(0), &object(1), true),
     ]?;
-    let kf = Kf::empty().added(alloc, facts)?;
-    let list = AtomSet::empty().add(alloc, atom(object(2), plain(0)))?;
+    Kf::empty().added(alloc, facts)
+}
+
+// The atom with object 2 on the left and the first function on the right.
+fn listed(alloc: Global) -> Result<AtomSet, AllocError> {
+    let atoms = vec![in alloc; atom(object(2), plain(0))]?;
+    AtomSet::from_ordered(atoms)
+}
+
+// Of the atoms with object 2 on the left all but the listed one are false.
+fn regions(alloc: Global) -> Result<Lcw, AllocError> {
+    let list = listed(alloc)?;
     let pattern = Pattern {
         pred: PredId(0),
         n: 2,
         args: [Some(object(2)), None, None],
     };
-    let lcw = Lcw::empty().add(alloc, Entry { pattern, list })?;
-    Derived::of(
-        alloc,
-        Five {
-            kf,
-            kw: Kw::empty(),
-            kv: Kv::empty(),
-            kx: Kx::empty(),
-            lcw,
-        },
-    )
+    let all = vec![in alloc; Entry { pattern, list }]?;
+    Lcw::empty().added(alloc, all)
+}
+
+fn five(alloc: Global) -> Result<Five, AllocError> {
+    let kf = known(alloc)?;
+    let lcw = regions(alloc)?;
+    Ok(Five {
+        kf,
+        kw: Kw::empty(),
+        kv: Kv::empty(),
+        kx: Kx::empty(),
+        lcw,
+    })
+}
+
+fn databases(alloc: Global) -> Result<Derived, AllocError> {
+    let five = five(alloc)?;
+    Derived::of(alloc, five)
 }
 
 // A known literal is found by its normal form, which the known literals need not have.
