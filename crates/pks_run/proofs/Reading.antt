@@ -1,6 +1,7 @@
 -- An input reads in one way, by what reading it gave.
-use Rattle.std.proofs.Common.{◌≡◌, ◌<◌, ◌≤◌, ℕ, [], length, Option, Some, None, IfSome, refl, sym, ap, ◌∙◌, subst, arith}
+use Rattle.std.proofs.Common.{◌≡◌, ◌<◌, ◌≤◌, ℕ, [], ◌∷◌, length, Option, Some, None, IfSome, refl, sym, ap, ◌∙◌, subst, arith}
 use Rattle.pks_terms.specs.Printed.{Text}
+use Rattle.pks_text.specs.Lines.{line_column_of}
 use Rattle.pks_terms.specs.Answers.{Place, Reading, ReadAs, Faulty, File}
 use Rattle.pks_grammar.specs.Files.{Fault}
 use Rattle.pks_run.specs.Answer.{IsWhole}
@@ -29,6 +30,12 @@ pub long_fault : (input : Text) → 262144 < length input → (other : Fault) �
 long_fault input long _ (too_long h) = refl
 long_fault input long _ (too_high short at h) = absurd (omega arith)
 long_fault input long _ (refused short h fault r) = absurd (omega arith)
+
+-- the first byte stands at the beginning
+pub begins_at : (input : Text) → ◌≡◌ {A = Place} (record { line = 1; column = 1 }) (line_and_column input 0)
+unfolding line_column_of
+begins_at [] = refl
+begins_at (b ∷ bytes) = refl
 
 -- what holds of all inputs holds of the one that is told
 pub of_any : {X : Type 0} (P : X → Type 0) (o : Option X) → ((x : X) → P x) → IfSome o P

@@ -148,7 +148,7 @@ module _ (words : List Text) (input : Text) (j : Job) (is_bench : IsBench j) (as
 
   pub one_bench : (status : Status) (t : Text) → IsAnswer words input status t → (status ≡ Refused) × (t ≡ postponed_text)
   one_bench status t (inl (w, st, e)) = (st, e)
-  one_bench status t (inr (no, a)) = absurd (no bench_wants)
+  one_bench status t (inr (n, a)) = absurd (n bench_wants)
 
 -- words that ask for no job
 module _ (words : List Text) (input : Text) (nothing : AsksNothing words) where

@@ -1,4 +1,4 @@
-use Rattle.std.proofs.Common.{map, string_bytes, Err, absurd, ap, subst, sym}
+use Rattle.std.proofs.Common.{map, string_bytes, Err, ap, subst, sym}
 use Rattle.std.proofs.lemmas.Option.{IfSome_then}
 use Rattle.std.proofs.lemmas.Result.{IfOk-weaker}
 use Rattle.pks_words.specs.JobViews.{job_of}
