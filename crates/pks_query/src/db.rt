@@ -3,7 +3,7 @@ ghost use Rattle.std.specs.Prelude.{◌≡◌, ◌≤◌, length, IfOk, IfErr};
 ghost use Rattle.pks_terms.specs.Signatures.{HasValues};
 ghost use Rattle.pks_terms.specs.Worlds.{World};
 ghost use Rattle.pks_terms.specs.Meaning.{IsTrueOf};
-ghost use Rattle.pks_terms.specs.Closure.{Closes, Next, Clash};
+ghost use Rattle.pks_terms.specs.Closure.{Closes, IsClosed, Next, Clash};
 ghost use Rattle.pks_terms.specs.Problems.{initial, StartAlike};
 ghost use Rattle.pks_terms.specs.Valid.{AreOf};
 ghost use Rattle.pks_terms.specs.ValidProblems.{IsValidProblem};
@@ -92,6 +92,18 @@ impl Db {
     {
         let five = initial(alloc, p)?;
         Db::close(alloc, &p.signature, five)
+    }
+
+    /// The databases that were closed otherwise, as the moments of a settled history are. It asks that they are closed by the
+    /// signature, and for an object of each function's result type. The error is want of memory.
+    pub fn of_closed(alloc: Global, s: &Signature, derived: Derived) -> Result<Db, AllocError>
+        requires values { HasValues (signature_of s.now) }
+        requires closed { IsClosed (signature_of s.now) (five_of derived) }
+        ensures { IfOk result (λ db. db ≡ derived) }
+    {
+        let _s = s;
+        let derived = shared(alloc, derived)?;
+        Ok(Db { derived })
     }
 
     /// Lends the five. It takes no memory.

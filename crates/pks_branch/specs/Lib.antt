@@ -1,0 +1,2 @@
+pub mod ChoiceViews
+pub mod ChoiceOrder

@@ -1,0 +1,4 @@
+//! Aims at a history.
+#![tactic(auto)]
+
+pub mod met;

@@ -1,0 +1,28 @@
+-- How settling ends.
+use Rattle.std.specs.Prelude.{ℕ, ◌≡◌}
+use Rattle.pks_terms.specs.Problems.{Problem}
+use Rattle.pks_terms.specs.Settling.{History, State, At, Stopped, settle_rounds, tidied_history}
+use Rattle.pks_terms.specs.Saturated.{WithinAlong, ClosedAlong}
+use Rattle.pks_postdict.specs.declared.settle.Settled.{Settled}
+use Rattle.pks_postdict.specs.declared.settle.Settled.TheVariants as settled_is
+
+-- a settled history, or a clash
+abbrev pub state_of : Settled → State
+state_of (settled_is.Whole h) = At h
+state_of settled_is.Clash = Stopped
+
+-- P of the history, where there is no clash
+abbrev pub IfAt : (History → Type 0) → State → Type 0
+IfAt P (At h) = P h
+IfAt P Stopped = Unit {0}
+
+-- there is no clash, and P holds of the history
+abbrev pub IsAtWith : (History → Type 0) → State → Type 0
+IsAtWith P (At h) = P h
+IsAtWith P Stopped = ⊥
+
+-- g is what a family says in normal form that lies within each family without a clash that has all of h and is closed under the rules
+pub record IsLeastOver (p : Problem) (h g : History) : Type 0 where
+  pub family : History
+  pub says : g ≡ tidied_history family
+  pub least : (big : History) → WithinAlong h.start h.steps big.start big.steps → ClosedAlong p big.start big.steps → WithinAlong family.start family.steps big.start big.steps

@@ -1,0 +1,4 @@
+//! Settling: what is learnt of earlier moments.
+#![tactic(auto)]
+
+pub mod settle;

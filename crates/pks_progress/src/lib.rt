@@ -1,0 +1,4 @@
+//! Progression: the databases after an action.
+#![tactic(auto)]
+
+pub mod progress;

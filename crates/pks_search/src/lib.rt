@@ -1,0 +1,4 @@
+//! The best tree.
+#![tactic(auto)]
+
+pub mod best;
