@@ -5,3 +5,5 @@
 pub mod effects;
 pub mod spoiled;
 pub mod targets;
+#[cfg(test)]
+mod tests;

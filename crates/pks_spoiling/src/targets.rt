@@ -46,7 +46,8 @@ fn may_fire_at(s: &Signature, d: &Derived, e: &Effect, i: &Instance) -> bool
     !some_denied(s, d, front(&cond.literals, cond.n))
 }
 
-fn some_fixed_differ(s: &Signature, d: &Derived, slots: &[Option<Term>], args: &[Term]) -> bool
+/// Whether at some fixed position the term differs from the argument. It takes no memory.
+pub fn some_fixed_differ(s: &Signature, d: &Derived, slots: &[Option<Term>], args: &[Term]) -> bool
     ensures { result ≡ some_fixed_differ (signature_of s.now) (literals_of d.now.kf) (map (option_map term_of) slots.now) (terms_of args.now) }
 {
     match slots {
