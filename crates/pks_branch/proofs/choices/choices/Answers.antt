@@ -1,0 +1,7 @@
+use Rattle.pks_branch.proofs.choices.choices.Goals as goal
+
+pub returns-clause-all : goal.returns-clause-all
+returns-clause-all c = ?
+
+pub returns-clause-ordered : goal.returns-clause-ordered
+returns-clause-ordered c = ?
