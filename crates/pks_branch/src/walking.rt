@@ -1,5 +1,5 @@
 //! Going through the instances of an action. `docs/RULES.md` has the rule on choices.
-ghost use Rattle.std.specs.Prelude.{◌≡◌, ◌<◌, ◌≤◌, ◌+◌, ◌++◌, [], ◌∷◌, map, length, OnOk};
+ghost use Rattle.std.specs.Prelude.{◌≡◌, ◌<◌, ◌≤◌, ◌+◌, ◌++◌, [], ◌∷◌, map, take, length, OnOk};
 ghost use Rattle.std.specs.List.{list_all, flat_map};
 ghost use Rattle.pks_terms.specs.Actions.{query_at};
 ghost use Rattle.pks_terms.specs.Queries.{answers};
@@ -31,19 +31,28 @@ fn without_arguments(act: ActId) -> Instance
     }
 }
 
+/// The arguments with one more behind those in use.
+fn put(args: &[Inner; 4], n: u8, t: &Inner) -> [Inner; 4]
+    requires { n < 4 }
+    ensures { take (n + 1) result ≡ take n args.now ++ t.now ∷ [] }
+{
+    let mut all = *args;
+    all[n as usize] = *t;
+    all
+}
+
 /// The instance with one more argument.
+#[tactic(auto, using(crate::proofs::Lists::pushing))]
 fn with(i: &Instance, t: &Inner) -> Instance
     requires { i.now.n < 4 }
     ensures act { result.act.0 ≡ i.now.act.0 }
     ensures given { given_of result ≡ given_of i.now ++ inner_of t.now ∷ [] }
     ensures count { result.n ≡ i.now.n + 1 }
 {
-    let mut args = i.args;
-    args[i.n as usize] = *t;
     Instance {
         act: i.act,
         n: i.n + 1,
-        args,
+        args: put(&i.args, i.n, t),
     }
 }
 

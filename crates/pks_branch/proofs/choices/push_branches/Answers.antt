@@ -4,7 +4,7 @@ use Rattle.pks_set.proofs.Mapped.{ordered-map}
 use Rattle.pks_branch.proofs.choices.push_branches.Goals as goal
 
 pub returns-in_err-push-clause-ordered : goal.returns-in_err-push-clause-ordered
-returns-in_err-push-clause-ordered c = ordered-map conj_of conj_cmp c.args.kw.now c.items.ensures.ordered
+returns-in_err-push-clause-ordered c = ordered-map conj_of conj_cmp c.args.kw.now c.items-c-items.ensures.ordered
 
 pub returns-clause-ordered : goal.returns-clause-ordered
-returns-clause-ordered c = ordered-map conj_of conj_cmp c.args.kw.now c.items.ensures.ordered
+returns-clause-ordered c = ordered-map conj_of conj_cmp c.args.kw.now c.items-c-items.ensures.ordered

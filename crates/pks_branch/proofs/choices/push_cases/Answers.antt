@@ -4,10 +4,10 @@ use Rattle.pks_set.proofs.Mapped.{ordered-map}
 use Rattle.pks_branch.proofs.choices.push_cases.Goals as goal
 
 pub returns-in_err-push-clause-ordered : goal.returns-in_err-push-clause-ordered
-returns-in_err-push-clause-ordered c = ordered-map term_of term_cmp c.args.kv.now c.items.ensures.ordered
+returns-in_err-push-clause-ordered c = ordered-map term_of term_cmp c.args.kv.now c.items-t-items.ensures.ordered
 
 pub returns-clause-ordered : goal.returns-clause-ordered
-returns-clause-ordered c = ordered-map term_of term_cmp c.args.kv.now c.items.ensures.ordered
+returns-clause-ordered c = ordered-map term_of term_cmp c.args.kv.now c.items-t-items.ensures.ordered
 
 pub returns-in_err-may_split-clause-ordered : goal.returns-in_err-may_split-clause-ordered
-returns-in_err-may_split-clause-ordered c = ordered-map term_of term_cmp c.args.kv.now c.items.ensures.ordered
+returns-in_err-may_split-clause-ordered c = ordered-map term_of term_cmp c.args.kv.now c.items-t-items.ensures.ordered
