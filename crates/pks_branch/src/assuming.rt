@@ -70,7 +70,12 @@ fn other_values(alloc: Global, kv: &Kv, t: &Term) -> Result<Kv, AllocError>
 }
 
 /// The five with these literals known, and without the formula.
-fn with_formula(alloc: Global, five: &Five, c: &Conj, news: Vec<Literal>) -> Result<Five, AllocError>
+fn with_formula(
+    alloc: Global,
+    five: &Five,
+    c: &Conj,
+    news: Vec<Literal>,
+) -> Result<Five, AllocError>
     ensures { IfOk result (λ next. five_of next ≡ assumed_formula (five_of five.now) (conj_of c.now) (literals_in news.items)) }
 {
     let kf = five.kf.added(alloc, news)?;
@@ -89,7 +94,12 @@ fn with_formula(alloc: Global, five: &Five, c: &Conj, news: Vec<Literal>) -> Res
 
 /// The literals of the formula that aren't derived.
 #[tactic(auto, using(crate::proofs::Lists::pushing))]
-fn open_literals(alloc: Global, s: &Signature, d: &Db, ls: &[Literal]) -> Result<Vec<Literal>, AllocError>
+fn open_literals(
+    alloc: Global,
+    s: &Signature,
+    d: &Db,
+    ls: &[Literal],
+) -> Result<Vec<Literal>, AllocError>
     ensures { IfOk result (λ v. literals_in v.items ≡ filter (λ l. not (holds (signature_of s.now) (five_of d.now) l)) (literals_in ls.now)) }
 {
     let mut open = Vec::new(alloc);
@@ -173,7 +183,13 @@ fn assumed(alloc: Global, s: &Signature, d: &Db, c: &Choice, side: Side) -> Resu
 /// "Assuming"). It asks for a valid problem, for closed databases of its signature, for a formula or a term of theirs, and
 /// for a side that it has. Where the databases are true of two worlds and the side is so in the first, it is so in the
 /// second, and what follows is true of both. The error is want of memory.
-pub fn assume(alloc: Global, p: &Problem<'_>, d: &Db, c: &Choice, side: Side) -> Result<Step, AllocError>
+pub fn assume(
+    alloc: Global,
+    p: &Problem<'_>,
+    d: &Db,
+    c: &Choice,
+    side: Side,
+) -> Result<Step, AllocError>
     requires valid { IsValidProblem p.now }
     requires moment { IsMomentOf (problem_of p.now).signature (five_of d.now) }
     requires member { IsMember (five_of d.now) (choice_of c.now) }

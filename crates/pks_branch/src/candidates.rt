@@ -56,7 +56,11 @@ fn has_type(s: &Signature, t: &Term, of: TypeId) -> bool
 fn candidate(s: &Signature, t: &Term, of: TypeId) -> Option<Inner>
     ensures { option_map inner_of result ≡ (if has_type (signature_of s.now) (term_of t.now) of.0 then as_inner (term_of t.now) else None) }
 {
-    if has_type(s, t, of) { as_inner(t) } else { None }
+    if has_type(s, t, of) {
+        as_inner(t)
+    } else {
+        None
+    }
 }
 
 /// Appends the objects as arguments.
@@ -84,7 +88,12 @@ fn push_values(s: &Signature, kv: &Kv, of: TypeId, to: &mut Vec<Inner>) -> Resul
 }
 
 /// What may stand for a parameter of the type: its objects, and then the known values of that type.
-fn candidates(alloc: Global, s: &Signature, five: &Five, of: TypeId) -> Result<InnerList, AllocError>
+fn candidates(
+    alloc: Global,
+    s: &Signature,
+    five: &Five,
+    of: TypeId,
+) -> Result<InnerList, AllocError>
     requires { length s.now.objects ≤ 65536 }
     ensures { IfOk result (λ list. map inner_of list ≡ candidates (signature_of s.now) (five_of five.now) of.0) }
 {
@@ -97,7 +106,12 @@ fn candidates(alloc: Global, s: &Signature, five: &Five, of: TypeId) -> Result<I
 
 /// What may stand for each parameter.
 #[tactic(auto, using(crate::proofs::Lists::pushing))]
-pub(crate) fn candidate_lists(alloc: Global, s: &Signature, five: &Five, params: &[TypeId]) -> Result<Vec<InnerList>, AllocError>
+pub(crate) fn candidate_lists(
+    alloc: Global,
+    s: &Signature,
+    five: &Five,
+    params: &[TypeId],
+) -> Result<Vec<InnerList>, AllocError>
     requires { length s.now.objects ≤ 65536 }
     ensures { IfOk result (λ lists. map (map inner_of) lists.items ≡ map (candidates (signature_of s.now) (five_of five.now)) (types_of params.now)) }
 {

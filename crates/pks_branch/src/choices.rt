@@ -61,7 +61,12 @@ fn is_undecided(s: &Signature, d: &Db, c: &Conj) -> bool
 }
 
 /// Appends the instances that are choices.
-fn push_actions(alloc: Global, p: &Problem<'_>, d: &Db, to: &mut Vec<Choice>) -> Result<(), AllocError>
+fn push_actions(
+    alloc: Global,
+    p: &Problem<'_>,
+    d: &Db,
+    to: &mut Vec<Choice>,
+) -> Result<(), AllocError>
     requires valid { IsValidProblem p.now }
     ensures { OnOk result (choices_of to.new.items ≡ choices_of to.old.items ++ map Act (instances (problem_of p.now) (five_of d.now))) }
 {
@@ -87,7 +92,13 @@ fn push_branches(s: &Signature, d: &Db, kw: &Kw, to: &mut Vec<Choice>) -> Result
 
 /// Appends the terms of a set with from 1 to 16 objects left.
 #[tactic(auto, using(crate::proofs::Lists::pushing))]
-fn push_cases(alloc: Global, s: &Signature, d: &Db, kv: &Kv, to: &mut Vec<Choice>) -> Result<(), AllocError>
+fn push_cases(
+    alloc: Global,
+    s: &Signature,
+    d: &Db,
+    kv: &Kv,
+    to: &mut Vec<Choice>,
+) -> Result<(), AllocError>
     requires { length s.now.objects ≤ 65536 }
     ensures all { OnOk result (choices_of to.new.items ≡ choices_of to.old.items ++ map CasesOn (filter (may_split (signature_of s.now) (five_of d.now)) (terms_of kv.now))) }
     ensures ordered { IsOrdered term_cmp (terms_of kv.now) }

@@ -27,7 +27,13 @@ fn is_shut_out(s: &Signature, d: &Db, t: &Term, e: ObjId) -> bool
 
 /// Those of the objects that the term isn't known to differ from.
 #[tactic(auto, using(crate::proofs::Lists::pushing))]
-fn not_shut_out(alloc: Global, s: &Signature, d: &Db, t: &Term, objects: &[ObjId]) -> Result<Vec<ObjId>, AllocError>
+fn not_shut_out(
+    alloc: Global,
+    s: &Signature,
+    d: &Db,
+    t: &Term,
+    objects: &[ObjId],
+) -> Result<Vec<ObjId>, AllocError>
     ensures { IfOk result (λ v. map object_of v.items ≡ filter (λ e. not (holds (signature_of s.now) (five_of d.now) (inequation (term_of t.now) (object e)))) (map object_of objects.now)) }
 {
     let mut kept = Vec::new(alloc);

@@ -70,7 +70,13 @@ fn is_allowed(s: &Signature, d: &Db, pre: &[Query], i: &Instance) -> bool
 
 /// Appends the instance, where it is allowed.
 #[tactic(auto, using(crate::proofs::Lists::pushing))]
-fn push_allowed(s: &Signature, d: &Db, pre: &[Query], i: &Instance, to: &mut Vec<Choice>) -> Result<(), AllocError>
+fn push_allowed(
+    s: &Signature,
+    d: &Db,
+    pre: &[Query],
+    i: &Instance,
+    to: &mut Vec<Choice>,
+) -> Result<(), AllocError>
     ensures { OnOk result (choices_of to.new.items ≡ choices_of to.old.items ++ map Act (allowed_at (signature_of s.now) (five_of d.now) (map query_of pre.now) i.now.act.0 (given_of i.now))) }
 {
     if is_allowed(s, d, pre, i) {
@@ -135,6 +141,13 @@ pub(crate) fn push_instances(
     ensures { OnOk result (choices_of to.new.items ≡ choices_of to.old.items ++ map Act (instances_at (signature_of s.now) (five_of d.now) (act.0, schema_of schema.now))) }
 {
     let lists = candidate_lists(alloc, s, d.parts(), schema.params.as_slice())?;
-    walk(s, d, schema.pre.as_slice(), lists.as_slice(), &without_arguments(act), to)?;
+    walk(
+        s,
+        d,
+        schema.pre.as_slice(),
+        lists.as_slice(),
+        &without_arguments(act),
+        to,
+    )?;
     Ok(())
 }
