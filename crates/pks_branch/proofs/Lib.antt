@@ -1,0 +1,4 @@
+pub mod Lists
+pub mod WalkLaws
+pub mod ChoicesRise
+pub mod Parameters

@@ -1,2 +1,3 @@
 pub mod ChoiceViews
 pub mod ChoiceOrder
+pub mod Walks

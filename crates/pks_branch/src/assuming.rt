@@ -1,19 +1,30 @@
 //! Assuming a side of a choice. `docs/RULES.md` has the rule.
-ghost use Rattle.std.specs.Prelude.{◌≡◌, IfOk};
+ghost use Rattle.std.specs.Prelude.{◌≡◌, ◌++◌, not, map, IfOk};
+ghost use Rattle.std.specs.List.{filter};
+ghost use Rattle.std.specs.Ordering.{is_eq};
 ghost use Rattle.pks_terms.specs.Worlds.{World};
 ghost use Rattle.pks_terms.specs.Meaning.{IsTrueOf};
-ghost use Rattle.pks_terms.specs.Branching.{IsSo, IsMember, Assumes};
+ghost use Rattle.pks_terms.specs.Orders.{term_eq, conj_cmp};
+ghost use Rattle.pks_terms.specs.Databases.{holds};
+ghost use Rattle.pks_terms.specs.Branching.{IsSo, IsMember, Assumes, CasesOn, Is, denials, assumed_formula, assumed};
 ghost use Rattle.pks_terms.specs.ValidProblems.{IsValidProblem};
-ghost use Rattle.pks_terms.specs.Views.{problem_of};
+ghost use Rattle.pks_terms.specs.Views.{literals_in, conj_of, term_of, terms_of, signature_of, problem_of};
 ghost use Rattle.pks_laws.specs.OfSignature.{IsSideOf, IsMomentOf};
+ghost use Rattle.pks_kw.specs.Formulas.{formulas_of};
 ghost use Rattle.pks_normal.specs.Fives.{five_of};
 ghost use Rattle.pks_query.specs.Steps.{outcome_of, IfNext, IsNextWith};
 ghost use Rattle.pks_branch.specs.ChoiceViews.{choice_of, side_of};
 
 use crate::choices::Choice;
+use pks_closing::closing::CloseEnd;
+use pks_kv::Kv;
+use pks_kw::Kw;
+use pks_normal::five::Five;
 use pks_query::db::{Db, Step};
 use pks_terms::ids::ObjId;
-use pks_terms::problem::Problem;
+use pks_terms::literal::{Conj, Literal, equation};
+use pks_terms::problem::{Problem, Signature};
+use pks_terms::term::{Term, front};
 use std::alloc::{AllocError, Global};
 
 /// What is assumed of a choice: of a formula that it is true or false, of a term that it is an object.
@@ -27,11 +38,158 @@ pub enum Side {
     Is(ObjId),
 }
 
+/// Whether the formulas differ.
+fn is_other(b: &Conj, c: &Conj) -> bool
+    ensures { result ≡ not (is_eq (conj_cmp (conj_of b.now) (conj_of c.now))) }
+{
+    *b != *c
+}
+
+/// The formulas but for this one.
+fn other_formulas(alloc: Global, kw: &Kw, c: &Conj) -> Result<Kw, AllocError>
+    ensures { IfOk result (λ rest. formulas_of rest ≡ filter (λ b. not (is_eq (conj_cmp b (conj_of c.now)))) (formulas_of kw.now)) }
+{
+    let rest = kw.kept(alloc, |b| is_other(b, c))?;
+    Ok(rest)
+}
+
+/// Whether the terms differ.
+#[tactic(auto, unfolding(pks_terms::specs::Orders::term_eq))]
+fn is_another(u: &Term, t: &Term) -> bool
+    ensures { result ≡ not (term_eq (term_of u.now) (term_of t.now)) }
+{
+    *u != *t
+}
+
+/// The terms but for this one.
+fn other_values(alloc: Global, kv: &Kv, t: &Term) -> Result<Kv, AllocError>
+    ensures { IfOk result (λ rest. terms_of rest ≡ filter (λ u. not (term_eq u (term_of t.now))) (terms_of kv.now)) }
+{
+    let rest = kv.kept(alloc, |u| is_another(u, t))?;
+    Ok(rest)
+}
+
+/// The five with these literals known, and without the formula.
+fn with_formula(
+    alloc: Global,
+    five: &Five,
+    c: &Conj,
+    news: Vec<Literal>,
+) -> Result<Five, AllocError>
+    ensures { IfOk result (λ next. five_of next ≡ assumed_formula (five_of five.now) (conj_of c.now) (literals_in news.items)) }
+{
+    let kf = five.kf.added(alloc, news)?;
+    let kw = other_formulas(alloc, &five.kw, c)?;
+    let kv = five.kv.share()?;
+    let kx = five.kx.share()?;
+    let lcw = five.lcw.share()?;
+    Ok(Five {
+        kf,
+        kw,
+        kv,
+        kx,
+        lcw,
+    })
+}
+
+/// The literals of the formula that aren't derived.
+#[tactic(auto, using(crate::proofs::Lists::pushing))]
+fn open_literals(
+    alloc: Global,
+    s: &Signature,
+    d: &Db,
+    ls: &[Literal],
+) -> Result<Vec<Literal>, AllocError>
+    ensures { IfOk result (λ v. literals_in v.items ≡ filter (λ l. not (holds (signature_of s.now) (five_of d.now) l)) (literals_in ls.now)) }
+{
+    let mut open = Vec::new(alloc);
+    for l in ls {
+        if !d.known(s, l) {
+            open.push(*l)?;
+        }
+    }
+    Ok(open)
+}
+
+/// The negation of the literal that is alone, and nothing of other lists.
+fn denials(alloc: Global, open: &[Literal]) -> Result<Vec<Literal>, AllocError>
+    ensures { IfOk result (λ v. literals_in v.items ≡ denials (literals_in open.now)) }
+{
+    match open {
+        [l] => {
+            let alone = vec![in alloc; l.negated()]?;
+            Ok(alone)
+        }
+        _ => Ok(Vec::new(alloc)),
+    }
+}
+
+/// The five with the formula true.
+#[tactic(auto, unfolding(pks_terms::specs::Branching::assumed))]
+fn with_true(alloc: Global, d: &Db, c: &Conj) -> Result<Five, AllocError>
+    ensures { IfOk result (λ next. five_of next ≡ assumed_formula (five_of d.now) (conj_of c.now) (conj_of c.now)) }
+{
+    let news = Vec::from_slice(alloc, front(&c.literals, c.n))?;
+    let next = with_formula(alloc, d.parts(), c, news)?;
+    Ok(next)
+}
+
+/// The five with the formula false.
+fn with_false(alloc: Global, s: &Signature, d: &Db, c: &Conj) -> Result<Five, AllocError>
+    ensures { IfOk result (λ next. five_of next ≡ assumed_formula (five_of d.now) (conj_of c.now) (denials (filter (λ l. not (holds (signature_of s.now) (five_of d.now) l)) (conj_of c.now)))) }
+{
+    let open = open_literals(alloc, s, d, front(&c.literals, c.n))?;
+    let news = denials(alloc, open.as_slice())?;
+    let next = with_formula(alloc, d.parts(), c, news)?;
+    Ok(next)
+}
+
+/// The five with the object as the value of the term.
+#[tactic(auto, unfolding(pks_terms::specs::Branching::assumed))]
+fn with_value(alloc: Global, s: &Signature, d: &Db, t: &Term, e: ObjId) -> Result<Five, AllocError>
+    ensures { IfOk result (λ next. five_of next ≡ assumed (signature_of s.now) (five_of d.now) (CasesOn (term_of t.now)) (Is e.0)) }
+{
+    let _s = s;
+    let five = d.parts();
+    let kf = five.kf.add(alloc, equation(t, &Term::Obj(e), true))?;
+    let kv = other_values(alloc, &five.kv, t)?;
+    let kw = five.kw.share()?;
+    let kx = five.kx.share()?;
+    let lcw = five.lcw.share()?;
+    Ok(Five {
+        kf,
+        kw,
+        kv,
+        kx,
+        lcw,
+    })
+}
+
+/// The five with the side assumed, which stay as they are where the choice has no such side.
+#[tactic(auto, unfolding(pks_terms::specs::Branching::assumed))]
+fn assumed(alloc: Global, s: &Signature, d: &Db, c: &Choice, side: Side) -> Result<Five, AllocError>
+    ensures { IfOk result (λ next. five_of next ≡ assumed (signature_of s.now) (five_of d.now) (choice_of c.now) (side_of side)) }
+{
+    let next = match (c, side) {
+        (Choice::Branch(c), Side::True) => with_true(alloc, d, c)?,
+        (Choice::Branch(c), Side::False) => with_false(alloc, s, d, c)?,
+        (Choice::Cases(t), Side::Is(e)) => with_value(alloc, s, d, t, e)?,
+        _ => d.parts().share()?,
+    };
+    Ok(next)
+}
+
 /// The databases with the side assumed and then closed, or the least literal that is derived false (`docs/RULES.md`,
 /// "Assuming"). It asks for a valid problem, for closed databases of its signature, for a formula or a term of theirs, and
 /// for a side that it has. Where the databases are true of two worlds and the side is so in the first, it is so in the
 /// second, and what follows is true of both. The error is want of memory.
-pub fn assume(alloc: Global, p: &Problem<'_>, d: &Db, c: &Choice, side: Side) -> Result<Step, AllocError>
+pub fn assume(
+    alloc: Global,
+    p: &Problem<'_>,
+    d: &Db,
+    c: &Choice,
+    side: Side,
+) -> Result<Step, AllocError>
     requires valid { IsValidProblem p.now }
     requires moment { IsMomentOf (problem_of p.now).signature (five_of d.now) }
     requires member { IsMember (five_of d.now) (choice_of c.now) }
@@ -41,6 +199,10 @@ pub fn assume(alloc: Global, p: &Problem<'_>, d: &Db, c: &Choice, side: Side) ->
     ensures so_too { (w w' : World) → IsTrueOf (problem_of p.now).signature w w' (five_of d.now) → IsSo w (choice_of c.now) (side_of side) → IfOk result (λ o. IsSo w' (choice_of c.now) (side_of side)) }
     ensures keeps_truth { (w w' : World) → IsTrueOf (problem_of p.now).signature w w' (five_of d.now) → IsSo w (choice_of c.now) (side_of side) → IfOk result (λ o. IsNextWith (IsTrueOf (problem_of p.now).signature w w') (outcome_of o)) }
 {
-    let _known = (alloc, p, d, c, side);
-    Err(AllocError)
+    let five = assumed(alloc, &p.signature, d, c, side)?;
+    match Db::close(alloc, &p.signature, five) {
+        Ok(next) => Ok(Step::Next(next)),
+        Err(CloseEnd::Clash(l)) => Ok(Step::Clash(l)),
+        Err(CloseEnd::Memory) => Err(AllocError),
+    }
 }

@@ -2,5 +2,7 @@
 #![tactic(auto)]
 
 pub mod assuming;
+mod candidates;
 pub mod choices;
 pub mod leaving;
+mod walking;

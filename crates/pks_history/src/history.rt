@@ -41,6 +41,7 @@ impl Model for History {
 }
 
 /// The same moments, whose databases are shared.
+#[tactic(auto, using(pks_closing::proofs::Lists::read))]
 fn shared(alloc: Global, moments: &[Moment]) -> Result<Vec<Moment>, AllocError>
     ensures { IfOk result (λ v. moments_of v.items ≡ moments_of moments.now) }
 {
