@@ -125,7 +125,8 @@ fn item_case(g: &Given<'_>, schema: &Schema<'_>, item: &Item) -> Option<Case>
     }
 }
 
-// The case of an add in an action.
+/// The case of an add, which needn't be one of the action's, by the text of this action (`docs/RULES.md`, "Justified
+/// adds"), or none where no case fits. It asks that what is assigned to is an application, and takes no memory.
 #[tactic(auto, unfolding(pks_terms::specs::Justified::case_of))]
 pub fn case_in(schema: &Schema<'_>, add: &Adds) -> Option<Case>
     requires { AssignToPlaces schema.now.effects }

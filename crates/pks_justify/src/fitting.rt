@@ -52,8 +52,9 @@ fn makes_literal(l: &Literal, target: &Target) -> bool
     }
 }
 
-// An effect makes the literal so, all its conditions given, and none of the later ones may undo it.
-fn makes_so(g: &Given<'_>, l: &Literal, e: &Effect, later: &[Effect]) -> bool
+/// The effect makes the literal so, all its conditions given, and none of the later ones may undo it (`docs/RULES.md`,
+/// "Justified adds"). It asks that what is assigned to is an application, and takes no memory.
+pub fn makes_so(g: &Given<'_>, l: &Literal, e: &Effect, later: &[Effect]) -> bool
     requires { AssignsToPlace e.now.target }
     ensures { result ≡ makes_so (given_view g.now) (literal_of l.now) (effect_of e.now, effects_of later.now) }
 {
@@ -84,6 +85,7 @@ pub fn is_plain_term(t: &Term) -> bool
     }
 }
 
+/// The two terms are the same. It takes no memory.
 #[tactic(auto, unfolding(pks_terms::specs::Orders::term_eq))]
 pub fn is_same(t: &Term, u: &Term) -> bool
     ensures { result ≡ term_eq (term_of t.now) (term_of u.now) }

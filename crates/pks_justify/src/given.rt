@@ -14,7 +14,9 @@ use pks_terms::term::{Term, front};
 /// The queries of an add and the preconditions of its action.
 #[derive(Clone, Copy)]
 pub struct Given<'a> {
+    /// The queries of the add.
     pub own: &'a [Query],
+    /// The preconditions of the action.
     pub pre: &'a [Query],
 }
 
@@ -26,7 +28,7 @@ pub enum Fact<'a> {
     Value(&'a Term),
 }
 
-/// The queries that are answered where the add is applied.
+/// The queries that are answered where the add is applied (`docs/RULES.md`, "Justified adds"). It takes no memory.
 pub fn queries_of<'a>(schema: &'a Schema<'_>, add: &'a Adds) -> Given<'a>
     ensures { given_view result ≡ given_of (schema_of schema.now) (add_of add.now) }
 {

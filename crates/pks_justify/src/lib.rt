@@ -9,4 +9,6 @@ mod given;
 mod tests;
 mod undoing;
 
-pub use cases::{Case, Unjustified, case_of, case_with, justify};
+pub use cases::{Case, Unjustified, case_in, case_of, case_with, justify};
+pub use fitting::{is_same, makes_so};
+pub use given::{Given, queries_of};

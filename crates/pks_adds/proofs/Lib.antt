@@ -1,0 +1,3 @@
+pub mod Applying
+pub mod Lists
+pub mod Placed
