@@ -16,7 +16,7 @@ use pks_terms::schema::{Effect, Instance};
 use pks_terms::term::{Term, front};
 
 /// Whether the instance spoils the literal: one of its terms isn't stable, or an effect that may fire may make it false. It
-/// takes no memory. `docs/RULES.md`, "What an action may change".
+/// takes no memory. `docs/RULES.md`, "Interference".
 pub fn spoils(p: &Problem<'_>, d: &Db, i: &Instance, l: &Literal) -> bool
     ensures { result ≡ spoils (problem_of p.now).signature (five_of d.now) (effects_of (problem_of p.now) (instance_of i.now)) (literal_of l.now) }
 {
@@ -24,7 +24,7 @@ pub fn spoils(p: &Problem<'_>, d: &Db, i: &Instance, l: &Literal) -> bool
 }
 
 /// Whether the term is stable under the instance: no assignment that may fire may hit an application in it. It takes no
-/// memory. `docs/RULES.md`, "What an action may change".
+/// memory. `docs/RULES.md`, "Interference".
 pub fn stable(p: &Problem<'_>, d: &Db, i: &Instance, t: &Term) -> bool
     ensures { result ≡ is_stable (problem_of p.now).signature (five_of d.now) (effects_of (problem_of p.now) (instance_of i.now)) (term_of t.now) }
 {
@@ -32,7 +32,7 @@ pub fn stable(p: &Problem<'_>, d: &Db, i: &Instance, t: &Term) -> bool
 }
 
 /// Whether the effect, with its arguments put in, may fire and may make the atom true or false. It takes no memory.
-/// `docs/RULES.md`, "What an action may change".
+/// `docs/RULES.md`, "Interference".
 pub fn may_hit_atom(p: &Problem<'_>, d: &Db, e: &Effect, a: &PredAtom) -> bool
     ensures { result ≡ may_hit_atom (problem_of p.now).signature (five_of d.now) (effect_of e.now) (atom_of a.now) }
 {
@@ -43,7 +43,7 @@ pub fn may_hit_atom(p: &Problem<'_>, d: &Db, e: &Effect, a: &PredAtom) -> bool
 }
 
 /// Whether the effect, with its arguments put in, may fire and may change the value of the application. It takes no memory.
-/// `docs/RULES.md`, "What an action may change".
+/// `docs/RULES.md`, "Interference".
 pub fn may_hit_term(p: &Problem<'_>, d: &Db, e: &Effect, t: &Term) -> bool
     ensures { result ≡ may_hit_term (problem_of p.now).signature (five_of d.now) (effect_of e.now) (term_of t.now) }
 {

@@ -5,3 +5,5 @@ pub mod asking;
 mod kept;
 pub mod progress;
 mod regions;
+#[cfg(test)]
+mod tests;
