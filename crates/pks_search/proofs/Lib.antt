@@ -1,0 +1,10 @@
+pub mod Limited
+pub mod Costs
+pub mod Rooted
+pub mod Found
+pub mod Lengths
+pub mod Deepening
+pub mod Readiness
+pub mod Looping
+pub mod Children
+pub mod Starting

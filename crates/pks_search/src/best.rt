@@ -2,17 +2,22 @@
 ghost use Rattle.std.specs.Prelude.{◌≡◌, ◌≤◌, [], IfOk, IfSome, option_map};
 ghost use Rattle.pks_terms.specs.Worlds.{World};
 ghost use Rattle.pks_terms.specs.Syntax.{Literal};
-ghost use Rattle.pks_terms.specs.Closure.{Clash, Closes};
+ghost use Rattle.pks_terms.specs.Closure.{Next, Clash, Closes};
 ghost use Rattle.pks_terms.specs.Problems.{initial, IsCompatible};
 ghost use Rattle.pks_terms.specs.Answers.{unjustified};
 ghost use Rattle.pks_terms.specs.Trees.{IsBest};
 ghost use Rattle.pks_terms.specs.Knowledge.{Good};
 ghost use Rattle.pks_terms.specs.ValidProblems.{IsValidProblem};
 ghost use Rattle.pks_terms.specs.Views.{problem_of};
+ghost use Rattle.pks_normal.specs.Fives.{five_of};
 ghost use Rattle.pks_plan.specs.TreeViews.{tree_of};
 ghost use Rattle.pks_search.specs.Past.{RemembersPast};
 
+use crate::rising::best_rising;
+use pks_closing::closing::CloseEnd;
+use pks_history::history::History;
 use pks_plan::tree::Tree;
+use pks_query::db::Db;
 use pks_terms::problem::Problem;
 use std::alloc::{AllocError, Global};
 
@@ -30,6 +35,30 @@ pub fn best(alloc: Global, p: &Problem<'_>, depth: u8) -> Result<Option<Tree>, A
     ensures good { IfOk result (λ o. IfSome o (λ t. (w : World) → IsCompatible (problem_of p.now) w → Good (problem_of p.now) (tree_of t) w)) }
     ensures past { IfOk result (λ o. IfSome o (λ t. RemembersPast (problem_of p.now) (tree_of t))) }
 {
-    let _known = (alloc, p, depth);
-    Err(AllocError)
+    match Db::first(alloc, p) {
+        Ok(start) => best_from(alloc, p, start, depth),
+        Err(CloseEnd::Memory) => Err(AllocError),
+        Err(CloseEnd::Clash(_)) => unreachable!(),
+    }
+}
+
+/// The same from the initial databases, closed: so a caller that has closed them needn't do it again. It asks for a valid
+/// problem whose adds are all justified, for a depth of at most 16, and that its initial databases become these by
+/// closing. The error is want of memory.
+pub fn best_from(
+    alloc: Global,
+    p: &Problem<'_>,
+    start: Db,
+    depth: u8,
+) -> Result<Option<Tree>, AllocError>
+    requires valid { IsValidProblem p.now }
+    requires depth { depth ≤ 16 }
+    requires justified { unjustified (problem_of p.now) ≡ [] }
+    requires start { Closes (problem_of p.now).signature (initial (problem_of p.now)) (Next (five_of start)) }
+    ensures best { IfOk result (λ o. IsBest (problem_of p.now) depth (option_map tree_of o)) }
+    ensures good { IfOk result (λ o. IfSome o (λ t. (w : World) → IsCompatible (problem_of p.now) w → Good (problem_of p.now) (tree_of t) w)) }
+    ensures past { IfOk result (λ o. IfSome o (λ t. RemembersPast (problem_of p.now) (tree_of t))) }
+{
+    let h = History::start(alloc, start)?;
+    best_rising(alloc, p, &h, 0, u32::from(depth), 16 * 9_999)
 }

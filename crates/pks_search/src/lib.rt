@@ -2,3 +2,6 @@
 #![tactic(auto)]
 
 pub mod best;
+mod parts;
+mod rising;
+mod within;

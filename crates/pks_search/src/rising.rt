@@ -1,0 +1,46 @@
+//! The search by rising depth.
+
+ghost use Rattle.std.specs.Prelude.{◌≡◌, ◌≤◌, option_map, IfOk};
+ghost use Rattle.pks_terms.specs.Settling.{At};
+ghost use Rattle.pks_terms.specs.Trees.{IsBestAt};
+ghost use Rattle.pks_terms.specs.Views.{problem_of};
+ghost use Rattle.pks_plan.specs.TreeViews.{tree_of};
+ghost use Rattle.pks_search.specs.Limits.{IsLimitAt};
+ghost use Rattle.pks_search.specs.Ready.{IsReady};
+
+use crate::within::best_within;
+use pks_history::history::History;
+use pks_plan::order::cost;
+use pks_plan::tree::Tree;
+use pks_terms::problem::Problem;
+use std::alloc::{AllocError, Global};
+
+/// The best tree that is derived at the history and no deeper than `full`, or `None` where there is none. The search goes
+/// from depth `n` on, and stops where deeper trees would cost more than the tree that was found. It asks that the best tree
+/// costs at most `limit`, unless one no deeper than `n` does. The error is want of memory.
+pub(crate) fn best_rising(
+    alloc: Global,
+    p: &Problem<'_>,
+    h: &History,
+    n: u32,
+    full: u32,
+    limit: u32,
+) -> Result<Option<Tree>, AllocError>
+    requires ready { IsReady p.now h.now full }
+    requires within { n ≤ full }
+    requires limit { IsLimitAt (problem_of p.now) (At h.now) n full limit }
+    ensures { IfOk result (λ o. IsBestAt (problem_of p.now) (At h.now) full (option_map tree_of o)) }
+{
+    let found = best_within(alloc, p, h, n, limit)?;
+    if n == full {
+        return Ok(found);
+    }
+    let Some(t) = found else {
+        return best_rising(alloc, p, h, n + 1, full, limit);
+    };
+    let own = cost(p, &t);
+    if own <= n {
+        return Ok(Some(t));
+    }
+    best_rising(alloc, p, h, n + 1, full, own)
+}

@@ -1,0 +1,259 @@
+//! The search at a history: the best tree within a depth and a limit on cost. `docs/RULES.md` has the rules on trees.
+
+ghost use Rattle.std.specs.Prelude.{◌≡◌, ◌≤◌, ◌+◌, true, false, length, map, option_map, IfOk};
+ghost use Rattle.pks_terms.specs.Sets.{Each, IsIn};
+ghost use Rattle.pks_terms.specs.Signatures.{range_of};
+ghost use Rattle.pks_terms.specs.Branching.{instances, is_undecided, may_split, choices, Act, BranchOn, CasesOn, IsMember};
+ghost use Rattle.pks_terms.specs.Settling.{last_moment, At};
+ghost use Rattle.pks_terms.specs.Aims.{met};
+ghost use Rattle.pks_terms.specs.Trees.{IsBestOf};
+ghost use Rattle.pks_terms.specs.Views.{term_of, conj_of, object_of, instance_of, problem_of};
+ghost use Rattle.pks_laws.specs.OfSignature.{IsSideOf};
+ghost use Rattle.pks_plan.specs.TreeViews.{tree_of, chain_of};
+ghost use Rattle.pks_branch.specs.ChoiceViews.{choice_of, side_of};
+ghost use Rattle.pks_search.specs.Limits.{IsBestWithin, IsCheapBy, IsBestAfter, IsBestTaking, AreBestCheapCases};
+ghost use Rattle.pks_search.specs.Ready.{IsReady};
+
+use crate::parts::{act, branch, cases, price};
+use pks_branch::assuming::{Side, assume};
+use pks_branch::choices::{Choice, choices};
+use pks_branch::leaving::left;
+use pks_history::history::History;
+use pks_past::met::met;
+use pks_plan::order::cost;
+use pks_plan::tree::{CaseChain, Tree};
+use pks_postdict::settle::{Settled, settle};
+use pks_progress::progress::progress;
+use pks_query::db::Step;
+use pks_terms::ids::ObjId;
+use pks_terms::literal::Conj;
+use pks_terms::problem::Problem;
+use pks_terms::schema::Instance;
+use pks_terms::term::Term;
+use std::alloc::{AllocError, Global};
+
+/// The best tree that is derived at the history, no deeper than `n`, and costs at most `limit`; `None` where there is none.
+/// It asks for a history of the problem to which `n` more moments may be added. The error is want of memory.
+#[cycle(searching)]
+pub(crate) fn best_within(
+    alloc: Global,
+    p: &Problem<'_>,
+    h: &History,
+    n: u32,
+    limit: u32,
+) -> Result<Option<Tree>, AllocError>
+    requires { IsReady p.now h.now n }
+    ensures { IfOk result (λ o. IsBestWithin (problem_of p.now) (At h.now) n limit (option_map tree_of o)) }
+{
+    if met(p, h) {
+        return Ok(Some(Tree::Goal));
+    }
+    if n == 0 || limit == 0 {
+        return Ok(None);
+    }
+    best_of_choices(alloc, p, h, n - 1, limit)
+}
+
+/// The same where the goal isn't met, with `n` for what follows a choice: over the choices in order, where a later tree is
+/// better only if it costs less than the one that was found.
+#[cycle(searching)]
+fn best_of_choices(
+    alloc: Global,
+    p: &Problem<'_>,
+    h: &History,
+    n: u32,
+    limit: u32,
+) -> Result<Option<Tree>, AllocError>
+    requires ready { IsReady p.now h.now (n + 1) }
+    requires unmet { met (problem_of p.now) h.now ≡ false }
+    ensures { IfOk result (λ o. IsBestWithin (problem_of p.now) (At h.now) (n + 1) limit (option_map tree_of o)) }
+{
+    let all = choices(alloc, p, h.last())?;
+    let mut best = None;
+    let mut below = limit;
+    for c in all.as_slice() {
+        if let Some(t) = best_by_choice(alloc, p, h, n, below, c)? {
+            below = cost(p, &t) - 1;
+            best = Some(t);
+        }
+    }
+    Ok(best)
+}
+
+/// The best tree with the choice at its root.
+#[cycle(searching)]
+fn best_by_choice(
+    alloc: Global,
+    p: &Problem<'_>,
+    h: &History,
+    n: u32,
+    limit: u32,
+    c: &Choice,
+) -> Result<Option<Tree>, AllocError>
+    requires ready { IsReady p.now h.now (n + 1) }
+    requires chosen { IsIn (choice_of c.now) (choices (problem_of p.now) (last_moment h.now)) }
+    ensures { IfOk result (λ o. IsBestOf (problem_of p.now) (IsCheapBy (problem_of p.now) h.now (n + 1) limit (choice_of c.now)) (option_map tree_of o)) }
+{
+    match c {
+        Choice::Act(step) => best_by_action(alloc, p, h, n, limit, step),
+        Choice::Branch(test) => best_by_branch(alloc, p, h, n, limit, test),
+        Choice::Cases(term) => best_by_cases(alloc, p, h, n, limit, term),
+    }
+}
+
+/// The best tree with the action at its root.
+#[cycle(searching)]
+fn best_by_action(
+    alloc: Global,
+    p: &Problem<'_>,
+    h: &History,
+    n: u32,
+    limit: u32,
+    step: &Instance,
+) -> Result<Option<Tree>, AllocError>
+    requires ready { IsReady p.now h.now (n + 1) }
+    requires chosen { IsIn (instance_of step.now) (instances (problem_of p.now) (last_moment h.now)) }
+    ensures { IfOk result (λ o. IsBestOf (problem_of p.now) (IsCheapBy (problem_of p.now) h.now (n + 1) limit (Act (instance_of step.now))) (option_map tree_of o)) }
+{
+    let own = price(p, step.act);
+    if limit < own {
+        return Ok(None);
+    }
+    let next = best_after(alloc, p, h, n, limit - own, step)?;
+    act(alloc, *step, next)
+}
+
+/// The best tree after the action.
+#[cycle(searching)]
+fn best_after(
+    alloc: Global,
+    p: &Problem<'_>,
+    h: &History,
+    n: u32,
+    limit: u32,
+    step: &Instance,
+) -> Result<Option<Tree>, AllocError>
+    requires ready { IsReady p.now h.now (n + 1) }
+    requires chosen { IsIn (instance_of step.now) (instances (problem_of p.now) (last_moment h.now)) }
+    ensures { IfOk result (λ o. IsBestAfter (problem_of p.now) h.now (instance_of step.now) n limit (option_map tree_of o)) }
+{
+    match progress(alloc, p, h.last(), step)? {
+        Step::Clash(_) => Ok(Some(Tree::Impossible)),
+        Step::Next(d) => {
+            let longer = h.push(alloc, *step, d)?;
+            best_within(alloc, p, &longer, n, limit)
+        }
+    }
+}
+
+/// The best tree with the branch at its root. Where its true side has no tree, its false side isn't searched.
+#[cycle(searching)]
+fn best_by_branch(
+    alloc: Global,
+    p: &Problem<'_>,
+    h: &History,
+    n: u32,
+    limit: u32,
+    test: &Conj,
+) -> Result<Option<Tree>, AllocError>
+    requires ready { IsReady p.now h.now (n + 1) }
+    requires member { IsIn (conj_of test.now) (last_moment h.now).kw }
+    requires undecided { is_undecided (problem_of p.now).signature (last_moment h.now) (conj_of test.now) ≡ true }
+    ensures { IfOk result (λ o. IsBestOf (problem_of p.now) (IsCheapBy (problem_of p.now) h.now (n + 1) limit (BranchOn (conj_of test.now))) (option_map tree_of o)) }
+{
+    if limit == 0 {
+        return Ok(None);
+    }
+    let c = Choice::Branch(*test);
+    let Some(yes) = best_taking(alloc, p, h, n, limit - 1, &c, Side::True)? else {
+        return Ok(None);
+    };
+    let Some(no) = best_taking(alloc, p, h, n, limit - 1, &c, Side::False)? else {
+        return Ok(None);
+    };
+    let tree = branch(alloc, *test, yes, no)?;
+    Ok(Some(tree))
+}
+
+/// The best tree with cases on the term at its root.
+#[cycle(searching)]
+fn best_by_cases(
+    alloc: Global,
+    p: &Problem<'_>,
+    h: &History,
+    n: u32,
+    limit: u32,
+    term: &Term,
+) -> Result<Option<Tree>, AllocError>
+    requires ready { IsReady p.now h.now (n + 1) }
+    requires member { IsIn (term_of term.now) (last_moment h.now).kv }
+    requires splits { may_split (problem_of p.now).signature (last_moment h.now) (term_of term.now) ≡ true }
+    ensures { IfOk result (λ o. IsBestOf (problem_of p.now) (IsCheapBy (problem_of p.now) h.now (n + 1) limit (CasesOn (term_of term.now))) (option_map tree_of o)) }
+{
+    if limit == 0 {
+        return Ok(None);
+    }
+    let objects = left(alloc, p, h.last(), term)?;
+    let chain = best_chain(alloc, p, h, n, limit - 1, term, objects.as_slice())?;
+    cases(alloc, *term, chain)
+}
+
+/// The best cases on the objects. Where one has no tree, the later ones aren't searched.
+#[cycle(searching)]
+fn best_chain(
+    alloc: Global,
+    p: &Problem<'_>,
+    h: &History,
+    n: u32,
+    limit: u32,
+    term: &Term,
+    objects: &[ObjId],
+) -> Result<Option<CaseChain>, AllocError>
+    requires ready { IsReady p.now h.now (n + 1) }
+    requires member { IsIn (term_of term.now) (last_moment h.now).kv }
+    requires sides { Each (λ e. IsIn e (range_of (problem_of p.now).signature (term_of term.now))) (map object_of objects.now) }
+    requires few { length objects.now ≤ 16 }
+    ensures { IfOk result (λ o. AreBestCheapCases (problem_of p.now) h.now (term_of term.now) n limit (map object_of objects.now) (option_map chain_of o)) }
+{
+    let [object, others @ ..] = objects else {
+        return Ok(Some(CaseChain::Empty));
+    };
+    let c = Choice::Cases(*term);
+    let Some(tree) = best_taking(alloc, p, h, n, limit, &c, Side::Is(*object))? else {
+        return Ok(None);
+    };
+    let Some(rest) = best_chain(alloc, p, h, n, limit, term, others)? else {
+        return Ok(None);
+    };
+    let rest = Box::new(alloc, rest)?;
+    Ok(Some(CaseChain::More {
+        object: *object,
+        tree,
+        rest,
+    }))
+}
+
+/// The best tree where the side is taken: assumed, and the history settled.
+#[cycle(searching)]
+fn best_taking(
+    alloc: Global,
+    p: &Problem<'_>,
+    h: &History,
+    n: u32,
+    limit: u32,
+    c: &Choice,
+    side: Side,
+) -> Result<Option<Tree>, AllocError>
+    requires ready { IsReady p.now h.now (n + 1) }
+    requires member { IsMember (last_moment h.now) (choice_of c.now) }
+    requires side { IsSideOf (problem_of p.now).signature (choice_of c.now) (side_of side) }
+    ensures { IfOk result (λ o. IsBestTaking (problem_of p.now) h.now (choice_of c.now) (side_of side) n limit (option_map tree_of o)) }
+{
+    match assume(alloc, p, h.last(), c, side)? {
+        Step::Clash(_) => Ok(Some(Tree::Impossible)),
+        Step::Next(d) => match settle(alloc, p, h, d)? {
+            Settled::Clash => Ok(Some(Tree::Impossible)),
+            Settled::Whole(settled) => best_within(alloc, p, &settled, n, limit),
+        },
+    }
+}
