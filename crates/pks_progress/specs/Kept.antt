@@ -1,13 +1,13 @@
 -- What an action leaves of databases, before its adds are put in.
-use Rattle.std.specs.Prelude.{Bool, not, List, [], ◌∷◌, Option, Some, None, if◌then◌else◌}
-use Rattle.std.specs.List.{filter, filter_map}
+use Rattle.std.specs.Prelude.{Bool, not, ◌&&◌, ◌==◌, List, [], ◌∷◌, Option, Some, None, if◌then◌else◌}
+use Rattle.std.specs.List.{list_all, filter, filter_map}
 use Rattle.std.specs.Option.{option_map, option_and_then}
 use Rattle.pks_terms.specs.Sets.{set_of}
-use Rattle.pks_terms.specs.Syntax.{Atom, Pattern}
+use Rattle.pks_terms.specs.Syntax.{Literal, Atom, Pattern}
 use Rattle.pks_terms.specs.Signatures.{Signature}
 use Rattle.pks_terms.specs.Databases.{Entry, entry_cmp, Five}
 use Rattle.pks_terms.specs.Actions.{Target, Set, Unset, Clear, Assign, Effect}
-use Rattle.pks_terms.specs.Spoiling.{may_fire, is_stable, are_stable, spoils}
+use Rattle.pks_terms.specs.Spoiling.{may_fire, some_fixed_differ, is_stable, are_stable, spoils}
 use Rattle.pks_terms.specs.Progress.{is_untouched, entry_terms, widened_by, kept_entry}
 
 -- what of each of the five lasts
@@ -40,3 +40,15 @@ widened_with s d es x (a ∷ atoms) listed = option_and_then (widened_with s d e
 abbrev pub kept_with : Signature → Five → List Effect → List Atom → Entry → Option Entry
 kept_with s d es atoms r =
     if are_stable s d es (entry_terms r) then option_map (λ listed. record { pattern = r.pattern; listed = listed }) (widened_with s d es r.pattern atoms r.listed) else None
+
+-- the atom isn't an instance of the pattern
+abbrev pub is_elsewhere : Signature → List Literal → Pattern → Atom → Bool
+is_elsewhere s kf x a = not ((a.predicate == x.predicate) && not (some_fixed_differ s kf x.slots a.arguments))
+
+-- the region lasts as it is
+abbrev pub stays : Signature → Five → List Effect → List Atom → Entry → Bool
+stays s d es atoms r = are_stable s d es (entry_terms r) && list_all (is_elsewhere s d.kf r.pattern) atoms
+
+-- the region where it doesn't last as it is, or none where it does or is lost
+abbrev pub changed_with : Signature → Five → List Effect → List Atom → Entry → Option Entry
+changed_with s d es atoms r = if stays s d es atoms r then None else kept_with s d es atoms r

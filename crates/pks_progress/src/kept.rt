@@ -1,27 +1,23 @@
 //! What an action leaves of databases. `docs/RULES.md`, "Progression".
 ghost use Rattle.std.specs.Prelude.{◌≡◌, ◌&&◌, not, map, IfOk};
-ghost use Rattle.std.specs.List.{filter, filter_map};
-ghost use Rattle.pks_terms.specs.Databases.{entry_cmp};
-ghost use Rattle.pks_terms.specs.Progress.{is_untouched, kept_entry};
-ghost use Rattle.pks_terms.specs.Sets.{set_of};
+ghost use Rattle.std.specs.List.{filter};
+ghost use Rattle.pks_terms.specs.Progress.{is_untouched};
 ghost use Rattle.pks_terms.specs.Spoiling.{is_stable, spoils};
 ghost use Rattle.pks_terms.specs.Syntax.{negated};
 ghost use Rattle.pks_terms.specs.Views.{conj_of, literal_of, literals_in, signature_of, term_of, terms_of};
 ghost use Rattle.pks_kf.specs.Known.{literals_of};
 ghost use Rattle.pks_kw.specs.Formulas.{formulas_of};
 ghost use Rattle.pks_kx.specs.Groups.{groups_of};
-ghost use Rattle.pks_lcw.specs.Entries.{entries_of};
 ghost use Rattle.pks_normal.specs.Fives.{five_of};
 ghost use Rattle.pks_spoiling.specs.EffectViews.{effects_in};
 ghost use Rattle.pks_progress.specs.Kept.{kept_after};
 
-use crate::regions;
+use crate::regions::kept_regions;
 use pks_derived::derived::Derived;
 use pks_kf::Kf;
 use pks_kv::Kv;
 use pks_kw::Kw;
 use pks_kx::Kx;
-use pks_lcw::Lcw;
 use pks_normal::five::Five;
 use pks_spoiling::effects::Effects;
 use pks_spoiling::spoiled::{is_stable, spoils};
@@ -92,20 +88,6 @@ fn kept_groups(alloc: Global, s: &Signature, d: &Derived, es: Effects<'_>) -> Re
         .five()
         .kx
         .kept(alloc, |g| is_untouched(s, d, es, g.as_slice()))?;
-    Ok(kept)
-}
-
-/// The regions that last.
-fn kept_regions(
-    alloc: Global,
-    s: &Signature,
-    d: &Derived,
-    es: Effects<'_>,
-) -> Result<Lcw, AllocError>
-    ensures { IfOk result (λ lcw. entries_of lcw ≡ set_of entry_cmp (filter_map (kept_entry (signature_of s.now) (five_of d.now) (effects_in es.entry)) (entries_of d.now.lcw))) }
-{
-    let entries = regions::kept_regions(alloc, s, d, es)?;
-    let kept = Lcw::empty().added(alloc, entries)?;
     Ok(kept)
 }
 

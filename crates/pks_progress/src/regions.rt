@@ -1,18 +1,23 @@
 //! The closed regions that last, their lists widened by what may have become true. `docs/RULES.md`, "Progression".
 ghost use Rattle.std.specs.Prelude.{◌≡◌, map, IfOk};
-ghost use Rattle.std.specs.List.{filter_map, flat_map};
+ghost use Rattle.std.specs.List.{list_all, filter, filter_map, flat_map};
 ghost use Rattle.std.specs.Option.{option_map};
+ghost use Rattle.std.specs.Ordering.{on};
 ghost use Rattle.pks_terms.specs.Actions.{Set, effect_at};
+ghost use Rattle.pks_terms.specs.Databases.{entry_cmp};
+ghost use Rattle.pks_terms.specs.Sets.{IsOrdered, set_of};
 ghost use Rattle.pks_terms.specs.Progress.{fixed_terms, entry_terms, widened_by, kept_entry};
 ghost use Rattle.pks_terms.specs.Spoiling.{may_fire, are_stable};
 ghost use Rattle.pks_terms.specs.Views.{atom_of, effect_of, given_of, pattern_of, signature_of, term_of};
+ghost use Rattle.pks_kf.specs.Known.{literals_of};
 ghost use Rattle.pks_lcw.specs.Entries.{atoms_of, entry_of, entries_of};
 ghost use Rattle.pks_normal.specs.Fives.{five_of};
 ghost use Rattle.pks_spoiling.specs.EffectViews.{effects_in};
-ghost use Rattle.pks_progress.specs.Kept.{atom_set, atoms_set, widened_with, kept_with};
+ghost use Rattle.pks_progress.specs.Kept.{atom_set, atoms_set, widened_with, kept_with, is_elsewhere, stays, changed_with};
 
 use pks_closing::forms::normal_atom;
 use pks_derived::derived::Derived;
+use pks_lcw::Lcw;
 use pks_lcw::atoms::AtomSet;
 use pks_lcw::entry::Entry;
 use pks_spoiling::effects::Effects;
@@ -102,7 +107,7 @@ fn widened_by(
 ) -> Result<Option<AtomSet>, AllocError>
     ensures { IfOk result (λ o. option_map atoms_of o ≡ widened_by (signature_of s.now) (five_of d.now) (effects_in es.entry) (pattern_of x.now) (Set (atom_of a.now)) (atoms_of listed)) }
 {
-    if a.pred.0 != x.pred.0 || some_fixed_differ(s, d, front(&x.args, x.n), front(&a.args, a.n)) {
+    if is_elsewhere(s, d, x, a) {
         return Ok(Some(listed));
     }
     let normal = normal_atom(d.normals(), a);
@@ -156,34 +161,94 @@ fn kept_entry(
     }
 }
 
-fn kept_entries(
+fn is_elsewhere(s: &Signature, d: &Derived, x: &Pattern, a: &PredAtom) -> bool
+    ensures { result ≡ is_elsewhere (signature_of s.now) (literals_of d.now.kf) (pattern_of x.now) (atom_of a.now) }
+{
+    a.pred.0 != x.pred.0 || some_fixed_differ(s, d, front(&x.args, x.n), front(&a.args, a.n))
+}
+
+fn are_elsewhere(s: &Signature, d: &Derived, x: &Pattern, atoms: &[PredAtom]) -> bool
+    ensures { result ≡ list_all (is_elsewhere (signature_of s.now) (literals_of d.now.kf) (pattern_of x.now)) (atoms_of atoms.now) }
+{
+    match atoms {
+        [] => true,
+        [a, atoms @ ..] => is_elsewhere(s, d, x, a) && are_elsewhere(s, d, x, atoms),
+    }
+}
+
+/// Whether the region lasts as it is.
+fn stays(s: &Signature, d: &Derived, es: Effects<'_>, atoms: &[PredAtom], r: &Entry) -> bool
+    ensures { result ≡ stays (signature_of s.now) (five_of d.now) (effects_in es.entry) (atoms_of atoms.now) (entry_of r.now) }
+{
+    entry_is_stable(s, d, es, r) && are_elsewhere(s, d, &r.pattern, atoms)
+}
+
+/// The region where it does not last as it is, or nothing where it does or is lost.
+fn changed_entry(
+    alloc: Global,
+    s: &Signature,
+    d: &Derived,
+    es: Effects<'_>,
+    atoms: &[PredAtom],
+    r: &Entry,
+) -> Result<Option<Entry>, AllocError>
+    ensures { IfOk result (λ o. option_map entry_of o ≡ changed_with (signature_of s.now) (five_of d.now) (effects_in es.entry) (atoms_of atoms.now) (entry_of r.now)) }
+{
+    if stays(s, d, es, atoms, r) {
+        return Ok(None);
+    }
+    let changed = kept_entry(alloc, s, d, es, atoms, r)?;
+    Ok(changed)
+}
+
+/// The regions that last in another form.
+fn changed_entries(
     alloc: Global,
     s: &Signature,
     d: &Derived,
     es: Effects<'_>,
     atoms: &[PredAtom],
 ) -> Result<Vec<Entry>, AllocError>
-    ensures { IfOk result (λ v. entries_of v.items ≡ filter_map (kept_with (signature_of s.now) (five_of d.now) (effects_in es.entry) (atoms_of atoms.now)) (entries_of d.now.lcw)) }
+    ensures { IfOk result (λ v. entries_of v.items ≡ filter_map (changed_with (signature_of s.now) (five_of d.now) (effects_in es.entry) (atoms_of atoms.now)) (entries_of d.now.lcw)) }
 {
-    let mut kept = Vec::new(alloc);
+    let mut changed = Vec::new(alloc);
     for r in d.five().lcw.items() {
-        if let Some(entry) = kept_entry(alloc, s, d, es, atoms, r)? {
-            kept.push(entry)?;
+        if let Some(entry) = changed_entry(alloc, s, d, es, atoms, r)? {
+            changed.push(entry)?;
         }
     }
-    Ok(kept)
+    Ok(changed)
 }
 
-/// The regions that last, in the order of those before.
+/// The regions that last as they are. They share each part of the tree in which all do.
+fn same_entries(
+    alloc: Global,
+    s: &Signature,
+    d: &Derived,
+    es: Effects<'_>,
+    atoms: &[PredAtom],
+) -> Result<Lcw, AllocError>
+    ensures same { IfOk result (λ lcw. entries_of lcw ≡ filter (stays (signature_of s.now) (five_of d.now) (effects_in es.entry) (atoms_of atoms.now)) (entries_of d.now.lcw)) }
+    ensures ordered { IfOk result (λ lcw. IsOrdered (on entry_of entry_cmp) d.now.lcw) }
+{
+    let before = &d.five().lcw;
+    let _count = before.len();
+    let same = before.kept(alloc, |r| stays(s, d, es, atoms, r))?;
+    Ok(same)
+}
+
+/// The regions that last, their lists widened. What lasts as it is shares its memory.
 pub(crate) fn kept_regions(
     alloc: Global,
     s: &Signature,
     d: &Derived,
     es: Effects<'_>,
-) -> Result<Vec<Entry>, AllocError>
-    ensures { IfOk result (λ v. entries_of v.items ≡ filter_map (kept_entry (signature_of s.now) (five_of d.now) (effects_in es.entry)) (entries_of d.now.lcw)) }
+) -> Result<Lcw, AllocError>
+    ensures { IfOk result (λ lcw. entries_of lcw ≡ set_of entry_cmp (filter_map (kept_entry (signature_of s.now) (five_of d.now) (effects_in es.entry)) (entries_of d.now.lcw))) }
 {
     let atoms = atoms_set(alloc, s, d, es)?;
-    let kept = kept_entries(alloc, s, d, es, atoms.as_slice())?;
+    let changed = changed_entries(alloc, s, d, es, atoms.as_slice())?;
+    let same = same_entries(alloc, s, d, es, atoms.as_slice())?;
+    let kept = same.added(alloc, changed)?;
     Ok(kept)
 }
