@@ -2,17 +2,19 @@
 ghost use Rattle.std.specs.Prelude.{◌≡◌, ◌≤◌, [], IfOk, IfSome, option_map};
 ghost use Rattle.pks_terms.specs.Worlds.{World};
 ghost use Rattle.pks_terms.specs.Syntax.{Literal};
-ghost use Rattle.pks_terms.specs.Closure.{Clash, Closes};
+ghost use Rattle.pks_terms.specs.Closure.{Next, Clash, Closes};
 ghost use Rattle.pks_terms.specs.Problems.{initial, IsCompatible};
 ghost use Rattle.pks_terms.specs.Answers.{unjustified};
 ghost use Rattle.pks_terms.specs.Trees.{IsBest};
 ghost use Rattle.pks_terms.specs.Knowledge.{Good};
 ghost use Rattle.pks_terms.specs.ValidProblems.{IsValidProblem};
 ghost use Rattle.pks_terms.specs.Views.{problem_of};
+ghost use Rattle.pks_normal.specs.Fives.{five_of};
 ghost use Rattle.pks_plan.specs.TreeViews.{tree_of};
 ghost use Rattle.pks_search.specs.Past.{RemembersPast};
 
 use pks_plan::tree::Tree;
+use pks_query::db::Db;
 use pks_terms::problem::Problem;
 use std::alloc::{AllocError, Global};
 
@@ -30,6 +32,31 @@ pub fn best(alloc: Global, p: &Problem<'_>, depth: u8) -> Result<Option<Tree>, A
     ensures good { IfOk result (λ o. IfSome o (λ t. (w : World) → IsCompatible (problem_of p.now) w → Good (problem_of p.now) (tree_of t) w)) }
     ensures past { IfOk result (λ o. IfSome o (λ t. RemembersPast (problem_of p.now) (tree_of t))) }
 {
-    let _known = (alloc, p, depth);
+    let _alloc = alloc;
+    let _p = p;
+    let _depth = depth;
+    Err(AllocError)
+}
+
+/// The best derived tree as `best` has it, from the first databases, which are those of the problem. It asks for a valid
+/// problem whose adds are all justified, and for a depth of at most 16. The error is want of memory.
+pub fn best_from(
+    alloc: Global,
+    p: &Problem<'_>,
+    start: Db,
+    depth: u8,
+) -> Result<Option<Tree>, AllocError>
+    requires valid { IsValidProblem p.now }
+    requires depth { depth ≤ 16 }
+    requires justified { unjustified (problem_of p.now) ≡ [] }
+    requires begins { Closes (problem_of p.now).signature (initial (problem_of p.now)) (Next (five_of start)) }
+    ensures best { IfOk result (λ o. IsBest (problem_of p.now) depth (option_map tree_of o)) }
+    ensures good { IfOk result (λ o. IfSome o (λ t. (w : World) → IsCompatible (problem_of p.now) w → Good (problem_of p.now) (tree_of t) w)) }
+    ensures past { IfOk result (λ o. IfSome o (λ t. RemembersPast (problem_of p.now) (tree_of t))) }
+{
+    let _alloc = alloc;
+    let _p = p;
+    let _start = start;
+    let _depth = depth;
     Err(AllocError)
 }
