@@ -102,22 +102,24 @@ fn known(alloc: Global) -> Result<Kf, AllocError> {
     Ok(kf)
 }
 
-fn databases(alloc: Global) -> Result<Derived, AllocError> {
+fn five(alloc: Global) -> Result<Five, AllocError> {
     let kf = known(alloc)?;
     let kw = Kw::empty().add(alloc, Conj::empty().with(&is_at(object(0))))?;
     let kv = Kv::empty().add(alloc, here())?;
     let kx = groups(alloc)?;
     let lcw = Lcw::empty().add(alloc, region())?;
-    Derived::of(
-        alloc,
-        Five {
-            kf,
-            kw,
-            kv,
-            kx,
-            lcw,
-        },
-    )
+    Ok(Five {
+        kf,
+        kw,
+        kv,
+        kx,
+        lcw,
+    })
+}
+
+fn databases(alloc: Global) -> Result<Derived, AllocError> {
+    let five = five(alloc)?;
+    Derived::of(alloc, five)
 }
 
 fn always(target: Target) -> Effect {
