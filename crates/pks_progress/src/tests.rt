@@ -102,22 +102,24 @@ fn known(alloc: Global) -> Result<Kf, AllocError> {
     Ok(kf)
 }
 
-fn databases(alloc: Global) -> Result<Derived, AllocError> {
+fn five(alloc: Global) -> Result<Five, AllocError> {
     let kf = known(alloc)?;
     let kw = Kw::empty().add(alloc, Conj::empty().with(&is_at(object(0))))?;
     let kv = Kv::empty().add(alloc, here())?;
     let kx = groups(alloc)?;
     let lcw = Lcw::empty().add(alloc, region())?;
-    Derived::of(
-        alloc,
-        Five {
-            kf,
-            kw,
-            kv,
-            kx,
-            lcw,
-        },
-    )
+    Ok(Five {
+        kf,
+        kw,
+        kv,
+        kx,
+        lcw,
+    })
+}
+
+fn databases(alloc: Global) -> Result<Derived, AllocError> {
+    let five = five(alloc)?;
+    Derived::of(alloc, five)
 }
 
 fn always(target: Target) -> Effect {
@@ -183,35 +185,35 @@ fn assigns() -> Effect {
     })
 }
 
+// What isn't spoiled lasts: other atoms are set, or an effect can't fire.
+fn lasts(alloc: Global, s: &Signature, d: &Derived) -> Result<bool, AllocError> {
+    let never = only_if(&is_at(object(0)).negated(), Target::Unset(at(object(0))));
+    let other = left(alloc, s, d, &[always(Target::Set(done()))])?;
+    let elsewhere = left(alloc, s, d, &[always(Target::Set(at(Term::Param(0))))])?;
+    let unfired = left(alloc, s, d, &[never])?;
+    Ok(
+        other == (1, 1, 1, 1, 1, 0)
+            && elsewhere == (1, 1, 1, 1, 1, 1)
+            && unfired == (1, 1, 1, 1, 1, 0),
+    )
+}
+
+// What is spoiled is dropped: under another name, by an assignment, and a region whose new atom isn't stable.
+fn is_dropped(alloc: Global, s: &Signature, d: &Derived) -> Result<bool, AllocError> {
+    let alias = left(alloc, s, d, &[always(Target::Unset(at(here())))])?;
+    let moved = left(alloc, s, d, &[assigns()])?;
+    let lost = left(alloc, s, d, &[always(Target::Set(at(here()))), assigns()])?;
+    Ok(alias == (0, 0, 1, 0, 1, 0) && moved == (1, 1, 0, 1, 1, 0) && lost == (1, 0, 0, 0, 0, 0))
+}
+
 #[test]
 fn what_is_not_spoiled_lasts(rt: HostRuntime) -> Result<(), Fail> {
     let alloc = rt.alloc();
     let s = signature(alloc)?;
     let d = databases(alloc)?;
-    let other = left(alloc, &s, &d, &[always(Target::Set(done()))])?;
-    assert!(rt; other == (1, 1, 1, 1, 1, 0));
-    let elsewhere = left(alloc, &s, &d, &[always(Target::Set(at(Term::Param(0))))])?;
-    assert!(rt; elsewhere == (1, 1, 1, 1, 1, 1));
-    let never = left(
-        alloc,
-        &s,
-        &d,
-        &[only_if(&is_at(object(0)).negated(), Target::Unset(at(object(0))))],
-    )?;
-    assert!(rt; never == (1, 1, 1, 1, 1, 0));
-    Ok(())
-}
-
-#[test]
-fn what_is_spoiled_is_dropped(rt: HostRuntime) -> Result<(), Fail> {
-    let alloc = rt.alloc();
-    let s = signature(alloc)?;
-    let d = databases(alloc)?;
-    let alias = left(alloc, &s, &d, &[always(Target::Unset(at(here())))])?;
-    assert!(rt; alias == (0, 0, 1, 0, 1, 0));
-    let moved = left(alloc, &s, &d, &[assigns()])?;
-    assert!(rt; moved == (1, 1, 0, 1, 1, 0));
-    let lost = left(alloc, &s, &d, &[always(Target::Set(at(here()))), assigns()])?;
-    assert!(rt; lost == (1, 0, 0, 0, 0, 0));
+    let lasts = lasts(alloc, &s, &d)?;
+    let dropped = is_dropped(alloc, &s, &d)?;
+    assert!(rt; lasts);
+    assert!(rt; dropped);
     Ok(())
 }
