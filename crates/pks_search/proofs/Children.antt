@@ -9,7 +9,7 @@ use Rattle.pks_terms.specs.Progress.{Progress}
 use Rattle.pks_terms.specs.Problems.{Problem, schema_of}
 use Rattle.pks_terms.specs.Branching.{instances, is_undecided, left, may_split, Choice, Act, BranchOn, CasesOn, Side, AsTrue, AsFalse, Is, Assumes}
 use Rattle.pks_terms.specs.Settling.{History, last_moment, pushed, with_last, State, At, Stopped, Settles}
-use Rattle.pks_terms.specs.Trees.{Tree, Impossible, Do, Branch, Cases, Chain, End, More, Acts, Takes, IsBestOf}
+use Rattle.pks_terms.specs.Trees.{Tree, Impossible, Do, Branch, Cases, Chain, End, More, IsBestOf}
 use Rattle.pks_terms.specs.Searching.{both_sides}
 use Rattle.pks_search.specs.Limits.{IsBestWithin, IsCheapBy, IsBestAfter, IsBestTaking, AreBestCheapCases}
 use Rattle.pks_search.proofs.Limited.{price, cheap_stopped, cheap_act, cheap_end, cheap_branch, cheap_branch-no_first, cheap_more, cheap_more-no_first, cheap_cases}

@@ -1,9 +1,9 @@
 -- The search over depths, one after another, with a limit on cost that falls.
-use Rattle.std.proofs.Common.{◌≡◌, ◌≤◌, ◌<◌, ◌+◌, ◌*◌, ◌⊎◌, inl, inr, ℕ, Option, Some, None, ⊎_elim, arith}
+use Rattle.std.proofs.Common.{◌≤◌, ◌+◌, inl, inr, ℕ, Option, Some, None, ⊎_elim, arith}
 use Rattle.std.proofs.lemmas.Bool.{cases_lt}
 use Rattle.pks_terms.specs.Problems.{Problem}
 use Rattle.pks_terms.specs.Settling.{State}
-use Rattle.pks_terms.specs.Trees.{Tree, depth, cost, IsBefore, IsBestAt, IsDerivedWithin}
+use Rattle.pks_terms.specs.Trees.{Tree, depth, cost, IsBestAt}
 use Rattle.pks_terms.specs.Valid.{IsValid}
 use Rattle.pks_plan.proofs.Costs.{cost_most}
 use Rattle.pks_search.specs.Limits.{IsBestWithin, IsLimitAt}

@@ -1,13 +1,13 @@
 -- The search over the choices at a history, one after another, and over depths.
-use Rattle.std.proofs.Common.{◌≡◌, ◌≤◌, ◌<◌, ◌+◌, ◌⊎◌, inl, inr, ℕ, true, false, List, [], ◌∷◌, ◌++◌, map, filter, Option, Some, None, Less, refl, sym, ap, ◌∙◌, subst, ⊎_elim, arith, true≢false}
+use Rattle.std.proofs.Common.{◌≡◌, ◌≤◌, ◌+◌, ◌⊎◌, inl, inr, ℕ, false, List, [], ◌∷◌, ◌++◌, map, filter, Option, Some, None, Less, refl, sym, ap, ◌∙◌, subst, ⊎_elim, arith, true≢false}
 use Rattle.std.proofs.lemmas.Bool.{cases_lt}
 use Rattle.std.proofs.lemmas.Option.{same_Some}
 use Rattle.pks_terms.specs.Sets.{Each, IsIn}
 use Rattle.pks_terms.specs.Problems.{Problem}
 use Rattle.pks_terms.specs.Branching.{instances, is_undecided, may_split, Choice, Act, BranchOn, CasesOn, choices}
-use Rattle.pks_terms.specs.Settling.{History, last_moment, State, At, Stopped}
+use Rattle.pks_terms.specs.Settling.{History, last_moment, At, Stopped}
 use Rattle.pks_terms.specs.Aims.{met}
-use Rattle.pks_terms.specs.Trees.{Tree, Goal, Impossible, Do, Branch, Cases, depth, cost, Derives, IsBefore, IsBestOf, IsBestAt, IsDerivedWithin}
+use Rattle.pks_terms.specs.Trees.{Tree, Goal, Impossible, Do, Branch, Cases, cost, Derives, IsBefore, IsBestOf}
 use Rattle.pks_terms.specs.Searching.{root_choice, IsAmong}
 use Rattle.pks_terms.specs.Valid.{IsValid}
 use Rattle.pks_terms.proofs.ListLaws.{each_in, in_map, in_filter, in_appended}
@@ -15,7 +15,7 @@ use Rattle.pks_laws.proofs.Least.{in_left, in_right}
 use Rattle.pks_laws.proofs.BestTree.{before_through}
 use Rattle.pks_laws.proofs.Choosing.{best_without}
 use Rattle.pks_branch.specs.ChoiceOrder.{choice_cmp}
-use Rattle.pks_search.specs.Limits.{IsCheapWithin, IsBestWithin, IsCheapBy, IsCheapAmong, IsNextLimit, IsFoundAmong, IsLimitAt}
+use Rattle.pks_search.specs.Limits.{IsBestWithin, IsCheapBy, IsCheapAmong, IsNextLimit, IsFoundAmong}
 use Rattle.pks_search.proofs.Rooted.{cheaper, before_by_choice}
 use Rattle.pks_search.proofs.Costs.{depth_at_most_cost}
 use Rattle.pks_search.proofs.Limited.{needs_depth}

@@ -1,11 +1,11 @@
 -- Settling leaves a history as long as it was, and an action makes it longer by one.
-use Rattle.std.proofs.Common.{◌≡◌, ◌+◌, ℕ, zero, suc, Bool, true, false, List, [], ◌∷◌, ◌++◌, map, length, refl, sym, ap, ◌∙◌, subst, true≢false, arith, if◌then◌else◌}
-use Rattle.std.proofs.lemmas.List.{length-map, length-append}
+use Rattle.std.proofs.Common.{◌≡◌, ℕ, zero, suc, Bool, true, false, List, [], ◌∷◌, length, refl, sym, ap, ◌∙◌, true≢false, if◌then◌else◌}
+use Rattle.std.proofs.lemmas.List.{length-map}
 use Rattle.pks_terms.specs.Databases.{Five}
 use Rattle.pks_terms.specs.Closure.{tidied}
 use Rattle.pks_terms.specs.Actions.{Instance}
 use Rattle.pks_terms.specs.Problems.{Problem}
-use Rattle.pks_terms.specs.Settling.{History, State, At, Stopped, with_last, steps_with_last, settled_steps, settle_round, settle_rounds, tidied_history, clashes, Settles}
+use Rattle.pks_terms.specs.Settling.{History, At, Stopped, with_last, steps_with_last, settled_steps, settle_round, settle_rounds, tidied_history, clashes, Settles}
 use Rattle.pks_laws.proofs.BelongingHistories.{is_clash, history_or}
 
 steps_as_long : (steps : List (Instance × Five)) (d : Five) → length (steps_with_last steps d) ≡ length steps

@@ -1,5 +1,5 @@
 -- The best tree below a limit on cost, from the best of its children below what the root leaves of it.
-use Rattle.std.proofs.Common.{◌≡◌, ◌≤◌, ◌<◌, ◌+◌, ◌⊎◌, ℕ, true, false, List, [], ◌∷◌, Option, Some, None, option_map, refl, sym, ap, ◌∙◌, subst, arith, true≢false}
+use Rattle.std.proofs.Common.{◌≡◌, ◌≤◌, ◌<◌, ◌+◌, ℕ, true, false, List, [], ◌∷◌, Option, Some, None, option_map, refl, sym, ap, ◌∙◌, subst, arith, true≢false}
 use Rattle.std.proofs.lemmas.Option.{none-some}
 use Rattle.pks_terms.specs.Sets.{IsIn}
 use Rattle.pks_terms.specs.Syntax.{Term, Literal}
@@ -8,8 +8,8 @@ use Rattle.pks_terms.specs.Problems.{Problem, schema_of}
 use Rattle.pks_terms.specs.Branching.{instances, is_undecided, left, may_split, Act, BranchOn, CasesOn, AsTrue, AsFalse, Is}
 use Rattle.pks_terms.specs.Settling.{History, last_moment, State, At, Stopped}
 use Rattle.pks_terms.specs.Aims.{met}
-use Rattle.pks_terms.specs.Trees.{Tree, Goal, Impossible, Do, Branch, Cases, Chain, End, More, depth, cost, chain_cost, objects_in, Acts, Takes, Derives, IsBefore, IsBestOf}
-use Rattle.pks_terms.specs.Searching.{root_choice, IsDerivedBy, both_sides, one_more, AreCases, ChainBefore}
+use Rattle.pks_terms.specs.Trees.{Tree, Goal, Impossible, Do, Branch, Cases, Chain, End, More, depth, cost, objects_in, Acts, Takes, Derives, IsBefore, IsBestOf}
+use Rattle.pks_terms.specs.Searching.{both_sides, one_more, ChainBefore}
 use Rattle.pks_laws.proofs.Unique.{acts_one, takes_one}
 use Rattle.pks_laws.proofs.BestTree.{before_do, before_branch, before_end, before_more, before_cases}
 use Rattle.pks_laws.proofs.Choosing.{best_stopped, best_goal}

@@ -1,5 +1,5 @@
 -- Where the search may go on: histories stay short enough, and are of the problem; choices are what they must be.
-use Rattle.std.proofs.Common.{◌≡◌, ◌≤◌, ◌+◌, true, false, not, ℕ, nat_le, ◌&&◌, List, [], ◌∷◌, ◌++◌, map, filter, length, refl, sym, ap, ◌∙◌, subst, ⊎_elim, arith}
+use Rattle.std.proofs.Common.{◌≡◌, ◌≤◌, ◌+◌, true, not, ℕ, nat_le, List, [], ◌∷◌, ◌++◌, map, filter, length, refl, ◌∙◌, subst, ⊎_elim, arith}
 use Rattle.std.proofs.lemmas.Bool.{and_parts, leb-true}
 use Rattle.std.proofs.lemmas.List.{length-append}
 use Rattle.pks_terms.specs.declared.problem.Problem.{Problem as DProblem}
@@ -12,7 +12,7 @@ use Rattle.pks_terms.specs.Closure.{Next}
 use Rattle.pks_terms.specs.Actions.{Instance}
 use Rattle.pks_terms.specs.Progress.{Progress}
 use Rattle.pks_terms.specs.Problems.{Problem, schema_of}
-use Rattle.pks_terms.specs.Branching.{instances, is_undecided, left, may_split, Choice, Act, BranchOn, CasesOn, choices}
+use Rattle.pks_terms.specs.Branching.{instances, is_undecided, left, may_split, Act, BranchOn, CasesOn, choices}
 use Rattle.pks_terms.specs.Settling.{History, last_moment, pushed, with_last, At, Settles}
 use Rattle.pks_terms.specs.Views.{problem_of}
 use Rattle.pks_terms.proofs.ListLaws.{each_of, in_appended, in_mapped, in_filtered}

@@ -1,5 +1,5 @@
 -- Of trees that cost alike the one whose choice comes first is better.
-use Rattle.std.proofs.Common.{◌≡◌, ◌≤◌, ◌<◌, ◌+◌, [], Option, Some, None, Less, Equal, Greater, Ordering, nat_cmp, refl, sym, ap, ◌∙◌, subst, ⊎_elim, arith}
+use Rattle.std.proofs.Common.{◌≡◌, ◌≤◌, ◌<◌, ◌+◌, [], Some, Less, Equal, Greater, Ordering, nat_cmp, refl, sym, ◌∙◌, subst, ⊎_elim, arith}
 use Rattle.std.specs.Ordering.{ordering_then}
 use Rattle.std.specs.Cmp.{nat_cmp_is}
 use Rattle.std.specs.Cmp.Lexicographic.{slice_cmp}

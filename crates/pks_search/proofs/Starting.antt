@@ -1,5 +1,5 @@
 -- The best tree at the start, and what is promised of it.
-use Rattle.std.proofs.Common.{◌≡◌, ◌≤◌, ◌+◌, ℕ, [], Option, Some, None, option_map, refl, sym, ap, subst, arith}
+use Rattle.std.proofs.Common.{◌≡◌, ◌≤◌, ℕ, [], Option, Some, None, option_map, sym, subst, arith}
 use Rattle.std.specs.Option.{IfSome}
 use Rattle.pks_terms.specs.declared.problem.Problem.{Problem as DProblem}
 use Rattle.pks_terms.specs.Databases.{Five}

@@ -1,4 +1,4 @@
-use Rattle.std.proofs.Common.{◌≡◌, ◌≤◌, Some, option_map, sym, subst, arith}
+use Rattle.std.proofs.Common.{◌≤◌, Some, option_map, subst, arith}
 use Rattle.pks_terms.specs.Settling.{At}
 use Rattle.pks_terms.specs.Trees.{cost, IsBestAt}
 use Rattle.pks_terms.specs.Views.{problem_of}

@@ -6,7 +6,7 @@ use Rattle.pks_terms.specs.Signatures.{range_of}
 use Rattle.pks_terms.specs.Databases.{Five}
 use Rattle.pks_terms.specs.Branching.{choices, left, Act, BranchOn, CasesOn, AsTrue, AsFalse, Is}
 use Rattle.pks_terms.specs.Settling.{last_moment, with_last, At, Stopped, Settles}
-use Rattle.pks_terms.specs.Trees.{Tree, Impossible, cost, IsBestOf}
+use Rattle.pks_terms.specs.Trees.{Impossible, cost, IsBestOf}
 use Rattle.pks_terms.specs.Views.{term_of, conj_of, object_of, instance_of, problem_of}
 use Rattle.pks_laws.specs.OfSignature.{IsMomentOf, AreMomentsOf}
 use Rattle.pks_normal.specs.Fives.{five_of}
@@ -19,7 +19,7 @@ use Rattle.pks_branch.specs.ChoiceViews.{choice_of, side_of}
 use Rattle.pks_search.specs.Ready.{IsReady}
 use Rattle.pks_search.specs.Limits.{IsBestWithin, IsCheapBy, IsCheapAmong, IsFoundAmong, IsBestAfter, IsBestTaking, AreBestCheapCases}
 use Rattle.pks_search.proofs.Costs.{costs_at_most}
-use Rattle.pks_search.proofs.Limited.{cheap_stopped, cheap_goal, cheap_end, dear_branch, dear_cases}
+use Rattle.pks_search.proofs.Limited.{cheap_stopped, cheap_goal, price, dear_act, dear_branch, dear_cases}
 use Rattle.pks_search.proofs.Found.{found_first, found_none, found_some, found_all, none_at_depth, none_at_cost, costs_some}
 use Rattle.pks_terms.proofs.ListLaws.{in_map}
 use Rattle.pks_search.proofs.Looping.{in_list, taken_more, taken_before, first_and_others, none_left}
@@ -54,6 +54,11 @@ best_after-returns-in_ok-longer-in-Next t c =
     (subst (λ g. IsBestWithin p (At g) c.args.n c.args.limit (option_map tree_of o)) c.in_ok-longer-in-Next.ensures b))
     c.best_within.ensures
 
+pub best_by_action-returns-then-limit-own : goal.best_by_action-returns-then-limit-own
+best_by_action-returns-then-limit-own t c =
+    let dear : c.args.limit < price (problem_of c.args.p.now) (instance_of c.args.step.now) = omega (arith, c.if-limit-own.true, c.price-own.ensures) in
+    dear_act (problem_of c.args.p.now) c.args.h.now (c.args.n + 1) (instance_of c.args.step.now) c.args.limit dear
+
 pub best_by_action-returns : goal.best_by_action-returns
 best_by_action-returns t c =
     let p = problem_of c.args.p.now in
@@ -63,6 +68,12 @@ best_by_action-returns t c =
     c.act.ensures
 
 -- ---- branches
+
+pub best_by_branch-returns-then-limit-eq0 : goal.best_by_branch-returns-then-limit-eq0
+best_by_branch-returns-then-limit-eq0 t c =
+    let p = problem_of c.args.p.now in
+    let test = conj_of c.args.test.now in
+    subst (λ l. IsBestOf p (IsCheapBy p c.args.h.now (c.args.n + 1) l (BranchOn test)) None) (sym c.if-limit-eq0.true) (dear_branch p c.args.h.now (c.args.n + 1) test)
 
 pub best_by_branch-returns : goal.best_by_branch-returns
 best_by_branch-returns t c =
@@ -95,6 +106,12 @@ best_by_cases-best_chain-requires t c =
     let few : length c.as_slice.result.now ≤ 16 = omega arith in
     let less : c.args.n * 32 + 2 + length c.as_slice.result.now < t = omega (arith, c.decreases) in
     (less, (c.requires.ready, (c.requires.member, (subst (Each (λ e. IsIn e (range_of s x))) (sym all) (left_in_range s d x), few))))
+
+pub best_by_cases-returns-then-limit-eq0 : goal.best_by_cases-returns-then-limit-eq0
+best_by_cases-returns-then-limit-eq0 t c =
+    let p = problem_of c.args.p.now in
+    let x = term_of c.args.term.now in
+    subst (λ l. IsBestOf p (IsCheapBy p c.args.h.now (c.args.n + 1) l (CasesOn x)) None) (sym c.if-limit-eq0.true) (dear_cases p c.args.h.now (c.args.n + 1) x)
 
 pub best_by_cases-returns : goal.best_by_cases-returns
 best_by_cases-returns t c =
