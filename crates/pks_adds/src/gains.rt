@@ -29,8 +29,9 @@ fn declared<'a, 's>(p: &'a Problem<'s>, act: ActId) -> Option<&'a Schema<'s>>
     }
 }
 
-/// What the adds of this action give at the instance's arguments.
-fn gains_by(
+/// What the adds of this action, which needn't be declared, give at the instance's arguments in the databases before it, as
+/// `gains` does. It asks that what is assigned to is an application. The error is want of memory.
+pub fn gains_by(
     alloc: Global,
     s: &Signature,
     d: &Db,

@@ -8,4 +8,6 @@ pub mod gained;
 pub mod gains;
 mod literals;
 mod regions;
+#[cfg(test)]
+mod tests;
 mod values;

@@ -1,4 +1,4 @@
-pub mod Aiming
-pub mod Planned
+pub mod Lasting
 pub mod OneReply
-pub mod Found
+pub mod Objecting
+pub mod Planning

@@ -7,16 +7,16 @@ use Rattle.pks_terms.specs.Valid.{IsValid}
 use Rattle.pks_terms.specs.Trees.{Tree, depth, IsPlan, IsBest}
 use Rattle.pks_terms.specs.Knowledge.{run_of}
 use Rattle.pks_terms.specs.Jobs.{Job, Check, Plan, Exec, Bench, depth_for}
-use Rattle.pks_terms.specs.Printed.{Text, Refusal, name_in, none_text, refusal_text, tree_text, run_text}
+use Rattle.pks_terms.specs.Printed.{Text, Refusal, name_in, none_text, refusal_text, tree_text, run_text, bench_text}
 use Rattle.pks_terms.specs.Answers.{Stated, NoWorld, BadWorld, GivenWorld, File, refusal, unjustified, RefusesAdd, RefusesStart, RefusesWorld, RefusesRun, RefusesFor, NoneApplies, RefusesFile, IsDone}
 use Rattle.pks_laws.proofs.BestTree.{best_one}
-use Rattle.pks_laws.proofs.Accepting.{best_good}
 use Rattle.pks_exec.proofs.Breaking.{one_broken}
 use Rattle.pks_file.specs.Inputs.{Reads}
 use Rattle.pks_answer.specs.declared.reply.Verdict.{Verdict}
 use Rattle.pks_answer.specs.declared.reply.Verdict.TheVariants.{Done, NoPlan, Refused}
 use Rattle.pks_answer.specs.Goodness.{PrintsGoodPlan}
-use Rattle.pks_answer.specs.Replies.{IsPostponed, IsReply}
+use Rattle.pks_answer.specs.Replies.{IsReply}
+use Rattle.pks_answer.proofs.Lasting.{best_is_good}
 
 -- ---- one refusal
 
@@ -81,41 +81,34 @@ one_tree p n t u a b = same_Some t u (one_best p n (Some t) (Some u) a b)
 none_or_tree : (p : Problem) (n m : ℕ) (t : Tree) → Some m ≡ Some n → IsBest p n None → IsBest p m (Some t) → ⊥
 none_or_tree p n m t e a b = none-some t (one_best p n None (Some t) a (subst (λ k. IsBest p k (Some t)) (same_Some m n e) b))
 
-none_or_done : (j : Job) (f : File) (n : ℕ) (y : Text) → (IsPostponed j f → ⊥) → depth_for j ≡ Some n → IsBest f.problem n None → IsDone Reads j f y → ⊥
-none_or_done Check f n y post e a b = none-some n e
-none_or_done (Plan m) f n y post e a b = none_or_tree f.problem n m b.0 e a b.1
-none_or_done (Exec m) f n y post e a b = none_or_tree f.problem n m b.0 e a b.1
-none_or_done (Bench m) f n y post e a b = post tt
+none_or_done : (j : Job) (f : File) (n : ℕ) (y : Text) → depth_for j ≡ Some n → IsBest f.problem n None → IsDone Reads j f y → ⊥
+none_or_done Check f n y e a b = none-some n e
+none_or_done (Plan m) f n y e a b = none_or_tree f.problem n m b.0 e a b.1
+none_or_done (Exec m) f n y e a b = none_or_tree f.problem n m b.0 e a b.1
+none_or_done (Bench m) f n y e a b = none_or_tree f.problem n 2 b.0 e a b.1
 
 same_world : (w v : World) → GivenWorld w ≡ GivenWorld v → w ≡ v
 same_world w v e = cc
 
-one_done : (j : Job) (f : File) (x y : Text) → (IsPostponed j f → ⊥) → IsDone Reads j f x → IsDone Reads j f y → x ≡ y
-one_done Check f x y post a b = a ∙ sym b
-one_done (Plan n) f x y post a b = a.2 ∙ ap (tree_text f.names) (one_tree f.problem n a.0 b.0 a.1 b.1) ∙ sym b.2
-one_done (Exec n) f x y post a b =
+one_done : (j : Job) (f : File) (x y : Text) → IsDone Reads j f x → IsDone Reads j f y → x ≡ y
+one_done Check f x y a b = a ∙ sym b
+one_done (Plan n) f x y a b = a.2 ∙ ap (tree_text f.names) (one_tree f.problem n a.0 b.0 a.1 b.1) ∙ sym b.2
+one_done (Exec n) f x y a b =
     let trees : a.0 ≡ b.0 = one_tree f.problem n a.0 b.0 a.1 b.1 in
     let worlds : a.2.0 ≡ b.2.0 = same_world a.2.0 b.2.0 (sym a.2.1 ∙ b.2.1) in
     a.2.2 ∙ (λ i. run_text f.names (run_of f.problem (trees i) (worlds i))) ∙ sym b.2.2
-one_done (Bench n) f x y post a b = absurd (post tt)
+one_done (Bench n) f x y a b = a.2 ∙ ap (bench_text n) (one_tree f.problem 2 a.0 b.0 a.1 b.1) ∙ sym b.2
 
 pub one_reply : (j : Job) (f : File) (v u : Verdict) (x y : Text) → IsReply j f v x → IsReply j f u y → (v ≡ u) × (x ≡ y)
-one_reply j f Refused Refused x y (inl a) (inl b) = (refl, a.2 ∙ ap refusal_text (one_refusal j f a.0 b.0 a.1 b.1) ∙ sym b.2)
-one_reply j f Refused Refused x y (inl a) (inr b) = absurd (b.0 a.0 a.1)
-one_reply j f Refused Refused x y (inr a) (inl b) = absurd (a.0 b.0 b.1)
-one_reply j f Refused Refused x y (inr a) (inr b) = (refl, a.2 ∙ sym b.2)
-one_reply j f Refused NoPlan x y (inl a) b = absurd (b.0 a.0 a.1)
-one_reply j f Refused NoPlan x y (inr a) b = absurd (b.1 a.1)
-one_reply j f Refused Done x y (inl a) b = absurd (b.0 a.0 a.1)
-one_reply j f Refused Done x y (inr a) b = absurd (b.1 a.1)
-one_reply j f NoPlan Refused x y a (inl b) = absurd (a.0 b.0 b.1)
-one_reply j f NoPlan Refused x y a (inr b) = absurd (a.1 b.1)
-one_reply j f NoPlan NoPlan x y a b = (refl, a.2.3 ∙ ap none_text (same_Some a.2.0 b.2.0 (sym a.2.1 ∙ b.2.1)) ∙ sym b.2.3)
-one_reply j f NoPlan Done x y a b = absurd (none_or_done j f a.2.0 y a.1 a.2.1 a.2.2 b.2)
-one_reply j f Done Refused x y a (inl b) = absurd (a.0 b.0 b.1)
-one_reply j f Done Refused x y a (inr b) = absurd (a.1 b.1)
-one_reply j f Done NoPlan x y a b = absurd (none_or_done j f b.2.0 x b.1 b.2.1 b.2.2 a.2)
-one_reply j f Done Done x y a b = (refl, one_done j f x y a.1 a.2 b.2)
+one_reply j f Refused Refused x y a b = (refl, a.2 ∙ ap refusal_text (one_refusal j f a.0 b.0 a.1 b.1) ∙ sym b.2)
+one_reply j f Refused NoPlan x y a b = absurd (b.0 a.0 a.1)
+one_reply j f Refused Done x y a b = absurd (b.0 a.0 a.1)
+one_reply j f NoPlan Refused x y a b = absurd (a.0 b.0 b.1)
+one_reply j f NoPlan NoPlan x y a b = (refl, a.1.3 ∙ ap none_text (same_Some a.1.0 b.1.0 (sym a.1.1 ∙ b.1.1)) ∙ sym b.1.3)
+one_reply j f NoPlan Done x y a b = absurd (none_or_done j f a.1.0 y a.1.1 a.1.2 b.1)
+one_reply j f Done Refused x y a b = absurd (a.0 b.0 b.1)
+one_reply j f Done NoPlan x y a b = absurd (none_or_done j f b.1.0 x b.1.1 b.1.2 a.1)
+one_reply j f Done Done x y a b = (refl, one_done j f x y a.1 b.1)
 
 -- ---- good plans
 
@@ -128,10 +121,6 @@ all_justified j f none = no_first (unjustified f.problem) (λ x rest e. none (ad
 
 pub good_reply : (j : Job) (f : File) (x : Text) → IsValid f.problem → IsReply j f Done x → PrintsGoodPlan j f x
 good_reply Check f x valid a = tt
-good_reply (Plan n) f x valid a =
-    let justified = all_justified (Plan n) f a.0 in
-    (a.2.0, a.2.1, a.2.2, λ w fits. best_good f.problem n a.2.0 w justified valid a.2.1 fits)
-good_reply (Exec n) f x valid a =
-    let justified = all_justified (Exec n) f a.0 in
-    (a.2.0, a.2.1, a.2.2, λ w fits. best_good f.problem n a.2.0 w justified valid a.2.1 fits)
-good_reply (Bench n) f x valid a = absurd (a.1 tt)
+good_reply (Plan n) f x valid a = (a.1.0, a.1.1, a.1.2, best_is_good f.problem n a.1.0 (all_justified (Plan n) f a.0) valid a.1.1)
+good_reply (Exec n) f x valid a = (a.1.0, a.1.1, a.1.2, best_is_good f.problem n a.1.0 (all_justified (Exec n) f a.0) valid a.1.1)
+good_reply (Bench n) f x valid a = (a.1.0, a.1.1, a.1.2, best_is_good f.problem 2 a.1.0 (all_justified (Bench n) f a.0) valid a.1.1)

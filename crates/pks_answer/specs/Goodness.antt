@@ -7,10 +7,14 @@ use Rattle.pks_terms.specs.Knowledge.{Good, run_of}
 use Rattle.pks_terms.specs.Jobs.{Job, Check, Plan, Exec, Bench}
 use Rattle.pks_terms.specs.Printed.{Text, tree_text, run_text, bench_text}
 use Rattle.pks_terms.specs.Answers.{File, GivenWorld}
+use Rattle.pks_search.specs.Past.{RemembersPast}
 
--- in every compatible world the run of the tree is good, and so the goal is known there
-abbrev pub IsGood : Problem → Tree → Type 0
-IsGood p t = (w : World) → IsCompatible p w → Good p t w
+-- a plan that can be carried out wherever the file's items hold
+pub record IsGood (p : Problem) (t : Tree) : Type 0 where
+  -- in every compatible world its run is good, and so the goal is known there
+  pub runs : (w : World) → IsCompatible p w → Good p t w
+  -- and what its histories know of earlier moments was so then
+  pub past : RemembersPast p t
 
 -- the text is that of the job's best plan, which is good
 abbrev pub PrintsGoodPlan : Job → File → Text → Type 0

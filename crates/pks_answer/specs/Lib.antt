@@ -1,3 +1,3 @@
-pub mod Findings
+pub mod Objections
 pub mod Goodness
 pub mod Replies

@@ -1,11 +1,10 @@
-//! The reply to a job about a file that was read: what is found of it, and the text that says so.
+//! The reply to a job about a file that was read: why it is refused, or the plan that is wanted, and the text that says so.
 #![tactic(auto)]
 
-pub mod about;
-pub mod finding;
-pub mod goal;
+pub mod accept;
 pub mod laws;
 pub mod line;
+mod plans;
 pub mod reply;
 #[cfg(test)]
 mod tests;

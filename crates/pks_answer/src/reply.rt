@@ -1,26 +1,22 @@
-//! The reply to a job. `docs/FORMAT.md` has all texts.
-ghost use Rattle.std.specs.Prelude.{◌≡◌, ℕ, List, IfOk, IfSome};
-ghost use Rattle.pks_terms.specs.ValidProblems.{IsValidProblem};
-ghost use Rattle.pks_terms.specs.Views.{problem_of, names_of};
-ghost use Rattle.pks_terms.specs.Jobs.{depth_for};
-ghost use Rattle.pks_terms.specs.Knowledge.{run_of};
-ghost use Rattle.pks_terms.specs.Printed.{run_text, none_text};
-ghost use Rattle.pks_terms.specs.Trees.{Goal};
-ghost use Rattle.pks_terms.specs.Answers.{File};
+//! The reply to a job about a file that was read. `docs/FORMAT.md` has all texts.
+ghost use Rattle.std.specs.Prelude.{◌≡◌, ℕ, List, IfOk};
+ghost use Rattle.pks_terms.specs.Views.{signature_of, problem_of};
+ghost use Rattle.pks_terms.specs.Answers.{GivenWorld};
 ghost use Rattle.pks_world.specs.Contents.{world_of};
+ghost use Rattle.pks_normal.specs.Fives.{five_of};
 ghost use Rattle.pks_words.specs.JobViews.{job_of};
-ghost use Rattle.pks_answer.specs.Findings.{stated_of, IsFound, IsFileOf, Prints, PrintsGoal, PrintsRefusal};
+ghost use Rattle.pks_file.specs.Views.{file_of, IsWhole};
+ghost use Rattle.pks_answer.specs.Objections.{stated_of, IsStatedIn, IsGiven, Accepts};
 ghost use Rattle.pks_answer.specs.Goodness.{PrintsGoodPlan};
-ghost use Rattle.pks_answer.specs.Replies.{IsReply};
+ghost use Rattle.pks_answer.specs.Replies.{IsReply, IsInBounds, IsAbout};
 ghost use Rattle.pks_answer.specs.declared.reply.Verdict.{Verdict};
 
-use crate::finding::{Finding, Place, Stated};
-use crate::line::{add_rest, item_rest, refusal_line};
-use pks_exec::exec::exec;
-use pks_exec::print::print_run;
-use pks_plan::body::print_tree;
-use pks_plan::tree::Tree;
-use pks_terms::problem::Problem;
+use crate::accept::{AcceptEnd, Stated, accept};
+use crate::line::{objection_line, placed};
+use crate::plans::{bench, plan, plan_and_run};
+use pks_facts::WorldEnd;
+use pks_file::{InputFile, place, stated_world};
+use pks_query::db::Db;
 use pks_words::Job;
 use pks_world::world::World;
 use std::alloc::{AllocError, Global};
@@ -36,112 +32,92 @@ pub enum Verdict {
     Refused,
 }
 
-/// A refusal.
-fn refused(
-    alloc: Global,
-    at: Place,
-    code: u16,
-    rest: &str,
-) -> Result<(Verdict, Vec<u8>), AllocError>
-    ensures { IfOk result (λ a. PrintsRefusal at code rest.now a.0 a.1.items) }
+/// What the file states of a world.
+fn stated(alloc: Global, f: &InputFile<'_>) -> Result<Stated, AllocError>
+    requires { IsWhole f.now }
+    ensures says { IfOk result (λ w. (file_of f.now).world ≡ stated_of w) }
+    ensures of_signature { IfOk result (λ w. IsStatedIn (signature_of f.now.problem.signature) (stated_of w)) }
 {
-    let text = refusal_line(alloc, at, code, rest)?;
-    Ok((Verdict::Refused, text))
+    match stated_world(alloc, f) {
+        Ok(None) => Ok(Stated::Missing),
+        Ok(Some(w)) => Ok(Stated::Given(w)),
+        Err(WorldEnd::Refused(fault)) => {
+            let at = placed(place(f.source.as_bytes(), fault.at));
+            Ok(Stated::Faulty(at, fault.code))
+        }
+        Err(WorldEnd::Memory) => Err(AllocError),
+    }
 }
 
-/// The run that meets the goal at once.
-fn goal_run(alloc: Global, p: &Problem<'_>, w: &World) -> Result<Vec<u8>, AllocError>
-    requires { IsValidProblem p.now }
-    ensures { IfOk result (λ text. text.items ≡ run_text (names_of p.now) (run_of (problem_of p.now) Goal (world_of w.now))) }
+/// The world that a run is in.
+fn given<'w>(world: &'w Stated) -> &'w World
+    requires { IsGiven (stated_of world.now) }
+    ensures { stated_of world.now ≡ GivenWorld (world_of result.now) }
 {
-    let run = exec(alloc, p, &Tree::Goal, w)?;
-    let text = print_run(alloc, p, &run)?;
-    Ok(text)
+    match world {
+        Stated::Given(w) => w,
+        Stated::Missing | Stated::Faulty(_, _) => unreachable!(),
+    }
 }
 
-/// The plan that is the goal, or the run of it.
-fn goal_text(
+/// The reply where the file is accepted, from its first databases.
+fn concluded(
     alloc: Global,
     job: Job,
-    p: &Problem<'_>,
+    f: &InputFile<'_>,
     world: &Stated,
-) -> Result<Vec<u8>, AllocError>
-    requires { IsValidProblem p.now }
-    ensures { IfOk result (λ text. PrintsGoal (job_of job) (problem_of p.now) (names_of p.now) (stated_of world.now) text.items) }
+    first: Db,
+) -> Result<(Verdict, Vec<u8>), AllocError>
+    requires whole { IsWhole f.now }
+    requires bounds { IsInBounds (job_of job) }
+    requires about { IsAbout (job_of job) f.now.source.now }
+    requires world { (file_of f.now).world ≡ stated_of world.now }
+    requires accepted { Accepts (job_of job) (problem_of f.now.problem) (stated_of world.now) (five_of first) }
+    ensures { IfOk result (λ a. IsReply (job_of job) (file_of f.now) a.0 a.1.items) }
 {
     match job {
-        Job::Exec(_) => match world {
-            Stated::Given(w) => goal_run(alloc, p, w),
-            Stated::Missing => Ok(Vec::new(alloc)),
-            Stated::Faulty(_, _) => Ok(Vec::new(alloc)),
-        },
-        Job::Plan(_) => print_tree(alloc, p, &Tree::Goal),
-        Job::Check => Ok(Vec::new(alloc)),
-        Job::Bench(_) => Ok(Vec::new(alloc)),
+        Job::Check => Ok((Verdict::Done, b"accepted\n".to_vec(alloc)?)),
+        Job::Plan(depth) => plan(alloc, &f.problem, first, depth),
+        Job::Exec(depth) => plan_and_run(alloc, &f.problem, given(world), first, depth),
+        Job::Bench(n) => bench(alloc, &f.problem, f.source.as_bytes(), first, n),
     }
 }
 
-/// The depth to which the job plans.
-fn depth_for(job: Job) -> u8
-    ensures { IfSome (depth_for (job_of job)) (λ n. result ≡ n) }
-{
-    match job {
-        Job::Check => 0,
-        Job::Plan(depth) => depth,
-        Job::Exec(depth) => depth,
-        Job::Bench(_) => 2,
-    }
-}
-
-/// That there is no plan.
-fn none_text(alloc: Global, depth: u8) -> Result<Vec<u8>, AllocError>
-    ensures { IfOk result (λ text. text.items ≡ none_text depth) }
-{
-    let text = format!(in alloc; "none to depth {depth}\n")?;
-    Ok(text.into_bytes())
-}
-
-/// The verdict and the text for what was found.
-fn print(
+/// The reply.
+fn replied(
     alloc: Global,
     job: Job,
-    p: &Problem<'_>,
-    world: &Stated,
-    found: Finding,
-    at: Place,
+    f: &InputFile<'_>,
 ) -> Result<(Verdict, Vec<u8>), AllocError>
-    requires { IsValidProblem p.now }
-    ensures { IfOk result (λ a. Prints (job_of job) (problem_of p.now) (names_of p.now) (stated_of world.now) at found a.0 a.1.items) }
+    requires whole { IsWhole f.now }
+    requires bounds { IsInBounds (job_of job) }
+    requires about { IsAbout (job_of job) f.now.source.now }
+    ensures { IfOk result (λ a. IsReply (job_of job) (file_of f.now) a.0 a.1.items) }
 {
-    match found {
-        Finding::Unjustified(add) => refused(alloc, at, 260, add_rest(alloc, p, add)?.as_str()),
-        Finding::Clash => refused(alloc, at, 270, ""),
-        Finding::BadWorld(own, code) => refused(alloc, own, code, ""),
-        Finding::NoWorld => refused(alloc, at, 310, ""),
-        Finding::Broken(item) => refused(alloc, at, 311, item_rest(alloc, item)?.as_str()),
-        Finding::Accepted => Ok((Verdict::Done, b"accepted\n".to_vec(alloc)?)),
-        Finding::Met => Ok((Verdict::Done, goal_text(alloc, job, p, world)?)),
-        Finding::NoTree => Ok((Verdict::NoPlan, none_text(alloc, depth_for(job))?)),
-        Finding::Postponed => Ok((Verdict::Refused, b"refused 1:1 199\n".to_vec(alloc)?)),
+    let world = stated(alloc, f)?;
+    match accept(alloc, job, &f.problem, &world) {
+        Ok(first) => concluded(alloc, job, f, &world, first),
+        Err(AcceptEnd::Refused(why)) => Ok((Verdict::Refused, objection_line(alloc, f, why)?)),
+        Err(AcceptEnd::Memory) => Err(AllocError),
     }
 }
 
-/// The reply to a job about a file, by what was found of it and the place that a refusal of this names, as
-/// `docs/FORMAT.md` says: its verdict and its text, and no other reply fits. A plan that is printed or run is good in
-/// every compatible world. It asks for a valid problem, and errs only where memory runs out.
-pub fn reply(
+/// The reply to a job about a file as `read_file` gives it: its verdict and its text, as `docs/FORMAT.md` says, and no
+/// other reply fits. A plan that is printed or run is good in every compatible world, and what its histories know of earlier
+/// moments was so then. It asks for a job whose number is within its bounds, and, for `bench`, for the generated file. It errs
+/// only where memory runs out.
+pub fn reply_about(
     alloc: Global,
     job: Job,
-    p: &Problem<'_>,
-    world: &Stated,
-    found: Finding,
-    at: Place,
+    f: &InputFile<'_>,
 ) -> Result<(Verdict, Vec<u8>), AllocError>
-    requires { IsValidProblem p.now }
-    ensures reply { (f : File) → IsFileOf f p.now world.now found at → IsFound (job_of job) (problem_of p.now) (stated_of world.now) found → IfOk result (λ a. IsReply (job_of job) f a.0 a.1.items) }
-    ensures only { (f : File) → IsFileOf f p.now world.now found at → IsFound (job_of job) (problem_of p.now) (stated_of world.now) found → IfOk result (λ a. (v : Verdict) (text : List ℕ) → IsReply (job_of job) f v text → (v ≡ a.0) × (text ≡ a.1.items)) }
-    ensures good { (f : File) → IsFileOf f p.now world.now found at → IsFound (job_of job) (problem_of p.now) (stated_of world.now) found → IfOk result (λ a. a.0 ≡ Verdict.Done → PrintsGoodPlan (job_of job) f a.1.items) }
+    requires whole { IsWhole f.now }
+    requires bounds { IsInBounds (job_of job) }
+    requires about { IsAbout (job_of job) f.now.source.now }
+    ensures reply { IfOk result (λ a. IsReply (job_of job) (file_of f.now) a.0 a.1.items) }
+    ensures only { IfOk result (λ a. (v : Verdict) (text : List ℕ) → IsReply (job_of job) (file_of f.now) v text → (v ≡ a.0) × (text ≡ a.1.items)) }
+    ensures good { IfOk result (λ a. a.0 ≡ Verdict.Done → PrintsGoodPlan (job_of job) (file_of f.now) a.1.items) }
 {
-    let answer = print(alloc, job, p, world, found, at)?;
+    let answer = replied(alloc, job, f)?;
     Ok(answer)
 }

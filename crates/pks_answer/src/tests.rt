@@ -1,6 +1,9 @@
-//! Replies to jobs about small inputs.
-use crate::about::reply_about;
-use crate::reply::Verdict;
+//! Replies to jobs about small inputs, that want little of a search.
+ghost use Rattle.std.specs.Prelude.{◌≡◌, ◌≤◌, length};
+ghost use Rattle.pks_words.specs.JobViews.{job_of};
+ghost use Rattle.pks_answer.specs.Replies.{IsInBounds, IsAbout};
+
+use crate::reply::{Verdict, reply_about};
 use pks_file::read_file;
 use pks_reader::Turned;
 use pks_words::Job;
@@ -22,12 +25,6 @@ const DOOR_AND_BAD_WORLD: &str = "(pks 1)
 (domain (predicates (open)))
 (problem (init (kf (open))) (goal (k (open))))
 (world (true (shut)))
-";
-
-const SHUT_DOOR: &str = "(pks 1)
-(domain (predicates (open)))
-(problem (goal (k (open))))
-(world)
 ";
 
 const BOTH: &str = "(pks 1)
@@ -54,11 +51,12 @@ const LAWN: &str = "(pks 1)
 (world (true (poison)))
 ";
 
-/// The text and the letter of the verdict.
-fn replied(alloc: Global, job: Job, input: &[u8]) -> Result<(char, Vec<u8>), AllocError> {
-    if input.len() > 262144 {
-        return Err(AllocError);
-    }
+/// The text of a refusal, or of what is done, behind its letter.
+fn replied(alloc: Global, job: Job, input: &[u8]) -> Result<(char, Vec<u8>), AllocError>
+    requires short { length input.now ≤ 262144 }
+    requires bounds { IsInBounds (job_of job) }
+    requires about { IsAbout (job_of job) input.now }
+{
     match read_file(alloc, input) {
         Ok(file) => {
             let (verdict, text) = reply_about(alloc, job, &file)?;
@@ -77,31 +75,50 @@ fn letter(verdict: Verdict) -> char {
     }
 }
 
+fn checked(alloc: Global, input: &str) -> Result<(char, Vec<u8>), AllocError> {
+    if input.len() > 262_144 {
+        return Err(AllocError);
+    }
+    replied(alloc, Job::Check, input.as_bytes())
+}
+
+fn carried_out(alloc: Global, input: &str) -> Result<(char, Vec<u8>), AllocError> {
+    if input.len() > 262_144 {
+        return Err(AllocError);
+    }
+    replied(alloc, Job::Exec(3), input.as_bytes())
+}
+
 #[test]
-fn jobs_have_their_replies(rt: HostRuntime) -> Result<(), Fail> {
+fn files_are_checked(rt: HostRuntime) -> Result<(), Fail> {
     let alloc = rt.alloc();
     let rows = [
-        (Job::Check, DOOR, 'D', "accepted\n"),
-        (Job::Plan(0), DOOR, 'D', "plan depth 0\ngoal\n"),
-        (Job::Exec(0), DOOR, 'R', "refused 3:1 310\n"),
-        (Job::Exec(2), DOOR_AND_WORLD, 'D', "run\ngoal\n"),
-        (Job::Plan(0), DOOR_AND_BAD_WORLD, 'R', "refused 4:15 301\n"),
-        (Job::Bench(1), DOOR_AND_BAD_WORLD, 'R', "refused 1:1 199\n"),
-        (Job::Plan(0), SHUT_DOOR, 'N', "none to depth 0\n"),
-        (Job::Exec(3), SHUT_DOOR, 'N', "none to depth 3\n"),
-        (Job::Plan(3), BOTH, 'R', "refused 3:10 270\n"),
-        (
-            Job::Check,
-            DIG,
-            'R',
-            "refused 6:21 260 action dig effect 2\n",
-        ),
-        (Job::Check, LAWN, 'D', "accepted\n"),
-        (Job::Exec(3), LAWN, 'R', "refused 7:1 311 item 1\n"),
-        (Job::Plan(3), LAWN, 'R', "refused 1:1 199\n"),
+        (DOOR, 'D', "accepted\n"),
+        (DOOR_AND_WORLD, 'D', "accepted\n"),
+        (DOOR_AND_BAD_WORLD, 'R', "refused 4:15 301\n"),
+        (BOTH, 'R', "refused 3:10 270\n"),
+        (DIG, 'R', "refused 6:21 260 action dig effect 2\n"),
+        (LAWN, 'D', "accepted\n"),
     ];
-    for (job, input, verdict, wanted) in rows {
-        let (told, text) = replied(alloc, job, input.as_bytes())?;
+    for (input, verdict, wanted) in rows {
+        let (told, text) = checked(alloc, input)?;
+        assert!(rt; told == verdict, "{wanted}");
+        assert!(rt; text.as_slice() == wanted.as_bytes(), "{wanted}");
+    }
+    Ok(())
+}
+
+#[test]
+fn runs_want_a_compatible_world(rt: HostRuntime) -> Result<(), Fail> {
+    let alloc = rt.alloc();
+    let rows = [
+        (DOOR, 'R', "refused 3:1 310\n"),
+        (DOOR_AND_WORLD, 'D', "run\ngoal\n"),
+        (DOOR_AND_BAD_WORLD, 'R', "refused 4:15 301\n"),
+        (LAWN, 'R', "refused 7:1 311 item 1\n"),
+    ];
+    for (input, verdict, wanted) in rows {
+        let (told, text) = carried_out(alloc, input)?;
         assert!(rt; told == verdict, "{wanted}");
         assert!(rt; text.as_slice() == wanted.as_bytes(), "{wanted}");
     }

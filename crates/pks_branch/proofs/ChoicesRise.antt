@@ -1,22 +1,22 @@
 -- The list of choices rises: the lists that it is made of rise, and each stands below the next.
-use Rattle.std.proofs.Common.{◌≡◌, ◌<◌, ◌+◌, ℕ, Bool, true, false, cond, List, [], ◌∷◌, ◌++◌, map, filter, filter_map, flat_map, Option, Some, None, Ordering, Less, Equal, Greater, nat_cmp, refl, sym, ap, ◌∙◌, subst, arith}
-use Rattle.std.specs.Ordering.{on, ordering_then}
+use Rattle.std.proofs.Common.{◌≡◌, ◌<◌, ◌+◌, ℕ, Bool, true, false, cond, List, [], ◌∷◌, ◌++◌, map, filter, filter_map, flat_map, Option, Some, None, Ordering, Less, Equal, Greater, nat_cmp, refl, sym, ap, ◌∙◌, arith}
+use Rattle.std.specs.Ordering.{ordering_then}
 use Rattle.std.specs.Option.{option_map}
 use Rattle.std.specs.List.{cons_option}
 use Rattle.std.specs.Cmp.{IsTotalOrder, nat_cmp_is, tied_itself}
 use Rattle.std.specs.Cmp.Lexicographic.{slice_cmp}
 use Rattle.std.proofs.lemmas.Cmp.{nat_cmp_total}
 use Rattle.std.proofs.lemmas.Option.{none-some, same_Some}
-use Rattle.pks_terms.specs.Sets.{Each, IsIn, IsOrdered, choices_from, all_some}
-use Rattle.pks_terms.specs.Syntax.{Form, Object, Parameter, Apply, Inner, Term, Literal, as_object}
-use Rattle.pks_terms.specs.Orders.{form_cmp, inner_cmp, term_cmp, conj_cmp}
-use Rattle.pks_terms.specs.Totality.{inner_cmp_total, slice_cmp-map}
+use Rattle.pks_terms.specs.Sets.{Each, IsOrdered, choices_from, all_some}
+use Rattle.pks_terms.specs.Syntax.{Object, Parameter, Apply, Inner, Term, Literal, as_object}
+use Rattle.pks_terms.specs.Orders.{inner_cmp, term_cmp, conj_cmp}
+use Rattle.pks_terms.specs.Totality.{inner_cmp_total}
 use Rattle.pks_terms.specs.Signatures.{Signature, has_type, fits_type, objects_from, objects_of}
 use Rattle.pks_terms.specs.Databases.{Five}
 use Rattle.pks_terms.specs.Actions.{Schema, Instance}
 use Rattle.pks_terms.specs.Problems.{Problem}
 use Rattle.pks_terms.specs.Trees.{instance_cmp}
-use Rattle.pks_terms.specs.Branching.{as_inner, candidates, is_allowed, instances_at, numbered, instances, is_undecided, may_split, Choice, Act, BranchOn, CasesOn, choices}
+use Rattle.pks_terms.specs.Branching.{as_inner, candidates, is_allowed, instances_at, numbered, instances, is_undecided, may_split, Act, BranchOn, CasesOn, choices}
 use Rattle.pks_terms.proofs.ListLaws.{each_append, each_in, each_of, each_map, each_weaker, each_kept, each_flat_map, each_filter_map}
 use Rattle.pks_branch.specs.ChoiceOrder.{choice_cmp}
 

@@ -2,3 +2,4 @@ pub mod Lists
 pub mod WalkLaws
 pub mod ChoicesRise
 pub mod Parameters
+pub mod Digits

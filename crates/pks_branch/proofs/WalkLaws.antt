@@ -3,7 +3,6 @@ use Rattle.std.proofs.Common.{◌≡◌, ◌<◌, ◌+◌, ℕ, length, get_or, 
 use Rattle.std.proofs.lemmas.List.{map-append}
 use Rattle.std.proofs.lemmas.Grind.{flat_map-append}
 use Rattle.pks_terms.specs.Sets.{choices_from}
-use Rattle.pks_terms.specs.Syntax.{Inner}
 use Rattle.pks_terms.specs.Signatures.{Signature}
 use Rattle.pks_terms.specs.Databases.{Five}
 use Rattle.pks_terms.specs.Actions.{Schema, Instance}

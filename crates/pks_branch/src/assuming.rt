@@ -167,7 +167,13 @@ fn with_value(alloc: Global, s: &Signature, d: &Db, t: &Term, e: ObjId) -> Resul
 
 /// The five with the side assumed, which stay as they are where the choice has no such side.
 #[tactic(auto, unfolding(pks_terms::specs::Branching::assumed))]
-fn assumed(alloc: Global, s: &Signature, d: &Db, c: &Choice, side: Side) -> Result<Five, AllocError>
+pub(crate) fn assumed(
+    alloc: Global,
+    s: &Signature,
+    d: &Db,
+    c: &Choice,
+    side: Side,
+) -> Result<Five, AllocError>
     ensures { IfOk result (λ next. five_of next ≡ assumed (signature_of s.now) (five_of d.now) (choice_of c.now) (side_of side)) }
 {
     let next = match (c, side) {

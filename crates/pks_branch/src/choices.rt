@@ -78,7 +78,12 @@ fn push_actions(
 
 /// Appends the undecided formulas of a set.
 #[tactic(auto, using(crate::proofs::Lists::pushing))]
-fn push_branches(s: &Signature, d: &Db, kw: &Kw, to: &mut Vec<Choice>) -> Result<(), AllocError>
+pub(crate) fn push_branches(
+    s: &Signature,
+    d: &Db,
+    kw: &Kw,
+    to: &mut Vec<Choice>,
+) -> Result<(), AllocError>
     ensures all { OnOk result (choices_of to.new.items ≡ choices_of to.old.items ++ map BranchOn (filter (is_undecided (signature_of s.now) (five_of d.now)) (formulas_of kw.now))) }
     ensures ordered { IsOrdered conj_cmp (formulas_of kw.now) }
 {
@@ -92,7 +97,7 @@ fn push_branches(s: &Signature, d: &Db, kw: &Kw, to: &mut Vec<Choice>) -> Result
 
 /// Appends the terms of a set with from 1 to 16 objects left.
 #[tactic(auto, using(crate::proofs::Lists::pushing))]
-fn push_cases(
+pub(crate) fn push_cases(
     alloc: Global,
     s: &Signature,
     d: &Db,

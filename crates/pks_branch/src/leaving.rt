@@ -47,7 +47,7 @@ fn not_shut_out(
 
 /// The objects that are left, of a signature with at most 65,536 objects.
 #[tactic(auto, unfolding(pks_terms::specs::Branching::left))]
-fn left_of(alloc: Global, s: &Signature, d: &Db, t: &Term) -> Result<ObjList, AllocError>
+pub(crate) fn left_of(alloc: Global, s: &Signature, d: &Db, t: &Term) -> Result<ObjList, AllocError>
     requires { length s.now.objects ≤ 65536 }
     ensures { IfOk result (λ objects. map object_of objects ≡ left (signature_of s.now) (five_of d.now) (term_of t.now)) }
 {

@@ -5,4 +5,6 @@ pub mod assuming;
 mod candidates;
 pub mod choices;
 pub mod leaving;
+#[cfg(test)]
+mod tests;
 mod walking;

@@ -4,7 +4,6 @@
 pub mod five;
 pub mod literals;
 pub mod normals;
-pub mod regions;
 mod table;
 #[cfg(test)]
 mod tests;

@@ -1,7 +1,7 @@
 -- How settling ends.
-use Rattle.std.specs.Prelude.{ℕ, ◌≡◌}
+use Rattle.std.specs.Prelude.{◌≡◌}
 use Rattle.pks_terms.specs.Problems.{Problem}
-use Rattle.pks_terms.specs.Settling.{History, State, At, Stopped, settle_rounds, tidied_history}
+use Rattle.pks_terms.specs.Settling.{History, State, At, Stopped, tidied_history}
 use Rattle.pks_terms.specs.Saturated.{WithinAlong, ClosedAlong}
 use Rattle.pks_postdict.specs.declared.settle.Settled.{Settled}
 use Rattle.pks_postdict.specs.declared.settle.Settled.TheVariants as settled_is

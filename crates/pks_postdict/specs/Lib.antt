@@ -1,1 +1,4 @@
 pub mod Ends
+pub mod Families
+pub mod Growing
+pub mod Lasting

@@ -1,4 +1,6 @@
 //! Settling: what is learnt of earlier moments.
 #![tactic(auto)]
 
+mod family;
+mod round;
 pub mod settle;

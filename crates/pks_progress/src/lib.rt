@@ -1,4 +1,9 @@
 //! Progression: the databases after an action.
 #![tactic(auto)]
 
+pub mod asking;
+mod kept;
 pub mod progress;
+mod regions;
+#[cfg(test)]
+mod tests;

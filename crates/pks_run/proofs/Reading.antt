@@ -42,6 +42,11 @@ pub of_any : {X : Type 0} (P : X → Type 0) (o : Option X) → ((x : X) → P x
 of_any P None all = tt
 of_any P (Some x) all = all x
 
+-- what two facts of the one that is told give
+pub IfSome_both : {X : Type 0} {P Q R : X → Type 0} (o : Option X) → IfSome o P → IfSome o Q → ((x : X) → P x → Q x → R x) → IfSome o R
+IfSome_both None p q f = tt
+IfSome_both (Some x) p q f = f x p q
+
 -- a reply is a whole answer
 pub replied_whole : (s : Status) → IsReplied s → IsWhole s
 replied_whole status_is.Done h = tt

@@ -2,20 +2,18 @@
 ghost use Rattle.std.specs.Prelude.{◌≡◌, ◌≤◌, List, [], length, IfOk};
 ghost use Rattle.pks_terms.specs.Printed.{Text, usage_text, refusal_text};
 ghost use Rattle.pks_terms.specs.Answers.{refusal, File, Reading, ReadAs, Faulty};
-ghost use Rattle.pks_words.specs.JobViews.{AskForOne, job_of};
+ghost use Rattle.pks_words.specs.JobViews.{job_of};
 ghost use Rattle.pks_file.specs.Inputs.{line_and_column, IsFaulty, IsRead, Reads};
 ghost use Rattle.pks_file.specs.Views.{file_of, IsWhole};
-ghost use Rattle.pks_answer.specs.Replies.{postponed_text};
 ghost use Rattle.pks_answer.specs.Goodness.{PrintsGoodPlan};
-ghost use Rattle.pks_run.specs.Answer.{IsAnswer, IsBench};
+ghost use Rattle.pks_answer.specs.Replies.{IsInBounds, IsAbout};
+ghost use Rattle.pks_run.specs.Answer.{IsAnswer, AskAbout};
 ghost use Rattle.pks_run.specs.Replied.{status_for, IsReplied};
 ghost use Rattle.pks_run.specs.declared.status.Status.{Status};
 
 use crate::status::Status;
-use pks_answer::about::reply_about;
-use pks_answer::finding::Place;
-use pks_answer::line::refusal_line;
-use pks_answer::reply::Verdict;
+use pks_answer::line::{Place, refusal_line};
+use pks_answer::reply::{Verdict, reply_about};
 use pks_file::{InputFile, place, read_file};
 use pks_reader::{Refusal, Turned};
 use pks_words::Job;
@@ -50,14 +48,6 @@ pub fn usage(alloc: Global) -> Result<Vec<u8>, AllocError>
     Ok(text)
 }
 
-// What is answered to a job that wants a search.
-pub fn postponed(alloc: Global) -> Result<Vec<u8>, AllocError>
-    ensures { IfOk result (λ text. text.items ≡ postponed_text) }
-{
-    let text = b"refused 1:1 199\n".to_vec(alloc)?;
-    Ok(text)
-}
-
 // What is answered to an input of too many bytes.
 pub fn too_long(alloc: Global) -> Result<Vec<u8>, AllocError>
     ensures { IfOk result (λ text. text.items ≡ refusal_text (refusal (record { line = 1; column = 1 }) 100 [])) }
@@ -66,7 +56,7 @@ pub fn too_long(alloc: Global) -> Result<Vec<u8>, AllocError>
     Ok(text)
 }
 
-// The answer about an input that reads as this file.
+// The answer about a text that reads as this file.
 fn about_file(
     alloc: Global,
     job: Job,
@@ -74,11 +64,13 @@ fn about_file(
     file: &InputFile<'_>,
 ) -> Result<(Status, Vec<u8>), AllocError>
     requires whole { IsWhole file.now }
-    requires reads { IsBench (job_of job) → ⊥ }
+    requires bounds { IsInBounds (job_of job) }
+    requires about { IsAbout (job_of job) input.now }
+    requires source { file.now.source.now ≡ input.now }
     requires read { IsRead input.now (file_of file.now) }
     requires one { (x : Reading) → Reads input.now x → x ≡ ReadAs (file_of file.now) }
-    ensures answer { IfOk result (λ a. (words : List Text) → AskForOne words (job_of job) → IsAnswer words input.now a.0 a.1.items) }
-    ensures only { IfOk result (λ a. (words : List Text) (status : Status) (text : Text) → AskForOne words (job_of job) → IsAnswer words input.now status text → (status ≡ a.0) × (text ≡ a.1.items)) }
+    ensures answer { IfOk result (λ a. (words : List Text) (given : Text) → AskAbout words given (job_of job) input.now → IsAnswer words given a.0 a.1.items) }
+    ensures only { IfOk result (λ a. (words : List Text) (given : Text) (status : Status) (text : Text) → AskAbout words given (job_of job) input.now → IsAnswer words given status text → (status ≡ a.0) × (text ≡ a.1.items)) }
     ensures good { IfOk result (λ a. a.0 ≡ Status.Done → PrintsGoodPlan (job_of job) (file_of file.now) a.1.items) }
     ensures kind { IfOk result (λ a. IsReplied a.0) }
 {
@@ -86,7 +78,7 @@ fn about_file(
     Ok((status_for(verdict), text))
 }
 
-// The answer about an input that reads as this fault.
+// The answer about a text that reads as this fault.
 fn about_fault(
     alloc: Global,
     job: Job,
@@ -94,23 +86,23 @@ fn about_fault(
     r: Refusal,
 ) -> Result<(Status, Vec<u8>), AllocError>
     requires short { length input.now ≤ 262144 }
-    requires reads { IsBench (job_of job) → ⊥ }
     requires faulty { IsFaulty input.now (r.at, r.code) }
     requires one { (x : Reading) → Reads input.now x → x ≡ Faulty (line_and_column input.now r.at) r.code }
-    ensures answer { IfOk result (λ a. (words : List Text) → AskForOne words (job_of job) → IsAnswer words input.now a.0 a.1.items) }
-    ensures only { IfOk result (λ a. (words : List Text) (status : Status) (text : Text) → AskForOne words (job_of job) → IsAnswer words input.now status text → (status ≡ a.0) × (text ≡ a.1.items)) }
+    ensures answer { IfOk result (λ a. (words : List Text) (given : Text) → AskAbout words given (job_of job) input.now → IsAnswer words given a.0 a.1.items) }
+    ensures only { IfOk result (λ a. (words : List Text) (given : Text) (status : Status) (text : Text) → AskAbout words given (job_of job) input.now → IsAnswer words given status text → (status ≡ a.0) × (text ≡ a.1.items)) }
     ensures kind { IfOk result (λ a. a.0 ≡ Status.Refused) }
 {
     let text = refusal_of(alloc, input, r)?;
     Ok((Status::Refused, text))
 }
 
-// The answer to a job about an input.
+// The answer to a job about a text.
 pub fn answer(alloc: Global, job: Job, input: &[u8]) -> Result<(Status, Vec<u8>), AllocError>
     requires short { length input.now ≤ 262144 }
-    requires reads { IsBench (job_of job) → ⊥ }
-    ensures answer { IfOk result (λ a. (words : List Text) → AskForOne words (job_of job) → IsAnswer words input.now a.0 a.1.items) }
-    ensures only { IfOk result (λ a. (words : List Text) (status : Status) (text : Text) → AskForOne words (job_of job) → IsAnswer words input.now status text → (status ≡ a.0) × (text ≡ a.1.items)) }
+    requires bounds { IsInBounds (job_of job) }
+    requires about { IsAbout (job_of job) input.now }
+    ensures answer { IfOk result (λ a. (words : List Text) (given : Text) → AskAbout words given (job_of job) input.now → IsAnswer words given a.0 a.1.items) }
+    ensures only { IfOk result (λ a. (words : List Text) (given : Text) (status : Status) (text : Text) → AskAbout words given (job_of job) input.now → IsAnswer words given status text → (status ≡ a.0) × (text ≡ a.1.items)) }
     ensures good { IfOk result (λ a. a.0 ≡ Status.Done → (f : File) × IsRead input.now f × PrintsGoodPlan (job_of job) f a.1.items) }
     ensures kind { IfOk result (λ a. IsReplied a.0) }
 {

@@ -2,14 +2,14 @@
 use Rattle.std.specs.Prelude.{Bool, ◌&&◌, List, [], ◌∷◌, ◌++◌, map, cond}
 use Rattle.std.specs.List.{list_any, list_all, filter, flat_map}
 use Rattle.pks_terms.specs.declared.schema.Effect.{Effect as DEffect}
-use Rattle.pks_terms.specs.Sets.{Each, with_others}
+use Rattle.pks_terms.specs.Sets.{Each, with_others, with_later}
 use Rattle.pks_terms.specs.Syntax.{Form, Object, Parameter, Apply, Term, term_of, Literal, negated}
 use Rattle.pks_terms.specs.Orders.{number_of, arguments_of, equation}
 use Rattle.pks_terms.specs.Signatures.{Signature}
 use Rattle.pks_terms.specs.Databases.{Five, holds}
 use Rattle.pks_terms.specs.Actions.{Target, Effect}
 use Rattle.pks_terms.specs.Spoiling.{may_fire, may_change, is_stable, are_stable}
-use Rattle.pks_terms.specs.Settling.{term_forms, target_forms, assigns_alike}
+use Rattle.pks_terms.specs.Settling.{term_forms, target_forms, assigns_alike, lasting, lasted, fired, must_have_fired, cannot_have_fired}
 use Rattle.pks_terms.specs.ValidProblems.{AssignsToPlace}
 
 -- the forms of a term that are stable
@@ -53,3 +53,11 @@ denied_alone s d c = flat_map (λ p. cond (list_all (holds s d) p.1) (negated p.
 -- each element with the others, of which some came before these
 abbrev pub others_after : {X : Type 0} → List X → List X → List (X × List X)
 others_after done xs = map (λ p. (p.0, done ++ p.1)) (with_others xs)
+
+-- what lasts, and what comes of the effects that fire
+abbrev pub given_forward : Signature → List Effect → Five → List Literal
+given_forward s es before = lasting s es before ++ flat_map (fired s es before) (with_later es)
+
+-- what must have been there, and what follows of the conditions of the effects
+abbrev pub given_backward : Signature → List Effect → Five → Five → List Literal
+given_backward s es before after = lasted s es before after ++ (flat_map (must_have_fired s es before after) (with_others es) ++ flat_map (cannot_have_fired s es before after) (with_later es))

@@ -7,7 +7,7 @@ ghost use Rattle.pks_terms.specs.Views.{effect_of, instance_of, problem_of, sign
 ghost use Rattle.pks_kf.specs.Known.{literals_of};
 ghost use Rattle.pks_normal.specs.Fives.{five_of};
 ghost use Rattle.pks_step_rules.specs.Changes.{signature_in, before_in, effects_by};
-ghost use Rattle.pks_step_rules.specs.Targets.{ArePlaced};
+ghost use Rattle.pks_step_rules.specs.Targets.{ArePlaced, given_forward, given_backward};
 
 use crate::change::Change;
 use crate::firing::{put_all_cannot_have_fired, put_all_fired, put_all_must_have_fired};
@@ -51,6 +51,35 @@ fn change_of<'a>(p: &'a Problem<'_>, i: &'a Instance, before: &'a Derived) -> Ch
     }
 }
 
+/// The literals that last, and the targets of the effects that fire. The error is want of memory.
+pub(crate) fn forward_by(alloc: Global, change: &Change<'_>) -> Result<Vec<Literal>, AllocError>
+    requires { ArePlaced change.now.effects.written.now }
+    ensures { IfOk result (λ v. literals_of v.items ≡ given_forward (signature_in change.now) (effects_by change.now) (before_in change.now)) }
+{
+    let mut news = Vec::new(alloc);
+    put_lasting(&mut news, change)?;
+    put_all_fired(alloc, &mut news, change, change.effects.written)?;
+    Ok(news)
+}
+
+/// The literals that must have been there, the conditions of effects that must have fired, and the negations of conditions of
+/// effects that cannot have fired. The error is want of memory.
+pub(crate) fn backward_by(
+    alloc: Global,
+    change: &Change<'_>,
+    after: &Derived,
+) -> Result<Vec<Literal>, AllocError>
+    requires { ArePlaced change.now.effects.written.now }
+    ensures { IfOk result (λ v. literals_of v.items ≡ given_backward (signature_in change.now) (effects_by change.now) (before_in change.now) (five_of after.now)) }
+{
+    let written = change.effects.written;
+    let mut news = Vec::new(alloc);
+    put_lasted(&mut news, change, after)?;
+    put_all_must_have_fired(alloc, &mut news, change, after, written)?;
+    put_all_cannot_have_fired(alloc, &mut news, change, after, written)?;
+    Ok(news)
+}
+
 /// What a moment gives the next one: the literals that last, and the targets of the effects that fire. It asks for a valid
 /// problem. The error is want of memory.
 pub fn forward(
@@ -62,10 +91,7 @@ pub fn forward(
     requires { IsValidProblem p.now }
     ensures { IfOk result (λ v. literals_of v.items ≡ forward (problem_of p.now) (instance_of i.now) (five_of before.now)) }
 {
-    let change = change_of(p, i, before);
-    let mut news = Vec::new(alloc);
-    put_lasting(&mut news, &change)?;
-    put_all_fired(alloc, &mut news, &change, change.effects.written)?;
+    let news = forward_by(alloc, &change_of(p, i, before))?;
     Ok(news)
 }
 
@@ -82,10 +108,6 @@ pub fn backward(
     requires { IsValidProblem p.now }
     ensures { IfOk result (λ v. literals_of v.items ≡ backward (problem_of p.now) (instance_of i.now) (five_of before.now) (five_of after.now)) }
 {
-    let change = change_of(p, i, before);
-    let mut news = Vec::new(alloc);
-    put_lasted(&mut news, &change, after)?;
-    put_all_must_have_fired(alloc, &mut news, &change, after, change.effects.written)?;
-    put_all_cannot_have_fired(alloc, &mut news, &change, after, change.effects.written)?;
+    let news = backward_by(alloc, &change_of(p, i, before), after)?;
     Ok(news)
 }

@@ -1,8 +1,8 @@
-use Rattle.std.proofs.Common.{ap, ◌∙◌, ◌++◌, List, map, sym, subst, append_assoc}
+use Rattle.std.proofs.Common.{ap, ◌∙◌, ◌++◌, map, sym, subst, append_assoc}
 use Rattle.std.specs.List.{filter}
 use Rattle.pks_terms.specs.Sets.{IsOrdered}
 use Rattle.pks_terms.specs.Orders.{term_cmp, conj_cmp}
-use Rattle.pks_terms.specs.Branching.{Choice, Act, BranchOn, CasesOn, instances, is_undecided, may_split, choices}
+use Rattle.pks_terms.specs.Branching.{Act, BranchOn, CasesOn, instances, is_undecided, may_split, choices}
 use Rattle.pks_terms.specs.Views.{terms_of, problem_of}
 use Rattle.pks_kw.specs.Formulas.{formulas_of}
 use Rattle.pks_normal.specs.Fives.{five_of}

@@ -1,4 +1,4 @@
-use Rattle.std.proofs.Common.{◌≡◌, ◌+◌, ◌++◌, ℕ, List, map, drop}
+use Rattle.std.proofs.Common.{◌≡◌, ◌++◌, ℕ, List, map, drop}
 use Rattle.std.specs.List.{flat_map}
 use Rattle.pks_terms.specs.declared.schema.Schema.{Schema}
 use Rattle.pks_terms.specs.Branching.{Act, instances_at, numbered}

@@ -1,7 +1,7 @@
 use Rattle.std.proofs.Common.{◌≡◌, ◌++◌, List, map}
 use Rattle.std.specs.List.{filter}
 use Rattle.pks_terms.specs.declared.literal.Conj.{Conj}
-use Rattle.pks_terms.specs.Branching.{Choice, BranchOn, is_undecided}
+use Rattle.pks_terms.specs.Branching.{BranchOn, is_undecided}
 use Rattle.pks_terms.specs.Views.{signature_of}
 use Rattle.pks_kw.specs.Formulas.{formulas_of}
 use Rattle.pks_normal.specs.Fives.{five_of}

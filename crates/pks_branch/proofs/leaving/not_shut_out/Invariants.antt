@@ -1,4 +1,4 @@
-use Rattle.std.proofs.Common.{◌≡◌, ◌++◌, ℕ, List, map, drop, not}
+use Rattle.std.proofs.Common.{◌≡◌, ◌++◌, List, map, drop, not}
 use Rattle.std.specs.List.{filter}
 use Rattle.pks_terms.specs.declared.ids.ObjId.{ObjId}
 use Rattle.pks_terms.specs.Syntax.{object}

@@ -1,4 +1,4 @@
-use Rattle.std.proofs.Common.{◌≡◌, List, map, drop, Bool}
+use Rattle.std.proofs.Common.{◌≡◌, List, map, drop}
 use Rattle.std.specs.List.{list_all}
 use Rattle.pks_terms.specs.declared.schema.Query.{Query}
 use Rattle.pks_terms.specs.Actions.{query_at}

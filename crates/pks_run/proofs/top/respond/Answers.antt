@@ -2,11 +2,12 @@ use Rattle.std.proofs.Common.{map, string_bytes, Err, ap, subst, sym}
 use Rattle.std.proofs.lemmas.Option.{IfSome_then}
 use Rattle.std.proofs.lemmas.Result.{IfOk-weaker}
 use Rattle.pks_words.specs.JobViews.{job_of}
-use Rattle.pks_run.specs.Answer.{IsAnswer}
+use Rattle.pks_terms.specs.Jobs.{Job}
+use Rattle.pks_run.specs.Answer.{IsBench}
 use Rattle.pks_run.specs.Replied.{IsReplied}
 use Rattle.pks_run.specs.declared.status.Status.TheVariants.{Words}
 use Rattle.pks_run.proofs.Reading.{of_any, replied_whole}
-use Rattle.pks_run.proofs.Replying.{usage_answers, one_usage}
+use Rattle.pks_run.proofs.Replying.{asked_in_bounds, usage_answers, one_usage}
 use Rattle.pks_run.proofs.top.respond.Goals as goal
 
 pub returns-in-Ok-clause-answer : goal.returns-in-Ok-clause-answer
@@ -31,4 +32,13 @@ pub returns-in-Ok-clause-unasked : goal.returns-in-Ok-clause-unasked
 returns-in-Ok-clause-unasked g c = λ nothing. absurd (nothing (job_of c.in-Ok.job) c.in-Ok.ensures.ok.0)
 
 pub returns-in-Ok-clause-fault : goal.returns-in-Ok-clause-fault
-returns-in-Ok-clause-fault g c = λ e. (c.answer_job.ensures.fault e, (job_of c.in-Ok.job, c.in-Ok.ensures.ok.0))
+returns-in-Ok-clause-fault g c = λ e. let fault = c.answer_job.ensures.fault e in (fault.0, (job_of c.in-Ok.job, c.in-Ok.ensures.ok.0, fault.1))
+
+pub returns-in-Ok-clause-end : goal.returns-in-Ok-clause-end
+returns-in-Ok-clause-end g c = λ job asks reads. c.answer_job.ensures.end (subst (λ (j : Job). IsBench j → ⊥) (c.in-Ok.ensures.ok.1 job asks) reads)
+
+pub returns-in-Ok-clause-unread : goal.returns-in-Ok-clause-unread
+returns-in-Ok-clause-unread g c = λ job asks bench. c.answer_job.ensures.unread (subst IsBench (c.in-Ok.ensures.ok.1 job asks) bench)
+
+pub answer_job-requires : goal.answer_job-requires
+answer_job-requires g c = asked_in_bounds (map string_bytes c.args.words.now) (job_of c.in-Ok.job) c.in-Ok.ensures.ok.0

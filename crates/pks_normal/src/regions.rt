@@ -1,1 +1,0 @@
-//! Normal forms of atoms, patterns and regions.

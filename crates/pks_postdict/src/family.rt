@@ -1,0 +1,155 @@
+//! The moments of a history while it is settled.
+ghost use Rattle.std.specs.Prelude.{◌≡◌, ◌<◌, ◌≤◌, ◌-◌, ◌||◌, true, List, length, take, IfOk};
+ghost use Rattle.pks_terms.specs.Sets.{Each};
+ghost use Rattle.pks_terms.specs.Problems.{Problem as SProblem};
+ghost use Rattle.pks_terms.specs.Settling.{with_last};
+ghost use Rattle.pks_normal.specs.Fives.{five_of};
+ghost use Rattle.pks_postdict.specs.Families.{held_of, links_of, family_of};
+ghost use Rattle.pks_postdict.specs.Growing.{AreSpared, some_grew};
+
+use pks_derived::derived::Derived;
+use pks_history::history::History;
+use pks_query::db::Db;
+use pks_terms::schema::Instance;
+use std::alloc::{AllocError, Global};
+use std::rc::Rc;
+
+/// The databases of a moment.
+#[derive(Drop)]
+pub(crate) enum Held {
+    /// Closed ones, as they were handed in.
+    Closed(Db),
+    /// What such grew to.
+    Grown(Rc<Derived>),
+}
+
+/// A moment, and whether its databases grew in the last round.
+#[derive(Drop)]
+pub(crate) struct Place {
+    pub(crate) held: Held,
+    pub(crate) grew: bool,
+}
+
+/// A later moment: the instance that led to it, and its databases.
+#[derive(Drop)]
+pub(crate) struct Link {
+    pub(crate) step: Instance,
+    pub(crate) place: Place,
+}
+
+/// The moments of a history.
+#[derive(Drop)]
+pub(crate) struct Family {
+    pub(crate) start: Place,
+    pub(crate) later: Vec<Link>,
+}
+
+impl Held {
+    /// Lends what looks literals up.
+    pub(crate) fn derived(&self) -> &Derived
+        ensures { five_of result.now ≡ held_of self.now }
+    {
+        match self {
+            Held::Closed(db) => db.derived(),
+            Held::Grown(rc) => rc,
+        }
+    }
+
+    /// Equal databases, all of whose memory is shared.
+    pub(crate) fn share(&self) -> Result<Held, AllocError>
+        ensures { IfOk result (λ same. held_of same ≡ held_of self.now) }
+    {
+        match self {
+            Held::Closed(db) => {
+                let db = db.share()?;
+                Ok(Held::Closed(db))
+            }
+            Held::Grown(rc) => {
+                let rc = rc.clone()?;
+                Ok(Held::Grown(rc))
+            }
+        }
+    }
+}
+
+/// A moment that no round has looked at.
+fn fresh(d: Db) -> Place
+    ensures held { held_of result.held ≡ five_of d }
+    ensures grew { result.grew ≡ true }
+{
+    Place {
+        held: Held::Closed(d),
+        grew: true,
+    }
+}
+
+/// The first so many later moments.
+fn links(alloc: Global, h: &History, count: u32) -> Result<Vec<Link>, AllocError>
+    requires { count ≤ length h.now.steps }
+    ensures links { IfOk result (λ v. links_of v.items ≡ take count h.now.steps) }
+    ensures fresh { IfOk result (λ v. Each (λ x. x.place.grew ≡ true) v.items) }
+{
+    let mut all = Vec::new(alloc);
+    for k in 0..count {
+        let db = h.at(k + 1).share()?;
+        all.push(Link {
+            step: *h.step(k),
+            place: fresh(db),
+        })?;
+    }
+    Ok(all)
+}
+
+/// All later moments, the last one with these databases.
+fn later_links(alloc: Global, h: &History, last: u32, d: Db) -> Result<Vec<Link>, AllocError>
+    requires later { 0 < last }
+    requires last { last ≡ length h.now.steps }
+    ensures links { IfOk result (λ v. links_of v.items ≡ (with_last h.now (five_of d)).steps) }
+    ensures fresh { IfOk result (λ v. Each (λ x. x.place.grew ≡ true) v.items) }
+{
+    let mut all = links(alloc, h, last - 1)?;
+    all.push(Link {
+        step: *h.step(last - 1),
+        place: fresh(d),
+    })?;
+    Ok(all)
+}
+
+/// Whether some of these grew in the last round.
+fn some_grew(later: &[Link]) -> bool
+    ensures { result ≡ some_grew later.now }
+{
+    match later {
+        [] => false,
+        [x, rest @ ..] => x.place.grew || some_grew(rest),
+    }
+}
+
+impl Family {
+    /// The moments of the history, the last one with these databases. No round has looked at any.
+    pub(crate) fn of(alloc: Global, h: &History, d: Db) -> Result<Family, AllocError>
+        ensures moments { IfOk result (λ f. family_of f ≡ with_last h.now (five_of d)) }
+        ensures spared { (p : SProblem) → IfOk result (λ f. AreSpared p f.start f.later.items) }
+    {
+        let last = h.len() - 1;
+        if last == 0 {
+            return Ok(Family {
+                start: fresh(d),
+                later: Vec::new(alloc),
+            });
+        }
+        let first = h.at(0).share()?;
+        let later = later_links(alloc, h, last, d)?;
+        Ok(Family {
+            start: fresh(first),
+            later,
+        })
+    }
+
+    /// Whether some moment grew in the last round.
+    pub(crate) fn grew(&self) -> bool
+        ensures { result ≡ (self.now.start.grew || some_grew self.now.later.items) }
+    {
+        self.start.grew || some_grew(self.later.as_slice())
+    }
+}
