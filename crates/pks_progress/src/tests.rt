@@ -91,7 +91,7 @@ fn region() -> Entry {
     }
 }
 
-// Of two groups and regions one each: the first predicate is true at one of objects 0 and 1.
+// The first predicate is true at exactly one of objects 0 and 1.
 fn groups(alloc: Global) -> Result<Kx, AllocError> {
     let group = Group::of(alloc, &[is_at(object(0)), is_at(object(1))])?;
     Kx::empty().add(alloc, group)
@@ -102,12 +102,27 @@ fn known(alloc: Global) -> Result<Kf, AllocError> {
     Ok(kf)
 }
 
+fn formulas(alloc: Global) -> Result<Kw, AllocError> {
+    let kw = Kw::empty().add(alloc, Conj::empty().with(&is_at(object(0))))?;
+    Ok(kw)
+}
+
+fn terms(alloc: Global) -> Result<Kv, AllocError> {
+    let kv = Kv::empty().add(alloc, here())?;
+    Ok(kv)
+}
+
+fn regions(alloc: Global) -> Result<Lcw, AllocError> {
+    let lcw = Lcw::empty().add(alloc, region())?;
+    Ok(lcw)
+}
+
 fn five(alloc: Global) -> Result<Five, AllocError> {
     let kf = known(alloc)?;
-    let kw = Kw::empty().add(alloc, Conj::empty().with(&is_at(object(0))))?;
-    let kv = Kv::empty().add(alloc, here())?;
+    let kw = formulas(alloc)?;
+    let kv = terms(alloc)?;
     let kx = groups(alloc)?;
-    let lcw = Lcw::empty().add(alloc, region())?;
+    let lcw = regions(alloc)?;
     Ok(Five {
         kf,
         kw,
