@@ -1,34 +1,113 @@
 //! What a moment gives the next one, and what it gets from it. `docs/RULES.md` has the rules on settling.
-ghost use Rattle.std.specs.Prelude.{◌≡◌, IfOk};
-ghost use Rattle.pks_terms.specs.Settling.{forward, backward};
+ghost use Rattle.std.specs.Prelude.{◌≡◌, map, IfOk};
+ghost use Rattle.pks_terms.specs.Problems.{schema_of};
+ghost use Rattle.pks_terms.specs.Settling.{forward, backward, effects_of};
 ghost use Rattle.pks_terms.specs.ValidProblems.{IsValidProblem};
-ghost use Rattle.pks_terms.specs.Views.{instance_of, problem_of};
+ghost use Rattle.pks_terms.specs.Views.{effect_of, instance_of, problem_of, signature_of};
 ghost use Rattle.pks_kf.specs.Known.{literals_of};
 ghost use Rattle.pks_normal.specs.Fives.{five_of};
+ghost use Rattle.pks_step_rules.specs.Changes.{signature_in, before_in, effects_by};
+ghost use Rattle.pks_step_rules.specs.Targets.{ArePlaced, given_forward, given_backward};
 
+use crate::change::Change;
+use crate::firing::{put_all_cannot_have_fired, put_all_fired, put_all_must_have_fired};
+use crate::lasting::{put_lasted, put_lasting};
 use pks_derived::derived::Derived;
+use pks_spoiling::effects::Effects;
+use pks_terms::ids::ActId;
 use pks_terms::literal::Literal;
 use pks_terms::problem::Problem;
-use pks_terms::schema::Instance;
+use pks_terms::schema::{Effect, Instance};
 use std::alloc::{AllocError, Global};
+
+/// The effects of the action as written, none where it isn't declared.
+fn written_of<'a>(p: &'a Problem<'_>, act: ActId) -> &'a [Effect]
+    requires { IsValidProblem p.now }
+    ensures says { map effect_of result.now ≡ (schema_of (problem_of p.now) act.0).effects }
+    ensures placed { ArePlaced result.now }
+{
+    match p.schemas.as_slice().get(usize::from(act.0)) {
+        Some(schema) => schema.effects.as_slice(),
+        None => &[],
+    }
+}
+
+/// The effects of the instance, judged by the databases before.
+fn change_of<'a>(p: &'a Problem<'_>, i: &'a Instance, before: &'a Derived) -> Change<'a>
+    requires { IsValidProblem p.now }
+    ensures signature { signature_in result ≡ signature_of p.now.signature }
+    ensures before { before_in result ≡ five_of before.now }
+    ensures effects { effects_by result ≡ effects_of (problem_of p.now) (instance_of i.now) }
+    ensures placed { ArePlaced result.effects.written.now }
+{
+    let effects = Effects {
+        written: written_of(p, i.act),
+        instance: i,
+    };
+    Change {
+        signature: &p.signature,
+        before,
+        effects,
+    }
+}
+
+/// The literals that last, and the targets of the effects that fire. The error is want of memory.
+pub(crate) fn forward_by(alloc: Global, change: &Change<'_>) -> Result<Vec<Literal>, AllocError>
+    requires { ArePlaced change.now.effects.written.now }
+    ensures { IfOk result (λ v. literals_of v.items ≡ given_forward (signature_in change.now) (effects_by change.now) (before_in change.now)) }
+{
+    let mut news = Vec::new(alloc);
+    put_lasting(&mut news, change)?;
+    put_all_fired(alloc, &mut news, change, change.effects.written)?;
+    Ok(news)
+}
+
+/// The literals that must have been there, the conditions of effects that must have fired, and the negations of conditions of
+/// effects that cannot have fired. The error is want of memory.
+pub(crate) fn backward_by(
+    alloc: Global,
+    change: &Change<'_>,
+    after: &Derived,
+) -> Result<Vec<Literal>, AllocError>
+    requires { ArePlaced change.now.effects.written.now }
+    ensures { IfOk result (λ v. literals_of v.items ≡ given_backward (signature_in change.now) (effects_by change.now) (before_in change.now) (five_of after.now)) }
+{
+    let written = change.effects.written;
+    let mut news = Vec::new(alloc);
+    put_lasted(&mut news, change, after)?;
+    put_all_must_have_fired(alloc, &mut news, change, after, written)?;
+    put_all_cannot_have_fired(alloc, &mut news, change, after, written)?;
+    Ok(news)
+}
 
 /// What a moment gives the next one: the literals that last, and the targets of the effects that fire. It asks for a valid
 /// problem. The error is want of memory.
-pub fn forward(alloc: Global, p: &Problem<'_>, i: &Instance, before: &Derived) -> Result<Vec<Literal>, AllocError>
+pub fn forward(
+    alloc: Global,
+    p: &Problem<'_>,
+    i: &Instance,
+    before: &Derived,
+) -> Result<Vec<Literal>, AllocError>
     requires { IsValidProblem p.now }
     ensures { IfOk result (λ v. literals_of v.items ≡ forward (problem_of p.now) (instance_of i.now) (five_of before.now)) }
 {
-    let _known = (alloc, p, i, before);
-    Err(AllocError)
+    let news = forward_by(alloc, &change_of(p, i, before))?;
+    Ok(news)
 }
 
 /// What a moment gets from the next one: the literals that must have been there, the conditions of effects that must have
 /// fired, and the negations of conditions of effects that cannot have fired. It asks for a valid problem. The error is want of
 /// memory.
-pub fn backward(alloc: Global, p: &Problem<'_>, i: &Instance, before: &Derived, after: &Derived) -> Result<Vec<Literal>, AllocError>
+pub fn backward(
+    alloc: Global,
+    p: &Problem<'_>,
+    i: &Instance,
+    before: &Derived,
+    after: &Derived,
+) -> Result<Vec<Literal>, AllocError>
     requires { IsValidProblem p.now }
     ensures { IfOk result (λ v. literals_of v.items ≡ backward (problem_of p.now) (instance_of i.now) (five_of before.now) (five_of after.now)) }
 {
-    let _known = (alloc, p, i, before, after);
-    Err(AllocError)
+    let news = backward_by(alloc, &change_of(p, i, before), after)?;
+    Ok(news)
 }

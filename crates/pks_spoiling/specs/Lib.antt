@@ -1,0 +1,2 @@
+pub mod EffectViews
+pub mod Reach
