@@ -5,3 +5,4 @@ pub mod Rooms
 pub mod Reading
 pub mod Stepping
 pub mod Ending
+pub mod Tidied

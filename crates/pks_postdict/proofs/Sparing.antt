@@ -1,24 +1,28 @@
 -- What a moment that did not grow gives is already where it goes to.
-use Rattle.std.proofs.Common.{◌≡◌, true, false, List, [], ◌∷◌, ◌++◌, ◌≤◌, length, get_or, sym, ap, ◌∙◌, subst, inr, true≢false, arith}
+use Rattle.std.proofs.Common.{◌≡◌, true, false, List, [], ◌∷◌, ◌++◌, ◌≤◌, length, get_or, sym, ap, ◌∙◌, subst, inr, true≢false, arith, refl}
 use Rattle.pks_terms.specs.Sets.{Each}
 use Rattle.pks_terms.specs.Syntax.{Literal}
 use Rattle.pks_terms.specs.Totality.{literal_cmp_total}
-use Rattle.pks_terms.specs.Signatures.{Signature}
+use Rattle.pks_terms.specs.Signatures.{Signature, HasValues}
 use Rattle.pks_terms.specs.Databases.{Five}
 use Rattle.pks_terms.specs.Closure.{additions}
 use Rattle.pks_terms.specs.Actions.{Instance}
 use Rattle.pks_terms.specs.Problems.{Problem}
 use Rattle.pks_terms.specs.Settling.{History, forward, backward, from_next, grown, settled_steps, settle_round}
-use Rattle.pks_terms.specs.Saturated.{Within}
+use Rattle.pks_terms.specs.Saturated.{Within, IsSaturated}
 use Rattle.pks_terms.specs.Views.{instance_of}
 use Rattle.pks_terms.proofs.OrderLaws.{literal_cmp_tells}
 use Rattle.pks_terms.proofs.SetLaws.{added_in}
+use Rattle.pks_laws.specs.OfSignature.{IsMomentOf}
+use Rattle.pks_laws.proofs.ClosedAgain.{closed_saturated}
 use Rattle.pks_laws.proofs.Least.{in_left, in_right}
+use Rattle.pks_postdict.specs.declared.family.Held.{Held}
+use Rattle.pks_postdict.specs.declared.family.Held.TheVariants as held_is
 use Rattle.pks_postdict.specs.declared.family.Place.{Place}
 use Rattle.pks_postdict.specs.declared.family.Link.{Link}
 use Rattle.pks_postdict.specs.declared.family.Family.{Family}
 use Rattle.pks_postdict.specs.Families.{held_of, links_of, family_of}
-use Rattle.pks_postdict.specs.Growing.{IsSparedAlone, AreSpared, IsGrowth, AreGrowths}
+use Rattle.pks_postdict.specs.Growing.{is_unread, IsSparedAlone, AreSpared, IsGrowth, AreGrowths}
 
 -- ---- reading it
 
@@ -34,14 +38,19 @@ pub next_spared : (p : Problem) (d : Place) (xs : List Link) (x : Link) → 1 �
 next_spared p d [] x h e s = absurd (omega arith)
 next_spared p d (y ∷ ys) x h e s = λ own other. s.2 own (sym (ap (λ (z : Link). z.place.grew) e) ∙ other)
 
--- ---- where all are marked as grown, nothing is spared
+pub still_read : (h : Held) → is_unread h false ≡ false
+still_read (held_is.Closed d) = refl
+still_read (held_is.Grown rc) = refl
 
-grew_alone : (s : Signature) (d : Place) → d.grew ≡ true → IsSparedAlone s d
-grew_alone s d g h = absurd (true≢false (sym g ∙ h))
+-- ---- where all are marked as grown, and the rules add nothing to any
 
-pub fresh_spared : (p : Problem) (d : Place) (xs : List Link) → d.grew ≡ true → Each (λ x. x.place.grew ≡ true) xs → AreSpared p d xs
-fresh_spared p d [] g a = grew_alone p.signature d g
-fresh_spared p d (x ∷ xs) g a = (grew_alone p.signature d g, λ h. absurd (true≢false (sym g ∙ h)), λ h. absurd (true≢false (sym g ∙ h)), fresh_spared p x.place xs a.0 a.1)
+pub fresh_spared : (p : Problem) (d : Place) (xs : List Link) → d.grew ≡ true → Each (λ x. x.place.grew ≡ true) xs → IsSaturated p.signature (held_of d.held) → Each (λ step. IsSaturated p.signature step.1) (links_of xs) → AreSpared p d xs
+fresh_spared p d [] g a s b = λ h. s
+fresh_spared p d (x ∷ xs) g a s b = (λ h. s, λ h. absurd (true≢false (sym g ∙ h)), λ h. absurd (true≢false (sym g ∙ h)), fresh_spared p x.place xs a.0 a.1 b.0 b.1)
+
+-- closed databases of a signature have all that the rules add to them
+pub moment_saturated : (s : Signature) → HasValues s → (d : Five) → IsMomentOf s d → IsSaturated s d
+moment_saturated s inhabited d m = closed_saturated s inhabited d m.closed m.ordered.known
 
 -- ---- after a round
 
@@ -55,7 +64,7 @@ module _ (p : Problem) where
   -- a moment that grew by its own news and those of the next one
   alone_after : (d e : Place) (news : List Literal) → IsGrowth d e → held_of e.held ≡ grown p.signature (held_of d.held) news → IsSparedAlone p.signature e
   alone_after d e news g r h =
-      subst (λ (x : Five). Within (additions p.signature x) (held_of e.held).kf) (sym (g.same h))
+      subst (λ (x : Five). Within (additions p.signature x) (held_of e.held).kf) (sym (g.same (sym g.read ∙ h)))
       (subst (λ (x : Five). Within (additions p.signature (held_of d.held)) x.kf) (sym r) (λ l i. grown_has p.signature (held_of d.held) news l (in_left (additions p.signature (held_of d.held)) news l i)))
 
   abbrev first_of : Five → List (Instance × Five) → Five

@@ -8,6 +8,8 @@ use Rattle.pks_terms.specs.Problems.{Problem}
 use Rattle.pks_terms.specs.Settling.{forward, backward}
 use Rattle.pks_terms.specs.Saturated.{Within, IsSaturated}
 use Rattle.pks_terms.specs.Views.{instance_of}
+use Rattle.pks_postdict.specs.declared.family.Held.{Held}
+use Rattle.pks_postdict.specs.declared.family.Held.TheVariants as held_is
 use Rattle.pks_postdict.specs.declared.family.Place.{Place}
 use Rattle.pks_postdict.specs.declared.family.Link.{Link}
 use Rattle.pks_postdict.specs.Families.{held_of}
@@ -17,9 +19,14 @@ pub record Completes (kf news all : List Literal) : Type 0 where
   pub sound : Within news all
   pub whole : (l : Literal) → IsIn l all → IsIn l kf ⊎ IsIn l news
 
--- where the moment did not grow, the rules add nothing to it
+-- whether the rules are to be read again at a moment: not for closed databases, nor where nothing grew
+abbrev pub is_unread : Held → Bool → Bool
+is_unread (held_is.Closed d) grew = false
+is_unread (held_is.Grown rc) grew = grew
+
+-- where they are not, the rules add nothing to it
 abbrev pub IsSparedAlone : Signature → Place → Type 0
-IsSparedAlone s d = d.grew ≡ false → IsSaturated s (held_of d.held)
+IsSparedAlone s d = is_unread d.held d.grew ≡ false → IsSaturated s (held_of d.held)
 
 -- where the moment before did not grow, the next one has all that it gives
 abbrev pub IsSparedForward : Problem → Place → Link → Type 0
@@ -38,6 +45,7 @@ AreSpared p d (x ∷ xs) = IsSparedAlone p.signature d × IsSparedForward p d x 
 pub record IsGrowth (d e : Place) : Type 0 where
   pub longer : e.grew ≡ true → (length (held_of d.held).kf < length (held_of e.held).kf) × (length (held_of e.held).kf < 2 ^ 64)
   pub same : e.grew ≡ false → held_of e.held ≡ held_of d.held
+  pub read : is_unread e.held e.grew ≡ e.grew
 
 -- so behind the same instance
 pub record IsLinkGrowth (x y : Link) : Type 0 where

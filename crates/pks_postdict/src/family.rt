@@ -3,9 +3,11 @@ ghost use Rattle.std.specs.Prelude.{◌≡◌, ◌<◌, ◌≤◌, ◌-◌, ◌|
 ghost use Rattle.pks_terms.specs.Sets.{Each};
 ghost use Rattle.pks_terms.specs.Problems.{Problem as SProblem};
 ghost use Rattle.pks_terms.specs.Settling.{with_last};
+ghost use Rattle.pks_terms.specs.Valid.{IsValid};
+ghost use Rattle.pks_laws.specs.OfSignature.{IsMomentOf, AreMomentsOf};
 ghost use Rattle.pks_normal.specs.Fives.{five_of};
 ghost use Rattle.pks_postdict.specs.Families.{held_of, links_of, family_of};
-ghost use Rattle.pks_postdict.specs.Growing.{AreSpared, some_grew};
+ghost use Rattle.pks_postdict.specs.Growing.{AreSpared, is_unread, some_grew};
 
 use pks_derived::derived::Derived;
 use pks_history::history::History;
@@ -72,6 +74,18 @@ impl Held {
     }
 }
 
+impl Place {
+    /// Whether the rules are to be read again: not for closed databases, nor where nothing grew.
+    pub(crate) fn is_unread(&self) -> bool
+        ensures { result ≡ is_unread self.now.held self.now.grew }
+    {
+        match &self.held {
+            Held::Closed(_) => false,
+            Held::Grown(_) => self.grew,
+        }
+    }
+}
+
 /// A moment that no round has looked at.
 fn fresh(d: Db) -> Place
     ensures held { held_of result.held ≡ five_of d }
@@ -129,7 +143,7 @@ impl Family {
     /// The moments of the history, the last one with these databases. No round has looked at any.
     pub(crate) fn of(alloc: Global, h: &History, d: Db) -> Result<Family, AllocError>
         ensures moments { IfOk result (λ f. family_of f ≡ with_last h.now (five_of d)) }
-        ensures spared { (p : SProblem) → IfOk result (λ f. AreSpared p f.start f.later.items) }
+        ensures spared { (p : SProblem) → IsValid p → AreMomentsOf p h.now → IsMomentOf p.signature (five_of d) → IfOk result (λ f. AreSpared p f.start f.later.items) }
     {
         let last = h.len() - 1;
         if last == 0 {

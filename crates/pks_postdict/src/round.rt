@@ -1,5 +1,5 @@
 //! Rounds over the moments of a history, and the last of them. `docs/RULES.md` has the rules on settling.
-ghost use Rattle.std.specs.Prelude.{◌≡◌, ◌≤◌, ◌<◌, false, List, [], ◌∷◌, ◌++◌, length, IfOk, OnOk};
+ghost use Rattle.std.specs.Prelude.{◌≡◌, ◌≤◌, ◌<◌, true, false, List, [], ◌∷◌, ◌++◌, length, IfOk, OnOk};
 ghost use Rattle.pks_terms.specs.Sets.{added, IsOrdered};
 ghost use Rattle.pks_terms.specs.Syntax.{Literal as SLiteral};
 ghost use Rattle.pks_terms.specs.Orders.{literal_cmp};
@@ -11,7 +11,7 @@ ghost use Rattle.pks_terms.specs.Views.{instance_of, problem_of, signature_of};
 ghost use Rattle.pks_kf.specs.Known.{literals_of};
 ghost use Rattle.pks_normal.specs.Fives.{five_of};
 ghost use Rattle.pks_postdict.specs.Families.{held_of, link_of, links_of, family_of};
-ghost use Rattle.pks_postdict.specs.Growing.{Completes, IsSparedAlone, IsSparedForward, AreSpared, IsGrowth, IsLinkGrowth, AreGrowths};
+ghost use Rattle.pks_postdict.specs.Growing.{Completes, IsSparedAlone, IsSparedForward, AreSpared, IsGrowth, IsLinkGrowth, AreGrowths, is_unread};
 ghost use Rattle.pks_postdict.specs.Lasting.{IsLastFamily};
 
 use crate::family::{Family, Held, Link, Place};
@@ -25,13 +25,13 @@ use pks_terms::problem::{Problem, Signature};
 use std::alloc::{AllocError, Global};
 use std::rc::Rc;
 
-/// What the rules add to a moment, where it grew.
+/// What the rules add to a moment, where they are to be read again.
 fn own_news(alloc: Global, s: &Signature, place: &Place) -> Result<Vec<Literal>, AllocError>
     requires few { length s.now.objects ≤ 65536 }
     requires spared { IsSparedAlone (signature_of s.now) place.now }
     ensures { IfOk result (λ v. Completes (held_of place.now.held).kf (literals_of v.items) (additions (signature_of s.now) (held_of place.now.held))) }
 {
-    if !place.grew {
+    if !place.is_unread() {
         return Ok(Vec::new(alloc));
     }
     let all = additions(alloc, s, place.held.derived())?;
@@ -96,7 +96,8 @@ fn with_known(five: &Five, kf: Kf) -> Result<Five, AllocError>
 
 /// These databases, to look literals up in.
 fn held(alloc: Global, five: Five) -> Result<Held, AllocError>
-    ensures { IfOk result (λ h. held_of h ≡ five_of five) }
+    ensures says { IfOk result (λ h. held_of h ≡ five_of five) }
+    ensures unread { IfOk result (λ h. is_unread h true ≡ true) }
 {
     let derived = Derived::of(alloc, five)?;
     let rc = Rc::new(alloc, derived)?;

@@ -51,17 +51,26 @@ fn clashes(s: &Signature, family: &Family) -> bool
         || some_clashes(s, family.later.as_slice())
 }
 
-/// The databases of a moment at the end of the rounds, in normal form.
+/// The databases of a moment at the end of the rounds, in normal form. Those that did not grow are so already.
 fn tidy(alloc: Global, s: &Signature, held: &Held) -> Result<Db, AllocError>
     requires values { HasValues (signature_of s.now) }
     requires closed { IsClosed (signature_of s.now) (tidied (held_of held.now)) }
     ensures { IfOk result (λ db. five_of db ≡ tidied (held_of held.now)) }
 {
-    let five = held.derived().five().share()?;
-    let derived = Derived::of(alloc, five)?;
-    let derived = tidied(alloc, derived)?;
-    let db = Db::of_closed(alloc, s, derived)?;
-    Ok(db)
+    match held {
+        Held::Closed(db) => {
+            let _closed = db.parts();
+            let same = db.share()?;
+            Ok(same)
+        }
+        Held::Grown(derived) => {
+            let five = derived.five().share()?;
+            let derived = Derived::of(alloc, five)?;
+            let derived = tidied(alloc, derived)?;
+            let db = Db::of_closed(alloc, s, derived)?;
+            Ok(db)
+        }
+    }
 }
 
 /// The history longer by these moments, each in normal form.

@@ -5,12 +5,13 @@ use Rattle.pks_terms.specs.Views.{signature_of}
 use Rattle.pks_kf.specs.Known.{literals_of}
 use Rattle.pks_closing.specs.Rounds.{HaveSameMembers}
 use Rattle.pks_postdict.specs.Families.{held_of}
+use Rattle.pks_postdict.specs.Growing.{is_unread}
 use Rattle.pks_postdict.proofs.Completing.{completes_members, completes_none}
 use Rattle.pks_postdict.proofs.round.own_news.Goals as goal
 
-pub returns-then-not-place : goal.returns-then-not-place
-returns-then-not-place c =
-    let still : c.args.place.now.grew ≡ false = cc in
+pub returns-then-not-is_unread : goal.returns-then-not-is_unread
+returns-then-not-is_unread c =
+    let still : is_unread c.args.place.now.held c.args.place.now.grew ≡ false = cc (c.is_unread.ensures) in
     completes_none _ _ (additions (signature_of c.args.s.now) (held_of c.args.place.now.held)) (ap literals_of c.new.ensures.items) (c.requires.spared still)
 
 pub returns : goal.returns

@@ -17,6 +17,9 @@ returns-then-clashes-clause-keeps_truth c =
     let some : true ≡ clashes p.signature g = cc (c.clashes.ensures) in
     λ w w' t. no_clash_where_true p w w' h t (settles_by p h f g c.in_ok-family.ensures.moments c.in_ok-last.ensures true some Stopped refl)
 
+pub last_family-requires-clause-spared : goal.last_family-requires-clause-spared
+last_family-requires-clause-spared c = c.in_ok-family.ensures.spared (problem_of c.args.p.now) c.requires.valid.says c.requires.moments c.requires.moment
+
 pub whole-requires-clause-start : goal.whole-requires-clause-start
 whole-requires-clause-start c =
     let p = problem_of c.args.p.now in
