@@ -17,7 +17,7 @@ build() {
         echo "pks: install the Rattle kit that README.md names, or put its bin folder on the PATH." >&2
         exit 127
     fi
-    echo "pks: proving and building the program. This takes some minutes; later calls run it at once." >&2
+    echo "pks: proving and building the program. From nothing this takes up to an hour on four cores; later calls run it at once." >&2
     log=$(mktemp) || exit 125
     # The run that ends the build is the stored example.
     if (cd "$top/crates/pks" && rm -f out/pks && rt run -- plan 0 <stdin) >"$log" 2>&1; then
