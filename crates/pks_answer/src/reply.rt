@@ -1,6 +1,7 @@
 //! The reply to a job about a file that was read. `docs/FORMAT.md` has all texts.
 ghost use Rattle.std.specs.Prelude.{◌≡◌, ℕ, List, IfOk};
 ghost use Rattle.pks_terms.specs.Views.{signature_of, problem_of};
+ghost use Rattle.pks_terms.specs.Printed.{accepted_text};
 ghost use Rattle.pks_terms.specs.Answers.{GivenWorld};
 ghost use Rattle.pks_world.specs.Contents.{world_of};
 ghost use Rattle.pks_normal.specs.Fives.{five_of};
@@ -60,6 +61,14 @@ fn given<'w>(world: &'w Stated) -> &'w World
     }
 }
 
+/// That the file is accepted.
+fn accepted_text(alloc: Global) -> Result<Vec<u8>, AllocError>
+    ensures { IfOk result (λ text. text.items ≡ accepted_text) }
+{
+    let text = b"accepted\n".to_vec(alloc)?;
+    Ok(text)
+}
+
 /// The reply where the file is accepted, from its first databases.
 fn concluded(
     alloc: Global,
@@ -76,27 +85,29 @@ fn concluded(
     ensures { IfOk result (λ a. IsReply (job_of job) (file_of f.now) a.0 a.1.items) }
 {
     match job {
-        Job::Check => Ok((Verdict::Done, b"accepted\n".to_vec(alloc)?)),
+        Job::Check => Ok((Verdict::Done, accepted_text(alloc)?)),
         Job::Plan(depth) => plan(alloc, &f.problem, first, depth),
         Job::Exec(depth) => plan_and_run(alloc, &f.problem, given(world), first, depth),
         Job::Bench(n) => bench(alloc, &f.problem, f.source.as_bytes(), first, n),
     }
 }
 
-/// The reply.
+/// The reply to a job about the file that states this world.
 fn replied(
     alloc: Global,
     job: Job,
     f: &InputFile<'_>,
+    world: &Stated,
 ) -> Result<(Verdict, Vec<u8>), AllocError>
     requires whole { IsWhole f.now }
     requires bounds { IsInBounds (job_of job) }
     requires about { IsAbout (job_of job) f.now.source.now }
+    requires world { (file_of f.now).world ≡ stated_of world.now }
+    requires of_signature { IsStatedIn (signature_of f.now.problem.signature) (stated_of world.now) }
     ensures { IfOk result (λ a. IsReply (job_of job) (file_of f.now) a.0 a.1.items) }
 {
-    let world = stated(alloc, f)?;
-    match accept(alloc, job, &f.problem, &world) {
-        Ok(first) => concluded(alloc, job, f, &world, first),
+    match accept(alloc, job, &f.problem, world) {
+        Ok(first) => concluded(alloc, job, f, world, first),
         Err(AcceptEnd::Refused(why)) => Ok((Verdict::Refused, objection_line(alloc, f, why)?)),
         Err(AcceptEnd::Memory) => Err(AllocError),
     }
@@ -118,6 +129,7 @@ pub fn reply_about(
     ensures only { IfOk result (λ a. (v : Verdict) (text : List ℕ) → IsReply (job_of job) (file_of f.now) v text → (v ≡ a.0) × (text ≡ a.1.items)) }
     ensures good { IfOk result (λ a. a.0 ≡ Verdict.Done → PrintsGoodPlan (job_of job) (file_of f.now) a.1.items) }
 {
-    let answer = replied(alloc, job, f)?;
+    let world = stated(alloc, f)?;
+    let answer = replied(alloc, job, f, &world)?;
     Ok(answer)
 }
