@@ -123,12 +123,7 @@ fn begin(alloc: Global, p: &Problem<'_>) -> Result<Db, AcceptEnd>
 /// The first databases of a valid problem, with the world that its file states, which is one of the problem's signature where
 /// it is given. The file is refused exactly where one of the codes 260 to 311 applies for the job, by the first of them in the
 /// order of `docs/FORMAT.md`, or memory ran out.
-pub fn accept(
-    alloc: Global,
-    job: Job,
-    p: &Problem<'_>,
-    world: &Stated,
-) -> Result<Db, AcceptEnd>
+pub fn accept(alloc: Global, job: Job, p: &Problem<'_>, world: &Stated) -> Result<Db, AcceptEnd>
     requires valid { IsValidProblem p.now }
     requires world { IsStatedIn (signature_of p.now.signature) (stated_of world.now) }
     ensures accepts { IfOk result (λ db. Accepts (job_of job) (problem_of p.now) (stated_of world.now) (five_of db)) }

@@ -14,6 +14,8 @@ returns-in_ok-objection_line-in-Err-Refused c =
     let w = stated_of c.args.world.now in
     let objection : IsObjection j (problem_of c.args.f.now.problem) w c.in-Err-Refused.why =
     subst (IfRefused (IsObjection j (problem_of c.args.f.now.problem) w)) c.in-Err-Refused.field-0-is c.in-Err-Refused.ensures.refused
-    in
-    (refusal_for f c.in-Err-Refused.why, refuses j f w c.in-Err-Refused.why c.requires.world objection,
-      c.in_ok-objection_line-in-Err-Refused.ensures ∙ ap (λ x. refusal_text (refusal_for f x)) c.in-Err-Refused.why-is)
+    in (
+      refusal_for f c.in-Err-Refused.why,
+      refuses j f w c.in-Err-Refused.why c.requires.world objection,
+      c.in_ok-objection_line-in-Err-Refused.ensures ∙ ap (λ x. refusal_text (refusal_for f x)) c.in-Err-Refused.why-is,
+    )
