@@ -530,3 +530,40 @@ do (go kitchen)
 do (put cup)
 goal
 ";
+
+pub const LAWN_AT_START: &str = "(pks 2)
+(domain
+  (predicates (alive) (poison))
+  (action pour (effects (when ((poison)) (unset (alive)))))
+  (action look (senses (sense (alive))) (knows (kw (alive)))))
+(problem (init (kf (alive))) (goal (at-start (kw (poison)))))
+";
+
+pub const LAWN_ALWAYS: &str = "(pks 2)
+(domain
+  (predicates (alive) (poison))
+  (action pour (effects (when ((poison)) (unset (alive)))))
+  (action look (senses (sense (alive))) (knows (kw (alive)))))
+(problem (init (kf (alive))) (goal (always (k (alive))) (kw (poison))))
+";
+
+// What is seen is two moments after the pouring.
+pub const RESTED_LAWN: &str = "(pks 2)
+(domain
+  (predicates (alive) (poison) (rested))
+  (action pour (effects (when ((poison)) (unset (alive)))))
+  (action rest (effects (set (rested))) (knows (kf (rested))))
+  (action look (pre (k (rested))) (senses (sense (alive))) (knows (kw (alive)))))
+(problem (init (kf (alive))) (goal (at-start (kw (poison)))))
+";
+
+pub const RESTED_LAWN_PLAN: &str = "plan depth 4
+(pour)
+(rest)
+(look)
+branch (alive)
+true
+  goal
+false
+  goal
+";
