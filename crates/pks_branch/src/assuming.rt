@@ -102,20 +102,20 @@ fn open_literals(
 ) -> Result<Vec<Literal>, AllocError>
     ensures { IfOk result (λ v. literals_in v.items ≡ filter (λ l. not (holds (signature_of s.now) (five_of d.now) l)) (literals_in ls.now)) }
 {
-    let mut open = Vec::new(alloc);
+    let mut unknown = Vec::new(alloc);
     for l in ls {
         if !d.known(s, l) {
-            open.push(*l)?;
+            unknown.push(*l)?;
         }
     }
-    Ok(open)
+    Ok(unknown)
 }
 
 /// The negation of the literal that is alone, and nothing of other lists.
-fn denials(alloc: Global, open: &[Literal]) -> Result<Vec<Literal>, AllocError>
-    ensures { IfOk result (λ v. literals_in v.items ≡ denials (literals_in open.now)) }
+fn denials(alloc: Global, unknown: &[Literal]) -> Result<Vec<Literal>, AllocError>
+    ensures { IfOk result (λ v. literals_in v.items ≡ denials (literals_in unknown.now)) }
 {
-    match open {
+    match unknown {
         [l] => {
             let alone = vec![in alloc; l.negated()]?;
             Ok(alone)
@@ -138,8 +138,8 @@ fn with_true(alloc: Global, d: &Db, c: &Conj) -> Result<Five, AllocError>
 fn with_false(alloc: Global, s: &Signature, d: &Db, c: &Conj) -> Result<Five, AllocError>
     ensures { IfOk result (λ next. five_of next ≡ assumed_formula (five_of d.now) (conj_of c.now) (denials (filter (λ l. not (holds (signature_of s.now) (five_of d.now) l)) (conj_of c.now)))) }
 {
-    let open = open_literals(alloc, s, d, front(&c.literals, c.n))?;
-    let news = denials(alloc, open.as_slice())?;
+    let unknown = open_literals(alloc, s, d, front(&c.literals, c.n))?;
+    let news = denials(alloc, unknown.as_slice())?;
     let next = with_formula(alloc, d.parts(), c, news)?;
     Ok(next)
 }

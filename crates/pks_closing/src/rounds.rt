@@ -54,24 +54,6 @@ fn known_after(alloc: Global, s: &Signature, d: &Derived) -> Result<Kf, AllocErr
     Ok(kf)
 }
 
-/// The same five with other known literals.
-fn with_known(five: &Five, kf: Kf) -> Result<Five, AllocError>
-    ensures five { IfOk result (λ next. five_of next ≡ record (five_of five.now) { kf = literals_of kf }) }
-    ensures known { IfOk result (λ next. next.kf ≡ kf) }
-{
-    let kw = five.kw.share()?;
-    let kv = five.kv.share()?;
-    let kx = five.kx.share()?;
-    let lcw = five.lcw.share()?;
-    Ok(Five {
-        kf,
-        kw,
-        kv,
-        kx,
-        lcw,
-    })
-}
-
 /// The five after one more round, or `None` where a round changes nothing.
 fn next_round(alloc: Global, s: &Signature, d: &Derived) -> Result<Option<Five>, AllocError>
     requires { length s.now.objects ≤ 65536 }
@@ -82,7 +64,7 @@ fn next_round(alloc: Global, s: &Signature, d: &Derived) -> Result<Option<Five>,
     if kf.len() == five.kf.len() {
         return Ok(None);
     }
-    let next = with_known(five, kf)?;
+    let next = five.with_known(kf)?;
     Ok(Some(next))
 }
 

@@ -5,7 +5,7 @@ ghost use Rattle.std.specs.List.{list_any, list_all};
 ghost use Rattle.pks_terms.specs.Syntax.{Equality, negated};
 ghost use Rattle.pks_terms.specs.Databases.{normal, is_known, is_evident, is_plain, differ, some_differ, fits, is_shut_out, is_closed_off, holds};
 ghost use Rattle.pks_terms.specs.Orders.{inequation};
-ghost use Rattle.pks_terms.specs.Views.{object_of, term_of, terms_of, literal_of, atom_of, arguments_in, places_of, relation_of, signature_of};
+ghost use Rattle.pks_terms.specs.Views.{object_of, term_of, terms_of, literal_of, literals_in, atom_of, arguments_in, places_of, relation_of, signature_of};
 ghost use Rattle.pks_kf.specs.Known.{literals_of};
 ghost use Rattle.pks_lcw.specs.Entries.{atoms_of, entry_of, entries_of};
 ghost use Rattle.pks_normal.specs.Fives.{five_of};
@@ -234,5 +234,15 @@ impl Derived {
         ensures { result ≡ holds (signature_of s.now) (five_of self.now) (negated (literal_of l.now)) }
     {
         self.holds(s, &l.negated())
+    }
+
+    /// Whether the negation of some of the literals holds. It takes no memory.
+    pub fn some_denied(&self, s: &Signature, ls: &[Literal]) -> bool
+        ensures { result ≡ list_any (λ l. holds (signature_of s.now) (five_of self.now) (negated l)) (literals_in ls.now) }
+    {
+        match ls {
+            [] => false,
+            [l, ls @ ..] => self.denies(s, l) || self.some_denied(s, ls),
+        }
     }
 }

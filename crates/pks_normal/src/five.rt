@@ -1,5 +1,6 @@
 //! The five databases.
 ghost use Rattle.std.specs.Prelude.{◌≡◌, IfOk};
+ghost use Rattle.pks_kf.specs.Known.{literals_of};
 ghost use Rattle.pks_normal.specs.Fives.{five_of};
 
 use pks_kf::Kf;
@@ -41,5 +42,15 @@ impl Five {
             kx,
             lcw,
         })
+    }
+
+    /// The same five with other known literals. The error is want of memory for one more reference.
+    pub fn with_known(&self, kf: Kf) -> Result<Five, AllocError>
+        ensures five { IfOk result (λ next. five_of next ≡ record (five_of self.now) { kf = literals_of kf }) }
+        ensures known { IfOk result (λ next. next.kf ≡ kf) }
+    {
+        let mut next = self.share()?;
+        next.kf = kf;
+        Ok(next)
     }
 }

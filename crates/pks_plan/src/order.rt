@@ -17,8 +17,8 @@ use pks_terms::schema::Instance;
 use pks_terms::term::front;
 use std::cmp::Ordering;
 
-/// What an action costs.
-fn action_cost(p: &Problem<'_>, act: ActId) -> u32
+/// What an action costs by itself: what its schema says (docs/RULES.md, "Trees").
+pub fn action_cost(p: &Problem<'_>, act: ActId) -> u32
     ensures { result ≡ (schema_of (problem_of p.now) act.0).cost }
 {
     match p.schemas.as_slice().get(usize::from(act.0)) {

@@ -85,15 +85,6 @@ fn backward_news(
     }
 }
 
-/// The same five with other known literals.
-fn with_known(five: &Five, kf: Kf) -> Result<Five, AllocError>
-    ensures { IfOk result (λ next. five_of next ≡ record (five_of five.now) { kf = literals_of kf }) }
-{
-    let mut next = five.share()?;
-    next.kf = kf;
-    Ok(next)
-}
-
 /// These databases, to look literals up in.
 fn held(alloc: Global, five: Five) -> Result<Held, AllocError>
     ensures says { IfOk result (λ h. held_of h ≡ five_of five) }
@@ -116,7 +107,7 @@ fn grown(alloc: Global, place: &Place, news: Vec<Literal>) -> Result<Place, Allo
         let held = place.held.share()?;
         return Ok(Place { held, grew: false });
     }
-    let next = with_known(five, kf)?;
+    let next = five.with_known(kf)?;
     let held = held(alloc, next)?;
     Ok(Place { held, grew: true })
 }

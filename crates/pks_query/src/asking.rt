@@ -123,10 +123,7 @@ impl Db {
     pub fn some_denied(&self, s: &Signature, ls: &[Literal]) -> bool
         ensures { result ≡ list_any (λ l. holds (signature_of s.now) (five_of self.now) (negated l)) (literals_in ls.now) }
     {
-        match ls {
-            [] => false,
-            [l, ls @ ..] => self.denied(s, l) || self.some_denied(s, ls),
-        }
+        self.derived().some_denied(s, ls)
     }
 
     /// Whether each of the literals alone is known to be true or false.

@@ -1,28 +1,15 @@
 //! The roots of trees over what was found for their children.
 
 ghost use Rattle.std.specs.Prelude.{◌≡◌, Some, option_map, IfOk};
-ghost use Rattle.pks_terms.specs.Problems.{schema_of};
 ghost use Rattle.pks_terms.specs.Trees.{Do, Branch, Cases};
-ghost use Rattle.pks_terms.specs.Views.{term_of, conj_of, instance_of, problem_of};
+ghost use Rattle.pks_terms.specs.Views.{term_of, conj_of, instance_of};
 ghost use Rattle.pks_plan.specs.TreeViews.{tree_of, chain_of};
 
 use pks_plan::tree::{CaseChain, Tree};
-use pks_terms::ids::ActId;
 use pks_terms::literal::Conj;
-use pks_terms::problem::Problem;
 use pks_terms::schema::Instance;
 use pks_terms::term::Term;
 use std::alloc::{AllocError, Global};
-
-/// What an action costs by itself.
-pub(crate) fn price(p: &Problem<'_>, act: ActId) -> u32
-    ensures { result ≡ (schema_of (problem_of p.now) act.0).cost }
-{
-    match p.schemas.as_slice().get(usize::from(act.0)) {
-        Some(schema) => schema.cost,
-        None => 1,
-    }
-}
 
 /// The action and what follows it, where something does.
 pub(crate) fn act(

@@ -14,13 +14,13 @@ ghost use Rattle.pks_branch.specs.ChoiceViews.{choice_of, side_of};
 ghost use Rattle.pks_search.specs.Limits.{IsBestWithin, IsCheapBy, IsBestAfter, IsBestTaking, AreBestCheapCases};
 ghost use Rattle.pks_search.specs.Ready.{IsReady};
 
-use crate::parts::{act, branch, cases, price};
+use crate::parts::{act, branch, cases};
 use pks_branch::assuming::{Side, assume};
 use pks_branch::choices::{Choice, choices};
 use pks_branch::leaving::left;
 use pks_history::history::History;
 use pks_past::met::met;
-use pks_plan::order::cost;
+use pks_plan::order::{action_cost, cost};
 use pks_plan::tree::{CaseChain, Tree};
 use pks_postdict::settle::{Settled, settle};
 use pks_progress::progress::progress;
@@ -115,7 +115,7 @@ fn best_by_action(
     requires chosen { IsIn (instance_of step.now) (instances (problem_of p.now) (last_moment h.now)) }
     ensures { IfOk result (λ o. IsBestOf (problem_of p.now) (IsCheapBy (problem_of p.now) h.now (n + 1) limit (Act (instance_of step.now))) (option_map tree_of o)) }
 {
-    let own = price(p, step.act);
+    let own = action_cost(p, step.act);
     if limit < own {
         return Ok(None);
     }

@@ -1,4 +1,4 @@
-//! What an effect may do, as far as databases tell. `docs/RULES.md` has the rule on what an action may change.
+//! What an effect may do, as far as databases tell. `docs/RULES.md` has the rule, "Interference".
 ghost use Rattle.std.specs.Prelude.{◌≡◌, ◌&&◌, map};
 ghost use Rattle.std.specs.List.{list_any};
 ghost use Rattle.std.specs.Option.{option_map};
@@ -21,21 +21,12 @@ use pks_terms::problem::Signature;
 use pks_terms::schema::{Effect, Instance, Target};
 use pks_terms::term::{Inner, Term, front};
 
-fn some_denied(s: &Signature, d: &Derived, literals: &[Literal]) -> bool
-    ensures { result ≡ list_any (λ l. holds (signature_of s.now) (five_of d.now) (negated l)) (literals_in literals.now) }
-{
-    match literals {
-        [] => false,
-        [l, rest @ ..] => d.denies(s, l) || some_denied(s, d, rest),
-    }
-}
-
 /// Whether the effect, with its arguments put in, may fire: none of its conditions is derived false. It takes no memory.
 #[tactic(auto, unfolding(pks_terms::specs::Spoiling::may_fire))]
 pub fn may_fire(s: &Signature, d: &Derived, e: &Effect) -> bool
     ensures { result ≡ may_fire (signature_of s.now) (five_of d.now) (effect_of e.now) }
 {
-    !some_denied(s, d, front(&e.cond.literals, e.cond.n))
+    !d.some_denied(s, front(&e.cond.literals, e.cond.n))
 }
 
 #[tactic(auto, unfolding(pks_terms::specs::Spoiling::may_fire))]
@@ -43,7 +34,7 @@ fn may_fire_at(s: &Signature, d: &Derived, e: &Effect, i: &Instance) -> bool
     ensures { result ≡ may_fire (signature_of s.now) (five_of d.now) (effect_at (given_of i.now) (effect_of e.now)) }
 {
     let cond = e.cond.at(i);
-    !some_denied(s, d, front(&cond.literals, cond.n))
+    !d.some_denied(s, front(&cond.literals, cond.n))
 }
 
 /// Whether at some fixed position the term differs from the argument. It takes no memory.

@@ -154,16 +154,6 @@ pub(crate) fn put_all_must_have_fired(
     Ok(())
 }
 
-/// Whether the negation of some literal holds.
-fn some_denied(s: &Signature, d: &Derived, literals: &[Literal]) -> bool
-    ensures { result ≡ list_any (λ l. holds (signature_of s.now) (five_of d.now) (negated l)) (literals_in literals.now) }
-{
-    match literals {
-        [] => false,
-        [l, rest @ ..] => d.denies(s, l) || some_denied(s, d, rest),
-    }
-}
-
 /// Whether some stable form of the target is denied afterwards. The error is want of memory.
 fn is_denied_after(
     alloc: Global,
@@ -175,7 +165,7 @@ fn is_denied_after(
     ensures { IfOk result (λ b. b ≡ is_denied_after (signature_in change.now) (effects_by change.now) (before_in change.now) (five_of after.now) (target_at (given_in change.now) (target_of target.now))) }
 {
     let forms = target_forms(alloc, change, target)?;
-    Ok(some_denied(change.signature, after, forms.as_slice()))
+    Ok(after.some_denied(change.signature, forms.as_slice()))
 }
 
 /// Puts the negation of the condition after the others, where all its fellows hold before.

@@ -9,4 +9,4 @@ use Rattle.pks_branch.proofs.assuming.open_literals.Given as goal
 abbrev pub invariant-loop-l : goal.invariant-loop-l
 invariant-loop-l l =
     let open_in = λ (ls : List Literal). filter (λ l'. not (holds (signature_of l.s) (five_of l.d) l')) (literals_in ls) in
-    literals_in l.open.items ++ open_in (drop l.l-index l.ls) ≡ open_in l.ls
+    literals_in l.unknown.items ++ open_in (drop l.l-index l.ls) ≡ open_in l.ls

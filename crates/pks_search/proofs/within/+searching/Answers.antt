@@ -56,7 +56,7 @@ best_after-returns-in_ok-longer-in-Next t c =
 
 pub best_by_action-returns-then-limit-own : goal.best_by_action-returns-then-limit-own
 best_by_action-returns-then-limit-own t c =
-    let dear : c.args.limit < price (problem_of c.args.p.now) (instance_of c.args.step.now) = omega (arith, c.if-limit-own.true, c.price-own.ensures) in
+    let dear : c.args.limit < price (problem_of c.args.p.now) (instance_of c.args.step.now) = omega (arith, c.if-limit-own.true, c.action_cost-own.ensures) in
     dear_act (problem_of c.args.p.now) c.args.h.now (c.args.n + 1) (instance_of c.args.step.now) c.args.limit dear
 
 pub best_by_action-returns : goal.best_by_action-returns
@@ -64,7 +64,7 @@ best_by_action-returns t c =
     let p = problem_of c.args.p.now in
     let i = instance_of c.args.step.now in
     IfOk-weaker c.act.result _ (λ o. IsBestOf p (IsCheapBy p c.args.h.now (c.args.n + 1) c.args.limit (Act i)) (option_map tree_of o))
-    (λ o e. found_act p c.args.h.now c.args.n c.args.limit c.price-own.result i (option_map tree_of c.in_ok-next.next) (option_map tree_of o) c.requires.chosen c.price-own.ensures c.if-limit-own.false c.in_ok-next.ensures e)
+    (λ o e. found_act p c.args.h.now c.args.n c.args.limit c.action_cost-own.result i (option_map tree_of c.in_ok-next.next) (option_map tree_of o) c.requires.chosen c.action_cost-own.ensures c.if-limit-own.false c.in_ok-next.ensures e)
     c.act.ensures
 
 -- ---- branches
