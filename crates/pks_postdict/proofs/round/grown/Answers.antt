@@ -32,14 +32,14 @@ returns-clause-known c =
     let five = c.five-five.result.now in
     let d = held_of c.args.place.now.held in
     let lent : five_of five ≡ d = ap five_of c.five-five.ensures ∙ c.derived.ensures in
-    c.in_ok-held-2.ensures.says ∙ c.in_ok-next.ensures ∙ five_added five d lent c.in_ok-kf.kf c.args.news.items c.in_ok-kf.ensures
+    c.in_ok-held-2.ensures.says ∙ c.in_ok-next.ensures.five ∙ five_added five d lent c.in_ok-kf.kf c.args.news.items c.in_ok-kf.ensures
 
 pub returns-clause-growth : goal.returns-clause-growth
 returns-clause-growth c =
     let five = c.five-five.result.now in
     let d = held_of c.args.place.now.held in
     let lent : five_of five ≡ d = ap five_of c.five-five.ensures ∙ c.derived.ensures in
-    let whole = c.in_ok-held-2.ensures.says ∙ c.in_ok-next.ensures ∙ five_added five d lent c.in_ok-kf.kf c.args.news.items c.in_ok-kf.ensures in
+    let whole = c.in_ok-held-2.ensures.says ∙ c.in_ok-next.ensures.five ∙ five_added five d lent c.in_ok-kf.kf c.args.news.items c.in_ok-kf.ensures in
     let other : length c.in_ok-kf.kf ≡ length five.kf → ⊥ = λ e. c.if-len.false (c.len.ensures.count ∙ e ∙ sym c.len-2.ensures.count) in
     let fits : length c.in_ok-kf.kf < 2 ^ 64 = omega (arith, c.len.ensures.count) in
     record {
