@@ -1,8 +1,8 @@
 use crate::{Turned, read_problem};
 use std::alloc::Global;
 
-// The place and the code of the refusal; zeros where there is none.
-fn refusal_of(alloc: Global, text: &str) -> (u32, u16) {
+/// The place and the code of the refusal; zeros where there is none.
+pub(crate) fn refusal_of(alloc: Global, text: &str) -> (u32, u16) {
     if text.len() > 262144 {
         return (0, 100);
     }

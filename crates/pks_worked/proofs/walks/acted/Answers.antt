@@ -1,0 +1,39 @@
+use Rattle.std.proofs.Common.{◌≡◌, map, sym, ap, ◌∙◌, subst}
+use Rattle.pks_terms.specs.Sets.{IsIn}
+use Rattle.pks_terms.specs.Branching.{choices, instances, Act}
+use Rattle.pks_terms.specs.Settling.{last_moment}
+use Rattle.pks_terms.specs.Views.{instance_of, problem_of}
+use Rattle.pks_laws.specs.OfSignature.{IsMomentOf, AreMomentsOf}
+use Rattle.pks_normal.specs.Fives.{five_of}
+use Rattle.pks_query.specs.Steps.{outcome_of}
+use Rattle.pks_branch.specs.ChoiceViews.{choice_of}
+use Rattle.pks_search.proofs.Readiness.{ready_last, ready_acted, chosen_action}
+use Rattle.pks_search.proofs.Children.{acted}
+use Rattle.pks_worked.proofs.Walking.{chosen}
+use Rattle.pks_worked.proofs.walks.acted.Goals as goal
+
+pub progress-requires-clause-moment : goal.progress-requires-clause-moment
+progress-requires-clause-moment c = subst (IsMomentOf (problem_of c.args.p.now).signature) (sym c.last-2.ensures) (ready_last c.args.p.now c.args.h.now 1 c.requires.ready)
+
+pub progress-requires-clause-choice : goal.progress-requires-clause-choice
+progress-requires-clause-choice c =
+    let p = problem_of c.args.p.now in
+    let d = last_moment c.args.h.now in
+    let i = instance_of c.in-Act.step in
+    let all : map choice_of c.as_slice.result.now ≡ choices p d = ap (map choice_of) c.as_slice.ensures ∙ (c.in_ok-all.ensures.all ∙ ap (choices p) c.last.ensures) in
+    let member = chosen choice_of c.as_slice.result.now c.in_ok-step.field-0.now (choices p d) all c.in_ok-step.ensures in
+    let acts : IsIn (Act i) (choices p d) = subst (λ x. IsIn (choice_of x) (choices p d)) c.in-Act.is member in
+    subst (λ e. IsIn i (instances p e)) (sym c.last-2.ensures) (chosen_action p d i acts)
+
+pub returns-clause-moments : goal.returns-clause-moments
+returns-clause-moments c =
+    let p = problem_of c.args.p.now in
+    let i = instance_of c.in-Act.step in
+    let d = last_moment c.args.h.now in
+    let all : map choice_of c.as_slice.result.now ≡ choices p d = ap (map choice_of) c.as_slice.ensures ∙ (c.in_ok-all.ensures.all ∙ ap (choices p) c.last.ensures) in
+    let member = chosen choice_of c.as_slice.result.now c.in_ok-step.field-0.now (choices p d) all c.in_ok-step.ensures in
+    let acts : IsIn (Act i) (choices p d) = subst (λ x. IsIn (choice_of x) (choices p d)) c.in-Act.is member in
+    let choice = chosen_action p d i acts in
+    let progress = acted p c.args.h.now i (five_of c.last-2.result.now) (five_of c.in-Next.d) (outcome_of c.in_ok-d.field-0) c.last-2.ensures (ap outcome_of c.in-Next.is) c.in_ok-d.ensures.progress in
+    let ready = ready_acted c.args.p.now c.args.h.now 0 i (five_of c.in-Next.d) c.requires.ready choice progress in
+    subst (AreMomentsOf p) (sym c.in_ok-longer.ensures) ready.moments

@@ -1,0 +1,10 @@
+//! Worked steps: what actions, assumptions and settling make of worked files. What is expected is worked out by hand from the
+//! rules of `docs/RULES.md`.
+#![tactic(auto)]
+
+#[cfg(test)]
+mod domains;
+#[cfg(test)]
+mod tests;
+#[cfg(test)]
+mod walks;
