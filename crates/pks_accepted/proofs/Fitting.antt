@@ -16,7 +16,8 @@ use Rattle.pks_grammar.specs.declared.grammar.Version.{Version}
 use Rattle.pks_grammar.specs.declared.grammar.Sort.{Sort}
 use Rattle.pks_grammar.specs.declared.grammar.Sort.TheVariants as sort
 use Rattle.pks_grammar.specs.declared.grammar.Part.TheVariants.{One, Many}
-use Rattle.pks_grammar.specs.Words.{is_name, is_variable, is_wild}
+use Rattle.pks_terms.specs.ValidProblems.{is_name}
+use Rattle.pks_grammar.specs.Words.{is_variable, is_wild}
 use Rattle.pks_grammar.specs.Grammar.{lists, is_allowed}
 use Rattle.pks_grammar.specs.Walk.{count}
 use Rattle.pks_grammar.specs.Files.{Fault}

@@ -5,14 +5,13 @@ use Rattle.std.specs.Map.{keys_of}
 use Rattle.std.proofs.lemmas.Bool.{true≢false, false≢true, eqb-true}
 use Rattle.std.proofs.lemmas.Slice.Eq.{bytes_eq-Decides}
 use Rattle.pks_terms.specs.Sets.{IsIn}
-use Rattle.pks_terms.specs.ValidProblems.{AreDifferent}
+use Rattle.pks_terms.specs.ValidProblems.{is_name, AreDifferent}
 use Rattle.pks_terms.proofs.ListLaws.{each_in}
 use Rattle.pks_text.specs.Forms.{Form, Word, Listing, Forms, no_forms, form, place_of}
 use Rattle.pks_grammar.specs.declared.grammar.Version.{Version}
 use Rattle.pks_grammar.specs.declared.grammar.Version.TheVariants.{First, Second}
 use Rattle.pks_grammar.specs.declared.grammar.Sort.TheVariants as sort
 use Rattle.pks_grammar.specs.declared.grammar.Part.TheVariants.{One, Many}
-use Rattle.pks_grammar.specs.Words.{is_name}
 use Rattle.pks_grammar.specs.Grammar.{lists, is_allowed}
 use Rattle.pks_grammar.specs.Files.{Fault, number_of}
 use Rattle.pks_grammar.specs.Language.{IsOf, Matches}

@@ -31,7 +31,7 @@ use Rattle.pks_accepted.proofs.Shapes.{AllHold, headed, of_sort, some_of, two_of
 use Rattle.pks_accepted.proofs.Numbers.{nil_parts, each_forms, each_faultless}
 use Rattle.pks_accepted.proofs.Fitting.{own_types, stands_fits, term_stands}
 use Rattle.pks_accepted.proofs.Literals.{each_first, each_all, only_is_term, only_atom, literals_text, conj_text, pattern_text, place_applied, place_stands, only_place}
-use Rattle.pks_accepted.proofs.Sequences.{each_in_sequence, in_sequence_twice}
+use Rattle.pks_terms.proofs.Sequences.{each_in_sequence, in_sequence_twice}
 
 -- what a single form without a fault means
 single : {X : Type 0} (R : Form → Type 0) (faults : Form → List Fault) (x : X) (meant : Form → X) (Q : X → Type 0) → ((f : Form) → R f → faults f ≡ [] → Q (meant f)) → (rest : Forms) → Alone R rest → only faults rest ≡ [] → Q (one x meant rest)

@@ -9,7 +9,8 @@ use Rattle.pks_grammar.specs.declared.grammar.Sort.{Sort}
 use Rattle.pks_grammar.specs.declared.grammar.Sort.TheVariants.{Head, Name, Variable, Number}
 use Rattle.pks_grammar.specs.declared.grammar.Part.{Part}
 use Rattle.pks_grammar.specs.declared.grammar.Part.TheVariants.{One, Many}
-use Rattle.pks_grammar.specs.Words.{is_name, is_variable, is_number}
+use Rattle.pks_terms.specs.ValidProblems.{is_name}
+use Rattle.pks_grammar.specs.Words.{is_variable, is_number}
 use Rattle.pks_grammar.specs.Grammar.{Lists, is_allowed, lists, is_among}
 use Rattle.pks_grammar.specs.Walk.{head_of}
 use Rattle.pks_grammar.specs.Language.{IsOf, word, listing, MayHave, Matches, one, no_more, again}

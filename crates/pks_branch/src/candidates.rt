@@ -7,7 +7,7 @@ ghost use Rattle.pks_terms.specs.Branching.{as_inner, candidates};
 ghost use Rattle.pks_terms.specs.Views.{object_of, inner_of, term_of, terms_of, types_of, signature_of};
 ghost use Rattle.pks_normal.specs.Fives.{five_of};
 
-use pks_derived::ranges::{object_is_of, objects_of};
+use pks_derived::ranges::object_is_of;
 use pks_kv::Kv;
 use pks_normal::five::Five;
 use pks_normal::normals::objects;
@@ -97,7 +97,7 @@ fn candidates(
     requires { length s.now.objects ≤ 65536 }
     ensures { IfOk result (λ list. map inner_of list ≡ candidates (signature_of s.now) (five_of five.now) of.0) }
 {
-    let objects = objects_of(alloc, s, of)?;
+    let objects = s.objects_of(alloc, of)?;
     let mut list = Vec::new(alloc);
     push_objects(objects.as_slice(), &mut list)?;
     push_values(s, &five.kv, of, &mut list)?;

@@ -1,7 +1,6 @@
 pub mod Lists
 pub mod Replacing
 pub mod Members
-pub mod Sequences
 pub mod Alike
 pub mod LastRounds
 pub mod Truth

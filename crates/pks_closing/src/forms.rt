@@ -1,13 +1,12 @@
 //! Normal forms of formulas, groups, atoms, patterns and regions. `docs/RULES.md` has the rule.
-ghost use Rattle.std.specs.Prelude.{◌≡◌, ℕ, ◌≤◌, List, [], ◌∷◌, ◌++◌, map, take, length, IfOk, OnOk};
+ghost use Rattle.std.specs.Prelude.{◌≡◌, ℕ, ◌≤◌, List, [], ◌∷◌, ◌++◌, map, take, IfOk};
 ghost use Rattle.std.specs.Option.{option_map};
 ghost use Rattle.std.specs.Ordering.{on};
 ghost use Rattle.pks_terms.specs.Sets.{set_of, IsOrdered};
-ghost use Rattle.pks_terms.specs.Placing.{count_below};
 ghost use Rattle.pks_terms.specs.Databases.{normal};
-ghost use Rattle.pks_terms.specs.Orders.{literal_cmp, atom_cmp};
-ghost use Rattle.pks_terms.specs.Closure.{put_in, normal_conj, normal_group, normal_atom, normal_pattern, normal_entry};
-ghost use Rattle.pks_terms.specs.Views.{term_of, literal_of, literals_in, conj_of, atom_of, pattern_of};
+ghost use Rattle.pks_terms.specs.Orders.{atom_cmp};
+ghost use Rattle.pks_terms.specs.Closure.{normal_conj, normal_group, normal_atom, normal_pattern, normal_entry};
+ghost use Rattle.pks_terms.specs.Views.{term_of, literals_in, conj_of, atom_of, pattern_of};
 ghost use Rattle.pks_kf.specs.Known.{literals_of};
 ghost use Rattle.pks_lcw.specs.Entries.{atoms_of, entry_of};
 
@@ -15,11 +14,10 @@ use pks_lcw::atoms::AtomSet;
 use pks_lcw::entry::Entry;
 use pks_normal::normals::Normals;
 use pks_set::set::SetOf;
-use pks_terms::group::Group;
+use pks_terms::group::{Group, put_in_order};
 use pks_terms::literal::{Arguments, Conj, Literal, Pattern, PredAtom};
 use pks_terms::term::{Term, front};
 use std::alloc::{AllocError, Global};
-use std::cmp::Ordering;
 
 /// The set of the normal forms of the literals: equal ones merge. It takes no memory.
 pub fn normal_conj(by: &Normals, c: &Conj) -> Conj
@@ -34,35 +32,13 @@ pub fn normal_conj(by: &Normals, c: &Conj) -> Conj
     all
 }
 
-/// How many literals at the front are below `l`.
-fn place(literals: &[Literal], l: &Literal) -> usize
-    ensures count { result ≡ count_below literal_cmp (literal_of l.now) (literals_in literals.now) }
-    ensures within { result ≤ length literals.now }
-{
-    for i in 0..literals.len() {
-        if l.cmp(&literals[i]) != Ordering::Greater {
-            return i;
-        }
-    }
-    literals.len()
-}
-
-/// Puts the literal before the first that is not below it.
-fn put_in(to: &mut Vec<Literal>, l: Literal) -> Result<(), AllocError>
-    ensures { OnOk result (literals_in to.new.items ≡ put_in (literal_of l) (literals_in to.old.items)) }
-{
-    let at = place(to.as_slice(), &l);
-    to.insert(at, l)?;
-    Ok(())
-}
-
 /// The normal forms of the literals in order, equal ones as often as they come. The one error is want of memory.
 pub fn normal_group(alloc: Global, by: &Normals, g: &Group) -> Result<Group, AllocError>
     ensures { IfOk result (λ group. literals_in group ≡ normal_group (literals_of by.now.kf) (literals_in g.now)) }
 {
     let mut all = Vec::new(alloc);
     for l in g.as_slice() {
-        put_in(&mut all, by.normal_literal(l))?;
+        put_in_order(&mut all, by.normal_literal(l))?;
     }
     let group = Group::of(alloc, all.as_slice())?;
     Ok(group)

@@ -1,6 +1,6 @@
 //! The objects that a term may have as its value.
 ghost use Rattle.std.specs.Prelude.{◌≡◌, ◌≤◌, List, [], ◌∷◌, map, length, IfOk};
-ghost use Rattle.pks_terms.specs.Signatures.{is_foreign, object_is_of, objects_of, range_of};
+ghost use Rattle.pks_terms.specs.Signatures.{is_foreign, object_is_of, range_of};
 ghost use Rattle.pks_terms.specs.Views.{object_of, term_of, signature_of};
 
 use pks_terms::ids::{FnId, ObjId, TypeId};
@@ -30,21 +30,6 @@ pub fn is_foreign(s: &Signature, fun: FnId, d: ObjId) -> bool
     }
 }
 
-/// The objects of the type, in order. It asks for at most 65,536 objects.
-#[tactic(auto, unfolding(pks_terms::specs::Signatures::objects_of))]
-pub fn objects_of(alloc: Global, s: &Signature, of: TypeId) -> Result<Vec<ObjId>, AllocError>
-    requires { length s.now.objects ≤ 65536 }
-    ensures { IfOk result (λ v. map object_of v.items ≡ objects_of (signature_of s.now) of.0) }
-{
-    let mut objects = Vec::new(alloc);
-    for (i, own) in s.objects.as_slice().iter().enumerate() {
-        if s.fits(*own, of) {
-            objects.push(ObjId(i as u16))?;
-        }
-    }
-    Ok(objects)
-}
-
 /// The objects that may be the value of the term, in order: itself, or those of the function's result type.
 /// It asks for at most 65,536 objects.
 pub fn range_of(alloc: Global, s: &Signature, t: &Term) -> Result<Vec<ObjId>, AllocError>
@@ -59,7 +44,7 @@ pub fn range_of(alloc: Global, s: &Signature, t: &Term) -> Result<Vec<ObjId>, Al
         Term::Param(_) => Ok(Vec::new(alloc)),
         Term::App { fun, .. } => match s.functions.as_slice().get(fun.0 as usize) {
             None => Ok(Vec::new(alloc)),
-            Some(shape) => objects_of(alloc, s, shape.result),
+            Some(shape) => s.objects_of(alloc, shape.result),
         },
     }
 }

@@ -14,11 +14,11 @@ use crate::declaring::{
 };
 use indexmap::IndexMap;
 use pks_grammar::walk::is_headed;
-use pks_meaning::parts::{behind_head, first_forms, place_of, section, text_of};
+use pks_meaning::parts::{behind_head, first_forms, section, text_of};
 use pks_meaning::report::Report;
 use pks_meaning::scope::Scope;
 use pks_meaning::sentences::{adds, effects, queries, senses};
-use pks_text::Form;
+use pks_text::{Form, place_of};
 use std::alloc::Global;
 
 #[tactic(auto, using(pks_meaning::proofs::Noting::noted_both))]

@@ -10,12 +10,12 @@ ghost use Rattle.pks_meaning.specs.Meaning.{noted, all_noted};
 ghost use Rattle.pks_meaning.specs.Views.{found_of, names_of, seen};
 
 use indexmap::IndexMap;
-use pks_meaning::parts::{behind_head, parts_of, place_of, text_of};
+use pks_meaning::parts::{behind_head, parts_of, text_of};
 use pks_meaning::report::Report;
 use pks_meaning::scope::{entry, name_in, number};
 use pks_terms::ids::TypeId;
 use pks_terms::problem::Shape;
-use pks_text::Form;
+use pks_text::{Form, place_of};
 use std::alloc::{AllocError, AllocFailed};
 
 /// The types, each with its parent.

@@ -18,6 +18,7 @@ use crate::functions::functions;
 use crate::sections::{objects, predicates, types};
 use indexmap::IndexMap;
 use pks_grammar::report::Fault;
+use pks_grammar::shape::or_else;
 use pks_meaning::parts::section;
 use pks_meaning::report::Report;
 use pks_meaning::scope::{Declared, Scope};
@@ -31,15 +32,6 @@ use std::alloc::Global;
 pub struct Domain<'s> {
     pub declared: Declared<'s>,
     pub fault: Option<Fault>,
-}
-
-fn or_else(first: Option<Fault>, later: Option<Fault>) -> Option<Fault>
-    ensures { option_map fault_view result ≡ or_else (option_map fault_view first) (option_map fault_view later) }
-{
-    match first {
-        None => later,
-        Some(fault) => Some(fault),
-    }
 }
 
 #[tactic(auto, using(crate::proofs::Steps::types_few))]

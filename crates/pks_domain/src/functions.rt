@@ -15,13 +15,13 @@ use crate::declaring::{
     small_number, two_types, type_named,
 };
 use indexmap::IndexMap;
-use pks_meaning::parts::{behind_head, first_forms, place_of, text_of};
+use pks_meaning::parts::{behind_head, first_forms, text_of};
 use pks_meaning::report::Report;
 use pks_meaning::scope::Scope;
 use pks_meaning::sentences::past;
 use pks_terms::ids::TypeId;
 use pks_terms::problem::Shape;
-use pks_text::Form;
+use pks_text::{Form, place_of};
 use std::alloc::Global;
 
 // All but the last form.

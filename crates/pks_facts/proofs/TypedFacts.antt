@@ -18,13 +18,14 @@ use Rattle.pks_meaning.specs.Tables.{Table, number_of, entry_of, entries_of, unk
 use Rattle.pks_meaning.specs.Scopes.{Scope, signature_in, fits}
 use Rattle.pks_meaning.specs.Parts.{text_of, parts_of, behind_head, section, each}
 use Rattle.pks_meaning.specs.Declarations.{first_in, second_in}
+use Rattle.pks_meaning.specs.Terms.{wanted_by}
 use Rattle.pks_accepted.specs.Facts.{EachForm, HasShapes}
 use Rattle.pks_accepted.proofs.Numbers.{cons_nil, nil_parts, unless, known, numbered, each_got}
 use Rattle.pks_world.specs.declared.world.World.{World as DWorld}
 use Rattle.pks_world.specs.Contents.{ground, places_of, has_place}
 use Rattle.pks_world.specs.First.{IsWorldOf}
 use Rattle.pks_facts.specs.Naming.{object_named, objects_named, atom_named, place_named}
-use Rattle.pks_facts.specs.Facts.{Given, misfit, object_faults, objects_faults, miscounted, wanted_by, fact_faults, true_faults, none_given, again, function_at, value_faults, given_with, values_faults, world_faults}
+use Rattle.pks_facts.specs.Facts.{Given, misfit, object_faults, objects_faults, miscounted, fact_faults, true_faults, none_given, again, function_at, value_faults, given_with, values_faults, world_faults}
 use Rattle.pks_facts.specs.Typing.{IsAtom, IsValue}
 
 module _ (s : Scope) where

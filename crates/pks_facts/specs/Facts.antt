@@ -10,6 +10,7 @@ use Rattle.pks_meaning.specs.Tables.{entry_of, unknown}
 use Rattle.pks_meaning.specs.Scopes.{Scope, fits}
 use Rattle.pks_meaning.specs.Parts.{text_of, parts_of, behind_head, section, each}
 use Rattle.pks_meaning.specs.Declarations.{first_in, second_in}
+use Rattle.pks_meaning.specs.Terms.{wanted_by}
 use Rattle.pks_facts.specs.Naming.{place_named}
 
 -- ---- objects
@@ -35,11 +36,6 @@ objects_faults s (a ∷ tys) (form f fs) = object_faults s (Some a) f ++ objects
 abbrev pub miscounted : Option Shape → Forms → ℕ → List Fault
 miscounted None args at = []
 miscounted (Some x) args at = if length x.arguments == count args then [] else (at, 302) ∷ []
-
--- the types of the arguments, as far as they are known
-abbrev pub wanted_by : Option Shape → List ℕ
-wanted_by None = []
-wanted_by (Some x) = x.arguments
 
 -- a fact, by the shape that is declared for its head
 abbrev pub fact_faults : Scope → Option Shape → Form → List Fault

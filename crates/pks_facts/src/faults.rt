@@ -8,19 +8,19 @@ ghost use Rattle.pks_meaning.specs.Meaning.{all_noted};
 ghost use Rattle.pks_meaning.specs.Views.{found_of, scope_view};
 ghost use Rattle.pks_stated.specs.Sizes.{IsSmall};
 ghost use Rattle.pks_facts.specs.Naming.{place_named};
-ghost use Rattle.pks_facts.specs.Facts.{misfit, object_faults, objects_faults, miscounted, wanted_by, fact_faults, true_faults, none_given, with_given, once_given, again, function_at, value_faults, given_with, values_faults, given_by, world_faults};
+ghost use Rattle.pks_facts.specs.Facts.{misfit, object_faults, objects_faults, miscounted, fact_faults, true_faults, none_given, with_given, once_given, again, function_at, value_faults, given_with, values_faults, given_by, world_faults};
 ghost use Rattle.pks_facts.specs.Views.{given_of};
 
 use crate::naming::place_named;
 use pks_domain::{first_in, second_in};
 use pks_grammar::walk::head_of;
-use pks_meaning::parts::{behind_head, parts_of, place_of, section, text_of};
+use pks_meaning::parts::{behind_head, parts_of, section, text_of};
 use pks_meaning::report::Report;
-use pks_meaning::scope::Scope;
+use pks_meaning::scope::{Scope, wanted_by};
 use pks_terms::ids::TypeId;
 use pks_terms::problem::Shape;
 use pks_terms::term::{Term, front};
-use pks_text::Form;
+use pks_text::{Form, place_of};
 use std::alloc::{AllocError, Global};
 use std::collections::BTreeSet;
 
@@ -67,16 +67,6 @@ fn objects(report: &mut Report, scope: &Scope<'_, '_>, wanted: &[TypeId], words:
 }
 
 // ---- facts
-
-// The types of the arguments.
-fn wanted_by(shape: Option<&Shape>) -> &[TypeId]
-    ensures { types_of result.now ≡ wanted_by (option_map (λ x. shape_of x.now) shape.entry) }
-{
-    match shape {
-        None => &[],
-        Some(shape) => front(&shape.args, shape.n),
-    }
-}
 
 #[tactic(auto, using(pks_meaning::proofs::FormLists::counted))]
 fn miscounted(report: &mut Report, shape: Option<&Shape>, words: &[Form<'_>], at: u32)

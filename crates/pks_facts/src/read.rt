@@ -24,11 +24,11 @@ use indexmap::IndexMap;
 use pks_domain::declarations;
 use pks_grammar::report::Fault;
 use pks_grammar::shape::{version_of, world_shape_fault};
-use pks_meaning::parts::{behind_head, place_of};
+use pks_meaning::parts::behind_head;
 use pks_meaning::report::Report;
 use pks_meaning::scope::{Declared, Scope};
 use pks_terms::problem::Problem;
-use pks_text::{Form, Forms};
+use pks_text::{Form, Forms, place_of};
 use pks_world::world::World;
 use std::alloc::{AllocError, Global};
 

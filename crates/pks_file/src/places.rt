@@ -9,9 +9,9 @@ ghost use Rattle.pks_file.specs.Views.{file_of, place_at};
 
 use crate::input::InputFile;
 use crate::world::world_form;
-use pks_meaning::parts::place_of;
 use pks_terms::ids::ActId;
 use pks_terms::schema::{Adds, Schema};
+use pks_text::{line_column_behind, place_of};
 
 /// The line and the column of a byte of an input of at most 262,144 bytes, or, where `at` is greater, of its end. Lines count
 /// from 1 by line feeds, columns from 1 by bytes (`docs/FORMAT.md`).
@@ -21,17 +21,7 @@ pub fn place(input: &[u8], at: u32) -> (u32, u32)
     ensures { place_at result ≡ line_and_column input.now at }
 {
     let end = (at as usize).min(input.len());
-    let mut line = 0;
-    let mut column = 0;
-    for byte in &input[..end] {
-        if *byte == b'\n' {
-            line += 1;
-            column = 0;
-        } else {
-            column += 1;
-        }
-    }
-    (line + 1, column + 1)
+    line_column_behind(&input[..end])
 }
 
 // Where the add with this number begins, among those of one action.

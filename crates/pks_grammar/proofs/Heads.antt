@@ -8,7 +8,7 @@ use Rattle.pks_grammar.specs.declared.grammar.Version.{Version}
 use Rattle.pks_grammar.specs.declared.grammar.Sort.{Sort}
 use Rattle.pks_grammar.specs.declared.grammar.Sort.TheVariants.{Name}
 use Rattle.pks_grammar.specs.declared.grammar.Part.{Part}
-use Rattle.pks_grammar.specs.Words.{is_name}
+use Rattle.pks_terms.specs.ValidProblems.{is_name}
 use Rattle.pks_grammar.specs.Grammar.{is_allowed, lists, with_head, is_among, production}
 use Rattle.pks_grammar.specs.Walk.{head_of}
 use Rattle.pks_grammar.specs.Language.{MayHave, word, listing, Matches, nothing, one, left_out, there, no_more, again}

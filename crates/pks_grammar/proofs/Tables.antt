@@ -7,7 +7,7 @@ use Rattle.pks_grammar.specs.declared.grammar.Sort.{Sort}
 use Rattle.pks_grammar.specs.declared.grammar.Sort.TheVariants.{Nothing, Head, Name, Variable, Number, Domain, Types, Kind, Objects, Predicates, Functions, Entry, Function, Action, Cost, Params, Param, Pre, Effects, Effect, Condition, Target, Senses, Sense, Knows, Add, Given, Item, Query, Plain, Problem, Init, Start, Goal, Aim, Literal, Positive, Atom, Pattern, Slot, Place, Term, World, True, Values, Value, Fact}
 use Rattle.pks_grammar.specs.declared.grammar.Part.{Part}
 use Rattle.pks_grammar.specs.declared.grammar.Part.TheVariants.{One, Maybe, Many}
-use Rattle.pks_grammar.specs.Words.{is_name}
+use Rattle.pks_terms.specs.ValidProblems.{is_name}
 use Rattle.pks_grammar.specs.Grammar.{Lists, is_allowed, lists, is_among, production, head_of_section}
 
 -- ---- what is asked of the parts of a list

@@ -1,6 +1,7 @@
 -- The grammar of files: which words may stand where a sort is wanted, and what the parts of a list are.
 use Rattle.std.specs.Prelude.{ℕ, Bool, true, false, ◌||◌, List, [], ◌∷◌, ◌++◌, Option, Some, None, codes, bytes_eq, if◌then◌else◌}
-use Rattle.pks_grammar.specs.Words.{is_name, is_variable, is_wild, is_number}
+use Rattle.pks_terms.specs.ValidProblems.{is_name}
+use Rattle.pks_grammar.specs.Words.{is_variable, is_wild, is_number}
 use Rattle.pks_grammar.specs.declared.grammar.Version.{Version}
 use Rattle.pks_grammar.specs.declared.grammar.Version.TheVariants.{First, Second}
 use Rattle.pks_grammar.specs.declared.grammar.Sort.{Sort}

@@ -1,16 +1,8 @@
--- The classes of words.
-use Rattle.std.specs.Prelude.{ℕ, Bool, false, not, ◌||◌, ◌&&◌, ◌==◌, List, [], ◌∷◌, codes, bytes_eq}
+-- The classes of words. Names are those of valid problems.
+use Rattle.std.specs.Prelude.{ℕ, Bool, false, not, ◌&&◌, ◌==◌, List, [], ◌∷◌, codes, bytes_eq}
 use Rattle.std.specs.List.{list_all}
-use Rattle.std.specs.Char.{is_ascii_alphabetic, is_ascii_alphanumeric, is_ascii_digit}
-
--- letters, digits, `-` and `_`
-abbrev pub is_name_byte : ℕ → Bool
-is_name_byte b = is_ascii_alphanumeric b || ((b == 45) || (b == 95))
-
--- a letter, then letters, digits, `-` or `_`
-abbrev pub is_name : List ℕ → Bool
-is_name [] = false
-is_name (b ∷ bytes) = is_ascii_alphabetic b && list_all is_name_byte bytes
+use Rattle.std.specs.Char.{is_ascii_digit}
+use Rattle.pks_terms.specs.ValidProblems.{is_name}
 
 -- `?` and a name
 abbrev pub is_variable : List ℕ → Bool

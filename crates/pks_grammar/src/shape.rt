@@ -11,7 +11,7 @@ ghost use Rattle.pks_grammar.specs.Walk.{is_headed};
 use crate::grammar::{Sort, Version};
 use crate::report::Fault;
 use crate::walk::{fault_in, is_headed};
-use pks_text::Form;
+use pks_text::{Form, place_of};
 
 impl Version {
     /// The number of the version.
@@ -22,15 +22,6 @@ impl Version {
             Version::First => 1,
             Version::Second => 2,
         }
-    }
-}
-
-fn place_of(form: &Form<'_>) -> u32
-    ensures { result ≡ place_of (form_view form.now) }
-{
-    match form {
-        Form::Name(token) => token.span.start,
-        Form::List { span, .. } => span.start,
     }
 }
 
@@ -92,7 +83,8 @@ pub fn version_of(top: &[Form<'_>]) -> Version
     }
 }
 
-fn or_else(first: Option<Fault>, later: Option<Fault>) -> Option<Fault>
+/// The first fault, or the later one where there is none.
+pub fn or_else(first: Option<Fault>, later: Option<Fault>) -> Option<Fault>
     ensures { option_map fault_view result ≡ or_else (option_map fault_view first) (option_map fault_view later) }
 {
     match first {

@@ -3,7 +3,8 @@
 ghost use Rattle.std.specs.Prelude.{◌≡◌};
 ghost use Rattle.std.specs.List.{list_all};
 ghost use Rattle.std.specs.Char.{is_ascii_digit};
-ghost use Rattle.pks_grammar.specs.Words.{is_name_byte, is_name, is_variable, is_number};
+ghost use Rattle.pks_terms.specs.ValidProblems.{is_name_byte, is_name};
+ghost use Rattle.pks_grammar.specs.Words.{is_variable, is_number};
 
 fn is_name_byte(byte: u8) -> bool
     ensures { result ≡ is_name_byte byte }

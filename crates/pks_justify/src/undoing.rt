@@ -2,7 +2,7 @@
 ghost use Rattle.std.specs.Prelude.{◌≡◌, map};
 ghost use Rattle.std.specs.List.{list_any};
 ghost use Rattle.pks_terms.specs.Syntax.{Term as Value, term_of as lifted};
-ghost use Rattle.pks_terms.specs.Justified.{apart, are_apart_objects, some_apart, some_fixed_apart, may_undo};
+ghost use Rattle.pks_terms.specs.Justified.{apart, some_apart, some_fixed_apart, may_undo};
 ghost use Rattle.pks_terms.specs.Orders.{number_of, arguments_of};
 ghost use Rattle.pks_terms.specs.Actions.{Set, Unset, Assign};
 ghost use Rattle.pks_terms.specs.Views.{inner_of, term_of, terms_of, atom_of, target_of};
@@ -15,7 +15,7 @@ use pks_terms::schema::{Effect, Target};
 use pks_terms::term::{Inner, Term, front};
 
 fn are_two_objects(t: &Term, u: &Term) -> bool
-    ensures { result ≡ are_apart_objects (term_of t.now) (term_of u.now) }
+    ensures { result ≡ are_two_objects (term_of t.now) (term_of u.now) }
 {
     match t {
         Term::Obj(d) => match u {

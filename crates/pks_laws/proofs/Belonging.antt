@@ -9,28 +9,17 @@ use Rattle.pks_terms.specs.Orders.{term_cmp, literal_cmp, conj_cmp, atom_cmp, li
 use Rattle.pks_terms.specs.Totality.{literal_cmp_total}
 use Rattle.pks_terms.specs.Signatures.{Shape, Signature, HasValues, objects_of, range_of, fits_type}
 use Rattle.pks_terms.specs.Databases.{Entry, entry_cmp, Five, normal, normal_literal, holds}
-use Rattle.pks_terms.specs.Closure.{term_steps, by_value, by_member, by_group, is_application, applications_in, is_last_left, by_range, additions, round, rounds, put_in, all_put_in, in_sequence, normal_conj, normal_group, normal_atom, normal_pattern, normal_entry, tidied, Outcome, Next, Clash, first_clash, Closes}
+use Rattle.pks_terms.specs.Closure.{term_steps, by_value, by_member, by_group, is_application, applications_in, is_last_left, by_range, additions, round, rounds, in_sequence, normal_conj, normal_group, normal_atom, normal_pattern, normal_entry, tidied, Outcome, Next, Clash, first_clash, Closes}
 use Rattle.pks_terms.specs.Saturated.{Within, IsSaturated}
 use Rattle.pks_terms.specs.Valid.{all_fit, inner_fits, term_fits, is_term, is_related, is_literal, is_atom, is_pattern, AreOf}
 use Rattle.pks_terms.proofs.ListLaws.{each_append, each_in, each_map, each_filter, each_kept, each_flat_map, each_added, each_set_of, each_weaker}
 use Rattle.pks_terms.proofs.OrderLaws.{literal_cmp_tells}
+use Rattle.pks_terms.proofs.Sequences.{each_in_sequence}
 use Rattle.pks_terms.proofs.SetLaws.{added_in}
 use Rattle.pks_terms.proofs.Types.{objects_are_of}
 use Rattle.pks_laws.proofs.Least.{values_within, one_value, ranged, rounds_keep, rounds_within}
 use Rattle.pks_laws.proofs.Fitting.{map_keeps, replaced_keep, normal_keeps, term_steps_keep, AllMove, term_that_fits, term_kept, related_kept, ordered_literal, literal_kept, pattern_kept, as_term_fits}
 use Rattle.pks_laws.specs.OfSignature.{HasOwnValues}
-
-pub each_in_sequence : (P : Literal → Type 0) (ls : List Literal) → Each P ls → Each P (in_sequence ls)
-each_in_sequence P ls a = all_put ls [] a tt
-  where
-    put : (l : Literal) (ms : List Literal) → P l → Each P ms → Each P (put_in l ms)
-    put l [] p a = (p, tt)
-    put l (m ∷ ms) p a =
-        elim (literal_cmp l m) as (λ o. Each P (elim o [ Less ↦ l ∷ m ∷ ms | Equal ↦ l ∷ m ∷ ms | Greater ↦ m ∷ put_in l ms ])) [ Less ↦ (p, a) | Equal ↦ (p, a) | Greater ↦ (a.0, put l ms p a.1) ]
-
-    all_put : (ls ms : List Literal) → Each P ls → Each P ms → Each P (all_put_in ms ls)
-    all_put [] ms a b = b
-    all_put (l ∷ ls) ms a b = all_put ls (put_in l ms) a.1 (put l ms a.0 b)
 
 all_some_fit : {A : Type 0} (F : ℕ → A → Bool) (tys : List ℕ) (ts : List A) → all_fit F tys ts ≡ true → Each (λ t. (wanted : ℕ) × (F wanted t ≡ true)) ts
 all_some_fit F tys [] h = tt

@@ -12,7 +12,7 @@ use Rattle.pks_terms.specs.Databases.{Five, holds}
 use Rattle.pks_terms.specs.Meaning.{is_instance, is_value_of, IsTrueIn}
 use Rattle.pks_terms.specs.Queries.{Plain, Know, KnowWhether, KnowValue, answers_plain}
 use Rattle.pks_terms.specs.Actions.{Target, Set, Unset, Clear, Assign, Effect, argument, inner_at, term_at, literal_at, atom_at, target_at, effect_at, plain_at, fires, written_truth, written_value, applied_to}
-use Rattle.pks_terms.specs.Justified.{asks_known, is_given, are_given, are_apart_objects, apart, some_apart, some_fixed_apart, may_undo}
+use Rattle.pks_terms.specs.Justified.{asks_known, is_given, are_given, apart, some_apart, some_fixed_apart, may_undo}
 use Rattle.pks_terms.proofs.ListLaws.{found, map-map, map_alike, in_with_later_map, in_mapped, none_in, all_from_each, each_from_all}
 use Rattle.pks_terms.proofs.OrderLaws.{same_literal}
 use Rattle.pks_laws.proofs.Holding.{holds_true, same_objects_same, same_objects_itself}
@@ -48,7 +48,7 @@ module _ {s : Signature} (w : World) (d : Five) (m : IsTrueIn s w d) (given : Li
       all_true_in-conj_at w given e.condition
       ∙ all_from_each (λ l. true_in w (literal_at given l)) e.condition (each_from_all (λ l. true_in w (literal_at given l) ≡ true) (is_given g) given_true e.condition h)
 
-  apart_objects : (t u : Term) → are_apart_objects t u ≡ true → value_at t ≡ value_at u → ⊥
+  apart_objects : (t u : Term) → are_two_objects t u ≡ true → value_at t ≡ value_at u → ⊥
   unfolding value_of
   apart_objects (Object a) (Object b) h e = eqb-false a b (not-true _ h) e
   apart_objects (Object a) (Parameter b) h e = true≢false (sym h)
@@ -62,7 +62,7 @@ module _ {s : Signature} (w : World) (d : Five) (m : IsTrueIn s w d) (given : Li
       ⊎_elim (λ k. apart_objects t u k e)
       (λ k. let n : not (value_at t == value_at u) ≡ true = sym (true_in-ordered_at w given Equality (t ∷ u ∷ []) false) ∙ given_true (inequation t u) k in
       eqb-false (value_at t) (value_at u) (not-true _ n) e)
-      (or_cases (are_apart_objects t u) _ h)
+      (or_cases (are_two_objects t u) _ h)
 
   some_apart_true : (ts us : List Term) → some_apart g ts us ≡ true → map value_at ts ≡ map value_at us → ⊥
   some_apart_true (t ∷ ts) (u ∷ us) h e = ⊎_elim (λ k. apart_true t u k cc) (λ k. some_apart_true ts us k cc) (or_cases (apart g t u) _ h)

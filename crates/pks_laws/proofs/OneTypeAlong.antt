@@ -26,7 +26,8 @@ use Rattle.pks_terms.proofs.Types.{fits_alone}
 use Rattle.pks_laws.proofs.Least.{value_literal}
 use Rattle.pks_laws.proofs.Versions.{own_value, own_type, normal_type, ordered_typed, additions_typed}
 use Rattle.pks_laws.proofs.Fitting.{Keeps, all_fit_kept, map_keeps, inner_normal_keeps, Moves, term_at_keeps, term_forms_keep}
-use Rattle.pks_laws.proofs.Belonging.{L, T, if_of, each_in_sequence, end_of, tidied_of, closed_of}
+use Rattle.pks_terms.proofs.Sequences.{each_in_sequence}
+use Rattle.pks_laws.proofs.Belonging.{L, T, if_of, end_of, tidied_of, closed_of}
 use Rattle.pks_laws.proofs.BelongingSteps.{initial_of, schema_text, assumed_of, progressed_of}
 use Rattle.pks_laws.proofs.BelongingHistories.{later_each, other_each, is_clash, history_or, IsWritten, effects_written, forward_of, backward_of, grown_of}
 use Rattle.pks_laws.specs.OfSignature.{HasOwnValues, IsSideOf}

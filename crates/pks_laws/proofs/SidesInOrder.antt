@@ -19,7 +19,8 @@ use Rattle.pks_terms.specs.Settling.{History, argument_forms, term_forms, stable
 use Rattle.pks_terms.specs.Valid.{IsLiteralText, IsStartText, IsValid}
 use Rattle.pks_terms.proofs.ListLaws.{each_append, each_in, each_of, each_map, each_kept, each_flat_map, each_filter_map, each_insert_in, each_added, each_set_of, each_weaker}
 use Rattle.pks_laws.proofs.Least.{in_order-map}
-use Rattle.pks_laws.proofs.Belonging.{each_in_sequence, if_of, end_of}
+use Rattle.pks_terms.proofs.Sequences.{each_in_sequence}
+use Rattle.pks_laws.proofs.Belonging.{if_of, end_of}
 use Rattle.pks_laws.proofs.BelongingHistories.{later_each, other_each, is_clash, history_or}
 use Rattle.pks_laws.specs.Lookup.{IsInOrder, AreInOrder, IsInOrderAlong}
 

@@ -16,7 +16,7 @@ use Rattle.pks_terms.specs.Problems.{Aim, Now, AtStart, Always, Once, Problem}
 use Rattle.pks_terms.specs.Settling.{History, last_moment}
 use Rattle.pks_terms.specs.Aims.{is_met, met}
 use Rattle.pks_terms.specs.Trees.{Tree, Goal, Impossible, Do, Branch, Cases, Chain, End, More, depth, chain_depth, cost, chain_cost, tree_cmp}
-use Rattle.pks_terms.specs.Versions.{IsNow, query_in, IsFirstVersion, AreOneTyped, IsOneTyped, two_objects}
+use Rattle.pks_terms.specs.Versions.{IsNow, query_in, IsFirstVersion, AreOneTyped, IsOneTyped}
 use Rattle.pks_terms.proofs.ListLaws.{each_append, each_in, each_of, each_map, each_filter, each_flat_map, each_added, each_weaker}
 use Rattle.pks_laws.proofs.Values.{least_in}
 use Rattle.pks_laws.proofs.Least.{value_literal}
@@ -74,7 +74,7 @@ own_value s f d a r o =
           ap (λ y. not (option_map_or (λ own. fits_type s own x.result) y false)) o ∙ ap (λ b. not b) (ap (λ y. fits_type s a y) e ∙ fits_itself s a)
     ] r
 
-pub one_typed_evident : (s : Signature) (t u : Term) (a : ℕ) → type_of s t ≡ Some a → type_of s u ≡ Some a → is_evident s Equality (t ∷ u ∷ []) false ≡ two_objects t u
+pub one_typed_evident : (s : Signature) (t u : Term) (a : ℕ) → type_of s t ≡ Some a → type_of s u ≡ Some a → is_evident s Equality (t ∷ u ∷ []) false ≡ are_two_objects t u
 one_typed_evident s (Object d) (Object e) a p q = refl
 one_typed_evident s (Object d) (Parameter i) a p q = refl
 one_typed_evident s (Object d) (Apply f us) a p q = own_value s f d a q p
@@ -102,7 +102,7 @@ normal_type s kf typed (Apply f ts) a h =
     ]
 
 -- so in a database of one-typed equations the normal forms of a one-typed equation are told apart by two objects alone
-pub first_differ : (s : Signature) (kf : List Literal) → Each (IsOneTyped s) kf → (t u : Term) (a : ℕ) → type_of s t ≡ Some a → type_of s u ≡ Some a → is_evident s Equality (normal kf t ∷ normal kf u ∷ []) false ≡ two_objects (normal kf t) (normal kf u)
+pub first_differ : (s : Signature) (kf : List Literal) → Each (IsOneTyped s) kf → (t u : Term) (a : ℕ) → type_of s t ≡ Some a → type_of s u ≡ Some a → is_evident s Equality (normal kf t ∷ normal kf u ∷ []) false ≡ are_two_objects (normal kf t) (normal kf u)
 first_differ s kf typed t u a p q = one_typed_evident s (normal kf t) (normal kf u) a (normal_type s kf typed t a p) (normal_type s kf typed u a q)
 
 -- ---- the rounds add equations between terms of one type alone

@@ -5,7 +5,7 @@ use Rattle.std.specs.Cmp.{IsTotalOrder}
 use Rattle.pks_terms.specs.Sets.{Each, IsOrdered, insert_in}
 use Rattle.pks_terms.proofs.ListLaws.{each_insert_in}
 use Rattle.pks_set.specs.Members.{is_member}
-use Rattle.pks_lcw.specs.Below.{count_below}
+use Rattle.pks_terms.specs.Placing.{count_below}
 
 module _ {X : Type 0} (R : X → X → Ordering) where
   pub count_below-le-length : (x : X) (ys : List X) → count_below R x ys ≤ length ys

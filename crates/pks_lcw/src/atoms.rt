@@ -8,7 +8,7 @@ ghost use Rattle.pks_terms.specs.Views.{atom_of};
 ghost use Rattle.pks_terms.specs.Sets.{IsOrdered, insert_in};
 ghost use Rattle.pks_pmap.specs.Keeping.{Keeps};
 ghost use Rattle.pks_set.specs.Members.{TakesEach, is_member};
-ghost use Rattle.pks_lcw.specs.Below.{count_below};
+ghost use Rattle.pks_terms.specs.Placing.{count_below};
 
 use pks_terms::literal::PredAtom;
 use std::alloc::{AllocError, Global};

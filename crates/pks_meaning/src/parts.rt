@@ -1,21 +1,10 @@
 //! Parts of lists.
 ghost use Rattle.std.specs.Prelude.{◌≡◌, ◌≤◌, length};
-ghost use Rattle.pks_text.specs.Forms.{place_of};
 ghost use Rattle.pks_text.specs.FormViews.{form_view, forms_view};
 ghost use Rattle.pks_meaning.specs.Parts.{text_of, parts_of, behind, behind_head, section, first_forms};
 
 use pks_grammar::walk::is_headed;
 use pks_text::Form;
-
-/// The place of a form.
-pub fn place_of(form: &Form<'_>) -> u32
-    ensures { result ≡ place_of (form_view form.now) }
-{
-    match form {
-        Form::Name(token) => token.span.start,
-        Form::List { span, .. } => span.start,
-    }
-}
 
 /// The word, or nothing.
 pub fn text_of<'s>(form: &Form<'s>) -> &'s str

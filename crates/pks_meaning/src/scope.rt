@@ -1,16 +1,19 @@
 //! What is declared, and the types of terms (`docs/FORMAT.md`).
 ghost use Rattle.std.specs.Prelude.{◌≡◌, ℕ, List, [], map, Option, option_map, unwrap_or, slice_get, option_and_then, length, ◌<◌, IfSome};
 ghost use Rattle.pks_terms.specs.Signatures.{parent_of, fits_type};
-ghost use Rattle.pks_terms.specs.Views.{shape_of};
+ghost use Rattle.pks_terms.specs.Views.{shape_of, types_of};
 ghost use Rattle.pks_text.specs.FormViews.{form_view};
 ghost use Rattle.pks_meaning.specs.Tables.{entry_of, entries_of, number_of};
 ghost use Rattle.pks_meaning.specs.Scopes.{signature_in, fits, type_of, name_in};
+ghost use Rattle.pks_meaning.specs.Terms.{wanted_by};
 ghost use Rattle.pks_meaning.specs.Views.{names_of, scope_view};
 
 use indexmap::IndexMap;
 use pks_grammar::walk::head_of;
 use pks_grammar::words::is_variable;
+use pks_terms::ids::TypeId;
 use pks_terms::problem::Shape;
+use pks_terms::term::front;
 use pks_text::Form;
 
 /// The names that the sections of a domain declare, in order, each with what is said of it.
@@ -51,6 +54,16 @@ pub fn name_in(text: &str) -> &str
     match text.strip_prefix("?") {
         Some(name) => name,
         None => text,
+    }
+}
+
+/// The types of the arguments of a predicate or a function, none where it isn't declared.
+pub fn wanted_by(shape: Option<&Shape>) -> &[TypeId]
+    ensures { types_of result.now ≡ wanted_by (option_map (λ x. shape_of x.now) shape.entry) }
+{
+    match shape {
+        None => &[],
+        Some(shape) => front(&shape.args, shape.n),
     }
 }
 

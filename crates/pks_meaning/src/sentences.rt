@@ -7,13 +7,13 @@ ghost use Rattle.pks_meaning.specs.Sentences.{literals_faults, plain_faults, que
 ghost use Rattle.pks_meaning.specs.Meaning.{all_noted};
 ghost use Rattle.pks_meaning.specs.Views.{found_of, scope_view};
 
-use crate::parts::{behind_head, first_forms, parts_of, place_of, section};
+use crate::parts::{behind_head, first_forms, parts_of, section};
 use crate::report::Report;
 use crate::same::same_literal;
 use crate::scope::Scope;
 use crate::terms::{assigned, literal, only_positive, pattern, term};
 use pks_grammar::walk::is_headed;
-use pks_text::Form;
+use pks_text::{Form, place_of};
 
 // The first form.
 fn first_past(report: &mut Report, forms: &[Form<'_>])

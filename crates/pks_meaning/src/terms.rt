@@ -10,15 +10,15 @@ ghost use Rattle.pks_meaning.specs.Terms.{mistyped, apart, too_high, miscounted,
 ghost use Rattle.pks_meaning.specs.Heights.{is_higher, one_higher};
 ghost use Rattle.pks_meaning.specs.Views.{found_of, scope_view};
 
-use crate::parts::{behind, behind_head, place_of, text_of};
+use crate::parts::{behind, behind_head, text_of};
 use crate::report::Report;
-use crate::scope::{Scope, name_in};
+use crate::scope::{Scope, name_in, wanted_by};
 use pks_grammar::walk::{head_of, is_headed};
 use pks_grammar::words::is_variable;
 use pks_terms::ids::TypeId;
 use pks_terms::problem::Shape;
 use pks_terms::term::front;
-use pks_text::Form;
+use pks_text::{Form, place_of};
 
 fn mistyped<'s>(report: &mut Report, scope: &Scope<'_, 's>, wanted: Option<u8>, term: &Form<'s>)
     ensures { found_of report.new ≡ all_noted (found_of report.old) (mistyped (scope_view scope.now) wanted (form_view term.now)) }
@@ -41,16 +41,6 @@ fn apart(report: &mut Report, scope: &Scope<'_, '_>, left: Option<u8>, right: Op
                 report.note(at, 206);
             }
         }
-    }
-}
-
-// The types of the arguments.
-fn wanted_by(shape: Option<&Shape>) -> &[TypeId]
-    ensures { types_of result.now ≡ wanted_by (option_map (λ x. shape_of x.now) shape.entry) }
-{
-    match shape {
-        None => &[],
-        Some(shape) => front(&shape.args, shape.n),
     }
 }
 

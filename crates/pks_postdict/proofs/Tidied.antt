@@ -1,20 +1,19 @@
 -- Databases in normal form stay as they are when they are put in it again.
 use Rattle.std.proofs.Common.{◌≡◌, ◌⊎◌, ℕ, Bool, true, cond, List, [], ◌∷◌, ◌++◌, map, filter, Option, Some, None, option_map, Ordering, Less, Equal, Greater, append-nil, append_assoc, refl, sym, ap, ◌∙◌, subst, inl, inr, ⊎_elim}
-use Rattle.std.specs.Ordering.{ordering_reverse}
 use Rattle.std.specs.Cmp.{IsTotalOrder}
 use Rattle.std.specs.FinMap.{IsAntisymmetric}
-use Rattle.std.proofs.lemmas.Cmp.{tied_itself}
 use Rattle.pks_terms.specs.Sets.{Each, IsIn, set_of}
 use Rattle.pks_terms.specs.Syntax.{Term, Literal, Atom, Pattern}
 use Rattle.pks_terms.specs.Orders.{term_cmp, literal_cmp, conj_cmp, atom_cmp}
 use Rattle.pks_terms.specs.Totality.{term_cmp_total, literal_cmp_total, conj_cmp_total, atom_cmp_total, entry_cmp_total}
 use Rattle.pks_terms.specs.Signatures.{Signature, HasValues}
 use Rattle.pks_terms.specs.Databases.{Entry, entry_cmp, Five, values_at, normal, normal_literal}
-use Rattle.pks_terms.specs.Closure.{is_application, rounds, put_in, all_put_in, in_sequence, normal_conj, normal_group, normal_atom, normal_pattern, normal_entry, tidied, IsClosed}
+use Rattle.pks_terms.specs.Closure.{is_application, rounds, in_sequence, normal_conj, normal_group, normal_atom, normal_pattern, normal_entry, tidied, IsClosed}
 use Rattle.pks_terms.proofs.ListLaws.{each_of, each_map, each_kept, each_weaker, each_set_of, each_in, in_filtered}
 use Rattle.pks_terms.proofs.OrderLaws.{term_cmp_tells, literal_cmp_tells, conj_cmp_tells, atom_cmp_tells, entry_cmp_tells}
 use Rattle.pks_terms.proofs.SetLaws.{ordered_set_of, in_set_of, set_of_in, same_members}
-use Rattle.pks_laws.proofs.Least.{in_left, in_right, one_value}
+use Rattle.pks_terms.proofs.Sequences.{each_in_sequence, in_sequence_twice}
+use Rattle.pks_laws.proofs.Least.{one_value}
 use Rattle.pks_laws.proofs.Belonging.{saturated_end, end_of}
 use Rattle.pks_laws.proofs.NormalMembers.{literal_again, term_again}
 
@@ -44,89 +43,6 @@ module _ {X : Type 0} {cmp : X → X → Ordering} (o : IsTotalOrder cmp) (tells
   set_mapped_again f again xs =
       ap (set_of cmp) (map_fixed f (set_of cmp (map f xs)) (each_set_of (λ x. f x ≡ x) cmp (map f xs) (mapped_fixed f again xs))) ∙ set_again (map f xs)
 
--- ---- literals in order, equal ones as often as they come
-
-abbrev Follows : Literal → Literal → Type 0
-Follows k m = (literal_cmp k m ≡ Greater) ⊎ (k ≡ m)
-
--- each literal follows all earlier ones
-abbrev IsRising : List Literal → Type 0
-IsRising [] = Unit {0}
-IsRising (m ∷ ms) = Each (λ k. Follows k m) ms × IsRising ms
-
-flipped : (k m : Literal) → literal_cmp k m ≡ Less → literal_cmp m k ≡ Greater
-flipped k m e = literal_cmp_total.antisymm m k ∙ ap ordering_reverse e
-
-flipped_back : (k m : Literal) → literal_cmp k m ≡ Greater → literal_cmp m k ≡ Less
-flipped_back k m e = literal_cmp_total.antisymm m k ∙ ap ordering_reverse e
-
-follows_through : (k m l : Literal) → Follows k m → Follows m l → Follows k l
-follows_through k m l (inl a) (inl b) = inl (flipped l k (literal_cmp_total.trans l m k (flipped_back m l b) (flipped_back k m a)))
-follows_through k m l (inl a) (inr e) = inl (subst (λ z. literal_cmp k z ≡ Greater) e a)
-follows_through k m l (inr e) f = subst (λ z. Follows z l) (sym e) f
-
-both_follow : (k m : Literal) → Follows k m → Follows m k → k ≡ m
-both_follow k m (inr e) f = e
-both_follow k m (inl a) (inr e) = sym e
-both_follow k m (inl a) (inl b) = let e : Less ≡ Greater = sym (flipped_back k m a) ∙ b in cc
-
-each_put : (P : Literal → Type 0) (l : Literal) (ms : List Literal) → P l → Each P ms → Each P (put_in l ms)
-each_put P l [] p a = (p, tt)
-each_put P l (m ∷ ms) p a =
-    elim (literal_cmp l m) as (λ o. Each P (elim o [ Less ↦ l ∷ m ∷ ms | Equal ↦ l ∷ m ∷ ms | Greater ↦ m ∷ put_in l ms ])) [ Less ↦ (p, a) | Equal ↦ (p, a) | Greater ↦ (a.0, each_put P l ms p a.1) ]
-
-each_all_put : (P : Literal → Type 0) (ls ms : List Literal) → Each P ls → Each P ms → Each P (all_put_in ms ls)
-each_all_put P [] ms a b = b
-each_all_put P (l ∷ ls) ms a b = each_all_put P ls (put_in l ms) a.1 (each_put P l ms a.0 b)
-
-rising_put : (l : Literal) (ms : List Literal) → IsRising ms → IsRising (put_in l ms)
-rising_put l [] r = (tt, tt)
-rising_put l (m ∷ ms) r =
-    elim (literal_cmp l m) as (λ o. literal_cmp l m ≡ o → IsRising (elim o [ Less ↦ l ∷ m ∷ ms | Equal ↦ l ∷ m ∷ ms | Greater ↦ m ∷ put_in l ms ])) [
-      | Less ↦ λ e. let f : Follows m l = inl (flipped l m e) in ((f, each_weaker (λ k. Follows k m) (λ k. Follows k l) (λ k g. follows_through k m l g f) ms r.0), r)
-      | Equal ↦ λ e. let f : Follows m l = inr (sym (literal_cmp_tells l m e)) in ((f, each_weaker (λ k. Follows k m) (λ k. Follows k l) (λ k g. follows_through k m l g f) ms r.0), r)
-      | Greater ↦ λ e. (each_put (λ k. Follows k m) l ms (inl e) r.0, rising_put l ms r.1)
-    ] refl
-
-rising_all : (ls ms : List Literal) → IsRising ms → IsRising (all_put_in ms ls)
-rising_all [] ms r = r
-rising_all (l ∷ ls) ms r = rising_all ls (put_in l ms) (rising_put l ms r)
-
-all_same : (m : Literal) (ms : List Literal) → Each (λ k. k ≡ m) ms → m ∷ ms ≡ ms ++ m ∷ []
-all_same m [] a = refl
-all_same m (k ∷ ks) a = λ i. sym a.0 i ∷ (ap (λ z. z ∷ ks) a.0 ∙ all_same m ks a.1) i
-
--- a literal that follows all goes to the end
-put_last : (l : Literal) (ms : List Literal) → IsRising ms → Each (λ m. Follows l m) ms → put_in l ms ≡ ms ++ l ∷ []
-put_last l [] r a = refl
-put_last l (m ∷ ms) r a =
-    let choose : Ordering → List Literal = λ o. elim o as (λ _. List Literal) [ Less ↦ l ∷ m ∷ ms | Equal ↦ l ∷ m ∷ ms | Greater ↦ m ∷ put_in l ms ] in
-    ⊎_elim
-    (λ g. ap choose g ∙ ap (λ zs. m ∷ zs) (put_last l ms r.1 a.1))
-    (λ e.
-    let tied : literal_cmp l m ≡ Equal = subst (λ z. literal_cmp l z ≡ Equal) e (tied_itself literal_cmp_total l) in
-    let same : Each (λ k. k ≡ m) ms = each_of (λ k. k ≡ m) ms (λ k i. both_follow k m (each_in (λ k. Follows k m) ms k r.0 i) (subst (λ z. Follows z k) e (each_in (λ k. Follows l k) ms k a.1 i))) in
-    ap choose tied ∙ (λ i. e i ∷ (all_same m ms same ∙ ap (λ z. ms ++ z ∷ []) (sym e)) i))
-    a.0
-
-rising_front : (ms : List Literal) (l : Literal) (ls : List Literal) → IsRising (ms ++ l ∷ ls) → Each (λ m. Follows l m) ms × IsRising ms
-rising_front [] l ls r = (tt, tt)
-rising_front (m ∷ ms) l ls r =
-    let rest = rising_front ms l ls r.1 in (
-      (each_in (λ k. Follows k m) (ms ++ l ∷ ls) l r.0 (in_right ms (l ∷ ls) l (inl refl)), rest.0),
-      (each_of (λ k. Follows k m) ms (λ k i. each_in (λ k. Follows k m) (ms ++ l ∷ ls) k r.0 (in_left ms (l ∷ ls) k i)), rest.1),
-    )
-
-all_put_last : (ls ms : List Literal) → IsRising (ms ++ ls) → all_put_in ms ls ≡ ms ++ ls
-all_put_last [] ms r = sym (append-nil ms)
-all_put_last (l ∷ ls) ms r =
-    let front = rising_front ms l ls r in
-    let moved : (ms ++ l ∷ []) ++ ls ≡ ms ++ l ∷ ls = append_assoc ms (l ∷ []) ls in
-    ap (λ zs. all_put_in zs ls) (put_last l ms front.1 front.0) ∙ all_put_last ls (ms ++ l ∷ []) (subst IsRising (sym moved) r) ∙ moved
-
-sequence_again : (ls : List Literal) → in_sequence (in_sequence ls) ≡ in_sequence ls
-sequence_again ls = all_put_last (in_sequence ls) [] (rising_all ls [] tt)
-
 -- ---- normal forms of normal forms
 
 module _ (s : Signature) (kf : List Literal) (one : (f : ℕ) (ds : List ℕ) (e e' : ℕ) → IsIn e (values_at kf f ds) → IsIn e' (values_at kf f ds) → e ≡ e') where
@@ -136,7 +52,7 @@ module _ (s : Signature) (kf : List Literal) (one : (f : ℕ) (ds : List ℕ) (e
   group_again : (g : List Literal) → normal_group kf (normal_group kf g) ≡ normal_group kf g
   group_again g =
       let ls = map (normal_literal kf) g in
-      ap in_sequence (map_fixed (normal_literal kf) (in_sequence ls) (each_all_put (λ l. normal_literal kf l ≡ l) ls [] (mapped_fixed (normal_literal kf) (literal_again s kf one) g) tt)) ∙ sequence_again ls
+      ap in_sequence (map_fixed (normal_literal kf) (in_sequence ls) (each_in_sequence (λ l. normal_literal kf l ≡ l) ls (mapped_fixed (normal_literal kf) (literal_again s kf one) g))) ∙ in_sequence_twice ls
 
   atom_again : (a : Atom) → normal_atom kf (normal_atom kf a) ≡ normal_atom kf a
   atom_again a = λ i. record { predicate = a.predicate; arguments = mapped_again (normal kf) (term_again s kf one) a.arguments i }

@@ -5,7 +5,8 @@ use Rattle.pks_terms.specs.Signatures.{Signature}
 use Rattle.pks_terms.specs.Databases.{some_differ}
 use Rattle.pks_terms.specs.Actions.{Target, Set, Unset, Clear, Assign, target_at, inner_at, atom_at, pattern_at}
 use Rattle.pks_terms.specs.Spoiling.{some_fixed_differ, may_make_true, may_make_false, may_change}
-use Rattle.pks_spoiling.specs.Reach.{sets, unsets, assigns}
+use Rattle.pks_terms.specs.Justified.{is_set_on}
+use Rattle.pks_spoiling.specs.Reach.{unsets, assigns}
 
 -- what is implied may be asked first, and the last of three at the end
 and_pulled : (a b c : Bool) → (a && ((a && b) && c)) ≡ (c && (a && b))
@@ -22,7 +23,7 @@ none_and false = refl
 
 -- a target that makes nothing of the predicate true may not make it true
 pub sets_first : (s : Signature) (kf : List Literal) (p : ℕ) (ts : List Term) (given : List Inner) (x : Target) (c : Bool)
-    → (sets p x && (may_make_true s kf p ts (target_at given x) && c)) ≡ (c && may_make_true s kf p ts (target_at given x))
+    → (is_set_on p x && (may_make_true s kf p ts (target_at given x) && c)) ≡ (c && may_make_true s kf p ts (target_at given x))
 sets_first s kf p ts given (Set a) c = and_pulled (a.predicate == p) (not (some_differ s kf (atom_at given a).arguments ts)) c
 sets_first s kf p ts given (Unset a) c = none_and c
 sets_first s kf p ts given (Clear x) c = none_and c

@@ -1,13 +1,6 @@
--- What a target is about, whatever its arguments.
+-- What a target is about, whatever its arguments. Whether it makes instances of a predicate true is `is_set_on`.
 use Rattle.std.specs.Prelude.{ℕ, Bool, false, ◌==◌}
 use Rattle.pks_terms.specs.Actions.{Target, Set, Unset, Clear, Assign}
-
--- it makes instances of the predicate true
-abbrev pub sets : ℕ → Target → Bool
-sets p (Set a) = a.predicate == p
-sets p (Unset a) = false
-sets p (Clear x) = false
-sets p (Assign f ts value) = false
 
 -- it makes instances of the predicate false
 abbrev pub unsets : ℕ → Target → Bool

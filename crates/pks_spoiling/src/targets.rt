@@ -11,7 +11,8 @@ ghost use Rattle.pks_terms.specs.Views.{inner_of, term_of, terms_of, literals_in
 ghost use Rattle.pks_kf.specs.Known.{literals_of};
 ghost use Rattle.pks_normal.specs.Fives.{five_of};
 ghost use Rattle.pks_spoiling.specs.EffectViews.{effects_in};
-ghost use Rattle.pks_spoiling.specs.Reach.{sets, unsets, assigns};
+ghost use Rattle.pks_terms.specs.Justified.{is_set_on};
+ghost use Rattle.pks_spoiling.specs.Reach.{unsets, assigns};
 
 use crate::effects::Effects;
 use pks_derived::derived::Derived;
@@ -116,8 +117,8 @@ pub fn may_change(s: &Signature, d: &Derived, place: &Term, target: &Target) -> 
     }
 }
 
-fn sets(pred: PredId, target: &Target) -> bool
-    ensures { result ≡ sets pred.0 (target_of target.now) }
+fn is_set_on(pred: PredId, target: &Target) -> bool
+    ensures { result ≡ is_set_on pred.0 (target_of target.now) }
 {
     match target {
         Target::Set(a) => a.pred.0 == pred.0,
@@ -155,7 +156,7 @@ fn makes_true(
 ) -> bool
     ensures { result ≡ (may_fire (signature_of s.now) (five_of d.now) (effect_at (given_of i.now) (effect_of e.now)) && may_make_true (signature_of s.now) (literals_of d.now.kf) pred.0 (terms_of args.now) (effect_at (given_of i.now) (effect_of e.now)).target) }
 {
-    sets(pred, &e.target)
+    is_set_on(pred, &e.target)
         && may_make_true(s, d, pred, args, &e.target.at(i))
         && may_fire_at(s, d, e, i)
 }

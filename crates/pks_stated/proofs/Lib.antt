@@ -2,6 +2,5 @@ pub mod Counted
 pub mod Few
 pub mod FirstForms
 pub mod Growing
-pub mod Ordering
 pub mod Seen
 pub mod Whole

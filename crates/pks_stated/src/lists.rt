@@ -1,9 +1,7 @@
 //! Lists of what forms without a fault state.
-ghost use Rattle.std.specs.Prelude.{◌≡◌, ◌≤◌, map, length, IfOk, OnOk};
+ghost use Rattle.std.specs.Prelude.{◌≡◌, map, IfOk};
 ghost use Rattle.pks_terms.specs.Sets.{Each};
-ghost use Rattle.pks_terms.specs.Orders.{literal_cmp};
-ghost use Rattle.pks_terms.specs.Closure.{put_in, in_sequence};
-ghost use Rattle.pks_terms.specs.Placing.{count_below};
+ghost use Rattle.pks_terms.specs.Closure.{in_sequence};
 ghost use Rattle.pks_terms.specs.Counts.{LiteralCounts, QueryCounts, EffectCounts, SenseCounts, AddCounts, InitCounts, AimCounts};
 ghost use Rattle.pks_terms.specs.ValidProblems.{AssignsToPlace};
 ghost use Rattle.pks_terms.specs.Views.{literal_of, literals_in, query_of, effect_of, sense_of, add_of, start_of, aim_of};
@@ -18,7 +16,7 @@ use crate::sentences::{add, aim, effect, only_term, query, sense, span_of};
 use pks_grammar::walk::is_headed;
 use pks_meaning::parts::behind_head;
 use pks_meaning::scope::Scope;
-use pks_terms::group::Group;
+use pks_terms::group::{Group, put_in_order};
 use pks_terms::literal::Literal;
 use pks_terms::problem::{AimList, Init, InitItem, InitList};
 use pks_terms::schema::{AddList, EffectList, QueryList, SenseList};
@@ -109,29 +107,6 @@ pub fn aims(alloc: Global, scope: &Scope<'_, '_>, forms: &[Form<'_>]) -> Result<
     Ok(AimList::of(aims))
 }
 
-// How many literals at the front are below `l`.
-fn place(literals: &[Literal], l: &Literal) -> usize
-    ensures place { result ≡ count_below literal_cmp (literal_of l.now) (map literal_of literals.now) }
-    ensures within { result ≤ length literals.now }
-{
-    for i in 0..literals.len() {
-        if *l <= literals[i] {
-            return i;
-        }
-    }
-    literals.len()
-}
-
-#[tactic(auto, using(crate::proofs::Ordering::put_in_place, crate::proofs::Ordering::each_put_in))]
-fn put_in(literals: &mut Vec<Literal>, l: Literal) -> Result<(), AllocError>
-    ensures says { OnOk result (map literal_of literals.new.items ≡ put_in (literal_of l) (map literal_of literals.old.items)) }
-    ensures counts { Each LiteralCounts literals.old.items → LiteralCounts l → OnOk result (Each LiteralCounts literals.new.items) }
-{
-    let at = place(literals.as_slice(), &l);
-    literals.insert(at, l)?;
-    Ok(())
-}
-
 // The literals that forms state, in order; equal ones stay as often as they come.
 fn in_sequence(
     alloc: Global,
@@ -144,7 +119,7 @@ fn in_sequence(
 {
     let mut literals = Vec::new(alloc);
     for i in 0..forms.len() {
-        put_in(&mut literals, literal(scope, &forms[i]))?;
+        put_in_order(&mut literals, literal(scope, &forms[i]))?;
     }
     Ok(literals)
 }

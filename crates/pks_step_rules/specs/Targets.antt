@@ -3,12 +3,13 @@ use Rattle.std.specs.Prelude.{Bool, ◌&&◌, List, [], ◌∷◌, ◌++◌, map
 use Rattle.std.specs.List.{list_any, list_all, filter, flat_map}
 use Rattle.pks_terms.specs.declared.schema.Effect.{Effect as DEffect}
 use Rattle.pks_terms.specs.Sets.{Each, with_others, with_later}
-use Rattle.pks_terms.specs.Syntax.{Form, Object, Parameter, Apply, Term, term_of, Literal, negated}
+use Rattle.pks_terms.specs.Syntax.{Form, Object, Parameter, Apply, Term, Literal, negated}
 use Rattle.pks_terms.specs.Orders.{number_of, arguments_of, equation}
 use Rattle.pks_terms.specs.Signatures.{Signature}
 use Rattle.pks_terms.specs.Databases.{Five, holds}
 use Rattle.pks_terms.specs.Actions.{Target, Effect}
-use Rattle.pks_terms.specs.Spoiling.{may_fire, may_change, is_stable, are_stable}
+use Rattle.pks_terms.specs.Spoiling.{may_fire, may_change, is_stable}
+use Rattle.pks_terms.specs.Progress.{has_stable_arguments}
 use Rattle.pks_terms.specs.Settling.{term_forms, target_forms, assigns_alike, lasting, lasted, fired, must_have_fired, cannot_have_fired}
 use Rattle.pks_terms.specs.ValidProblems.{AssignsToPlace}
 
@@ -22,13 +23,9 @@ IsPlace (Object d) = ⊥
 IsPlace (Parameter i) = ⊥
 IsPlace (Apply f ts) = Unit {0}
 
--- the arguments of a place are stable
-abbrev pub stays_there : Signature → Five → List Effect → Term → Bool
-stays_there s d es t = are_stable s d es (map term_of (arguments_of t))
-
 -- the equations of the places whose arguments are stable with the values
 abbrev pub equations_at : Signature → Five → List Effect → List Term → List Term → List Literal
-equations_at s d es places values = flat_map (λ t. map (equation t) values) (filter (stays_there s d es) places)
+equations_at s d es places values = flat_map (λ t. map (equation t) values) (filter (has_stable_arguments s d es) places)
 
 -- each effect that assigns does so to a function at arguments
 abbrev pub ArePlaced : List DEffect → Type 0

@@ -5,12 +5,13 @@ ghost use Rattle.pks_terms.specs.Syntax.{Named, term_of as lifted};
 ghost use Rattle.pks_terms.specs.Orders.{literal, equation, number_of, arguments_of};
 ghost use Rattle.pks_terms.specs.Actions.{Assign, target_at};
 ghost use Rattle.pks_terms.specs.Spoiling.{is_stable};
+ghost use Rattle.pks_terms.specs.Progress.{has_stable_arguments};
 ghost use Rattle.pks_terms.specs.Settling.{stable_forms, target_forms};
 ghost use Rattle.pks_terms.specs.ValidProblems.{AssignsToPlace};
 ghost use Rattle.pks_terms.specs.Views.{inner_of, term_of, terms_of, atom_of, target_of, literal_of, literals_in};
 ghost use Rattle.pks_step_rules.specs.Changes.{signature_in, before_in, given_in, effects_by};
 ghost use Rattle.pks_step_rules.specs.Choosing.{choices_after};
-ghost use Rattle.pks_step_rules.specs.Targets.{stable_terms, stays_there, equations_at, IsPlace};
+ghost use Rattle.pks_step_rules.specs.Targets.{stable_terms, equations_at, IsPlace};
 
 use crate::change::Change;
 use crate::forms::{applied, term_forms};
@@ -108,8 +109,8 @@ fn inners_stay(change: &Change<'_>, args: &[Inner]) -> bool
 }
 
 /// Whether the arguments of the place are stable.
-fn stays_there(change: &Change<'_>, place: &Term) -> bool
-    ensures { result ≡ stays_there (signature_in change.now) (before_in change.now) (effects_by change.now) (term_of place.now) }
+fn has_stable_arguments(change: &Change<'_>, place: &Term) -> bool
+    ensures { result ≡ has_stable_arguments (signature_in change.now) (before_in change.now) (effects_by change.now) (term_of place.now) }
 {
     inners_stay(change, place.arguments())
 }
@@ -134,7 +135,7 @@ fn put_equations_at(
     ensures { OnOk result (literals_in to.new.items ≡ literals_in to.old.items ++ equations_at (signature_in change.now) (before_in change.now) (effects_by change.now) (terms_of places.now) (terms_of values.now)) }
 {
     for place in places {
-        if stays_there(change, place) {
+        if has_stable_arguments(change, place) {
             put_equations(to, place, values)?;
         }
     }

@@ -6,3 +6,5 @@ pub mod ListLaws
 pub mod OrderLaws
 pub mod SetLaws
 pub mod Kept
+pub mod Sequences
+pub mod InOrder

@@ -1,15 +1,16 @@
 //! Signatures, names and problems. `docs/RULES.md` says what they mean and when they are valid, `docs/FORMAT.md` how they
 //! are written.
-ghost use Rattle.std.specs.Prelude.{◌≡◌};
-ghost use Rattle.pks_terms.specs.Signatures.{parent_of, fits_type};
-ghost use Rattle.pks_terms.specs.Views.{signature_of};
+ghost use Rattle.std.specs.Prelude.{◌≡◌, ◌≤◌, map, length, IfOk};
+ghost use Rattle.pks_terms.specs.Signatures.{parent_of, fits_type, objects_of};
+ghost use Rattle.pks_terms.specs.Views.{object_of, signature_of};
 
 use crate::group::Group;
-use crate::ids::{Span, TypeId};
+use crate::ids::{ObjId, Span, TypeId};
 use crate::literal::{Conj, Literal, Pattern};
 use crate::schema::{Query, SchemaList, SortList};
 use crate::sequence::Sequence;
 use crate::term::Term;
+use std::alloc::{AllocError, Global};
 
 /// The declared arguments of a predicate or a function, and the type of a function's result.
 #[derive(Clone, Copy)]
@@ -69,6 +70,22 @@ impl Signature {
                 None => return false,
             }
         }
+    }
+
+    /// The objects of the type, in order: those whose own type fits it. It asks for at most 65,536 objects. The one error is
+    /// want of memory.
+    #[tactic(auto, unfolding(crate::specs::Signatures::objects_of))]
+    pub fn objects_of(&self, alloc: Global, of: TypeId) -> Result<Vec<ObjId>, AllocError>
+        requires { length self.now.objects ≤ 65536 }
+        ensures { IfOk result (λ v. map object_of v.items ≡ objects_of (signature_of self.now) of.0) }
+    {
+        let mut objects = Vec::new(alloc);
+        for (i, own) in self.objects.as_slice().iter().enumerate() {
+            if self.fits(*own, of) {
+                objects.push(ObjId(i as u16))?;
+            }
+        }
+        Ok(objects)
     }
 }
 

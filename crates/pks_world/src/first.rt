@@ -31,21 +31,6 @@ fn least_of(s: &Signature, of: TypeId) -> ObjId
     ObjId(0)
 }
 
-/// The objects of the type, in order.
-#[tactic(auto, unfolding(pks_terms::specs::Signatures::objects_of))]
-pub(crate) fn objects_of(alloc: Global, s: &Signature, of: TypeId) -> Result<Vec<ObjId>, AllocError>
-    requires { length s.now.objects ≤ 65536 }
-    ensures { IfOk result (λ v. map object_of v.items ≡ objects_of (signature_of s.now) of.0) }
-{
-    let mut objects = Vec::new(alloc);
-    for (i, own) in s.objects.as_slice().iter().enumerate() {
-        if s.fits(*own, of) {
-            objects.push(ObjId(i as u16))?;
-        }
-    }
-    Ok(objects)
-}
-
 /// The least value of each function.
 fn least_values(alloc: Global, s: &Signature) -> Result<Vec<ObjId>, AllocError>
     requires { length s.now.objects ≤ 65536 }
@@ -70,7 +55,7 @@ fn argument_range(
 {
     match types.get(number) {
         Some(of) => {
-            let objects = objects_of(alloc, s, *of)?;
+            let objects = s.objects_of(alloc, *of)?;
             Ok(objects)
         }
         None => {

@@ -9,18 +9,14 @@ ghost use Rattle.pks_terms.specs.Views.{object_of, term_of, atom_of, pattern_of,
 ghost use Rattle.pks_world.specs.Contents.{ground, world_of};
 ghost use Rattle.pks_world.specs.Observed.{seen_of, AreGround, slot_range, true_at, row, plane, grid};
 
-use crate::first::objects_of;
 use crate::world::World;
 use pks_terms::ids::{ActId, ObjId, PredId, TypeId};
-use pks_terms::literal::{Conj, Pattern, PredAtom};
+use pks_terms::literal::{AtomList, Conj, Pattern, PredAtom};
 use pks_terms::problem::{Problem, Signature};
 use pks_terms::schema::{Instance, Sense};
 use pks_terms::sequence::Sequence;
 use pks_terms::term::{Term, front};
 use std::alloc::{AllocError, Global};
-
-/// A list of atoms at objects.
-pub type AtomList = Sequence<PredAtom>;
 
 /// What one sense finds: the truth of a conjunction, the value of a term, the true instances of a pattern in order.
 #[derive(Drop)]
@@ -77,7 +73,7 @@ impl World {
     {
         match (types.get(number), slots.get(number)) {
             (Some(of), Some(None)) => {
-                let objects = objects_of(alloc, s, *of)?;
+                let objects = s.objects_of(alloc, *of)?;
                 Ok(objects)
             }
             (Some(_), Some(Some(t))) => {

@@ -2,7 +2,7 @@ use Rattle.std.proofs.Common.{length, ◌-◌, ◌≡◌, ◌+◌, drop}
 use Rattle.std.specs.Ordering.{on}
 use Rattle.pks_terms.specs.Orders.{atom_cmp}
 use Rattle.pks_terms.specs.Views.{atom_of}
-use Rattle.pks_lcw.specs.Below.{count_below}
+use Rattle.pks_terms.specs.Placing.{count_below}
 use Rattle.pks_lcw.proofs.atoms.place.Given as goal
 
 abbrev pub invariant-loop-below : goal.invariant-loop-below
