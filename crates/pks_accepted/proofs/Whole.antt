@@ -123,7 +123,7 @@ first_version d p is_d is_p =
 
 -- ---- the whole
 
-or_none : {X : Type 0} (a b : Option X) → or_else a b ≡ None → (a ≡ None) × (b ≡ None)
+pub or_none : {X : Type 0} (a b : Option X) → or_else a b ≡ None → (a ≡ None) × (b ≡ None)
 or_none None b e = (refl, e)
 or_none (Some x) b e = absurd (none-some x (sym e))
 

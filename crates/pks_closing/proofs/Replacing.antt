@@ -2,16 +2,9 @@
 use Rattle.std.proofs.Common.{◌≡◌, ℕ, ◌+◌, ◌<◌, ◌≤◌, List, [], ◌∷◌, ◌++◌, map, take, drop, length, get_or, slice_set, refl, sym, ap, ◌∙◌, add-one, append_assoc, min, arith}
 use Rattle.std.proofs.lemmas.List.{map-append, set_split, take_more, drop_all, length-take, length-map}
 use Rattle.pks_terms.specs.Sets.{one_replaced}
+use Rattle.pks_terms.proofs.ListLaws.{map-map, map_alike}
+use Rattle.pks_normal.proofs.Lists.{map_same}
 use Rattle.pks_closing.specs.Reading.{replaced_from}
-use Rattle.pks_closing.proofs.Lists.{map_same}
-
-map_alike : {X Y : Type 0} (f g : X → Y) → ((x : X) → f x ≡ g x) → (xs : List X) → map f xs ≡ map g xs
-map_alike f g h [] = refl
-map_alike f g h (x ∷ xs) = λ i. h x i ∷ map_alike f g h xs i
-
-map-map : {X Y Z : Type 0} (f : X → Y) (g : Y → Z) (xs : List X) → map g (map f xs) ≡ map (λ x. g (f x)) xs
-map-map f g [] = refl
-map-map f g (x ∷ xs) = λ i. g (f x) ∷ map-map f g xs i
 
 pub drop_from : {X : Type 0} (xs : List X) (i : ℕ) (d : X) → i < length xs → drop i xs ≡ get_or xs i d ∷ drop (i + 1) xs
 drop_from xs i d h = rw add-one (Rattle.std.proofs.Math.Seq.drop-cons xs i d h)

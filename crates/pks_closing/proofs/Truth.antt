@@ -1,20 +1,13 @@
 -- What the laws say of the end of closing.
-use Rattle.std.proofs.Common.{Bool, true, false, sym, ap, subst, true≢false}
+use Rattle.std.proofs.Common.{sym, ap, subst, true≢false}
 use Rattle.pks_terms.specs.Syntax.{Literal}
 use Rattle.pks_terms.specs.Signatures.{Signature}
 use Rattle.pks_terms.specs.Worlds.{World}
 use Rattle.pks_terms.specs.Meaning.{IsTrueOf}
 use Rattle.pks_terms.specs.Databases.{Five}
-use Rattle.pks_terms.specs.Closure.{Outcome, Next, Clash, Closes}
+use Rattle.pks_terms.specs.Closure.{Next, Clash, Closes}
+use Rattle.pks_laws.proofs.Sorted.{next_or, is_next}
 use Rattle.pks_laws.proofs.Tidying.{closed_true}
-
-abbrev next_or : Five → Outcome → Five
-next_or e (Next d) = d
-next_or e (Clash l) = e
-
-abbrev is_next : Outcome → Bool
-is_next (Next d) = true
-is_next (Clash l) = false
 
 pub closed_keeps_truth : (s : Signature) (d e : Five) → Closes s d (Next e) → (w w' : World) → IsTrueOf s w w' d → IsTrueOf s w w' e
 closed_keeps_truth s d e c w w' m =

@@ -9,7 +9,7 @@ use Rattle.pks_terms.specs.Orders.{literal_cmp, literal_eq}
 use Rattle.pks_terms.specs.Totality.{literal_cmp_total}
 use Rattle.pks_terms.specs.Views.{literal_of}
 use Rattle.pks_terms.specs.Databases.{normal_literal}
-use Rattle.pks_terms.proofs.ListLaws.{any_added}
+use Rattle.pks_terms.proofs.ListLaws.{or_swapped, any_added}
 use Rattle.pks_terms.proofs.SetLaws.{map-added}
 use Rattle.pks_terms.proofs.OrderLaws.{literal_cmp_tells, same_literal}
 use Rattle.pks_pmap.specs.Keeping.{Keeps}
@@ -26,11 +26,6 @@ same_reversed Greater = refl
 eq_turned : (l k : Literal) → is_eq (literal_cmp l k) ≡ literal_eq k l
 unfolding literal_eq
 eq_turned l k = ap is_eq (literal_cmp_total.antisymm l k) ∙ same_reversed (literal_cmp k l)
-
-or_swapped : (a b c : Bool) → (a || (b || c)) ≡ (b || (a || c))
-or_swapped true true c = refl
-or_swapped true false c = refl
-or_swapped false b c = refl
 
 or_thrice : (a b c : Bool) → ((a || b) || c) ≡ (a || (b || c))
 or_thrice true b c = refl

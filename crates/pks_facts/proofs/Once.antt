@@ -2,11 +2,8 @@
 use Rattle.std.proofs.Common.{◌≡◌, ◌++◌, ℕ, true, false, cond, [], Option, Some, None, refl, sym, ap, ◌∙◌, option_map, true≢false}
 use Rattle.std.specs.Prelude.{codes, unwrap_or}
 use Rattle.std.specs.Option.{option_map_or}
-use Rattle.std.specs.Ordering.{is_eq}
-use Rattle.std.proofs.lemmas.Cmp.{tied_itself}
 use Rattle.pks_terms.specs.Syntax.{Term, place}
-use Rattle.pks_terms.specs.Orders.{term_cmp, term_eq}
-use Rattle.pks_terms.specs.Totality.{term_cmp_total}
+use Rattle.pks_terms.specs.Orders.{term_eq}
 use Rattle.pks_terms.proofs.OrderLaws.{same_term}
 use Rattle.pks_text.specs.Forms.{Form, Forms, no_forms, form, place_of}
 use Rattle.pks_meaning.specs.Scopes.{Scope, signature_in}
@@ -15,6 +12,7 @@ use Rattle.pks_meaning.specs.Declarations.{first_in, second_in}
 use Rattle.pks_accepted.specs.Facts.{EachForm}
 use Rattle.pks_accepted.proofs.Numbers.{nil_parts, when}
 use Rattle.pks_world.specs.First.{least_value}
+use Rattle.pks_world.proofs.Filling.{same_eq}
 use Rattle.pks_facts.specs.Naming.{object_named, place_named}
 use Rattle.pks_facts.specs.Facts.{Given, once_given, again, function_at, fact_faults, object_faults, true_faults, value_faults, given_with, none_given, values_faults, world_faults}
 use Rattle.pks_facts.specs.Stated.{value_with, value_given, world_in}
@@ -23,10 +21,6 @@ use Rattle.pks_facts.specs.Typing.{HasItsValue}
 each_weaker : (P Q : Form → Type 0) → ((f : Form) → P f → Q f) → (fs : Forms) → EachForm P fs → EachForm Q fs
 each_weaker P Q h no_forms a = tt
 each_weaker P Q h (form f fs) a = (h f a.0, each_weaker P Q h fs a.1)
-
-same_eq : (t u : Term) → t ≡ u → term_eq t u ≡ true
-unfolding term_eq
-same_eq t u e = ap (λ x. is_eq (term_cmp t x)) (sym e) ∙ ap is_eq (tied_itself term_cmp_total t)
 
 module _ (s : Scope) where
   not_again : (given : Given) (e : Form) → value_faults s given e ≡ [] → again given (place_named s (first_in e)) (place_of (first_in e)) ≡ []

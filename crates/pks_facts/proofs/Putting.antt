@@ -5,6 +5,7 @@ use Rattle.std.specs.Option.{option_map_or}
 use Rattle.pks_terms.specs.Syntax.{Term, Atom, place}
 use Rattle.pks_terms.specs.Orders.{term_eq}
 use Rattle.pks_terms.specs.Worlds.{World}
+use Rattle.pks_terms.proofs.ListLaws.{or_false}
 use Rattle.pks_text.specs.Forms.{Forms, no_forms, form}
 use Rattle.pks_meaning.specs.Scopes.{Scope, signature_in}
 use Rattle.pks_meaning.specs.Parts.{section}
@@ -35,10 +36,6 @@ one_place None v rest w = refl
 one_place (Some t) None rest w = λ i. record w { value = λ f ds. rest f ds (same_either (term_eq t (place f ds)) (w.value f ds) i) }
 one_place (Some t) (Some d) rest w = refl
 
-or_nothing : (b : Bool) → (b || false) ≡ b
-or_nothing true = refl
-or_nothing false = refl
-
 module _ (s : Scope) where
   facts_put : (w : World) (fs : Forms) → ◌≡◌ {A = World} (with_facts s w fs) (record w { truth = λ p ds. is_listed s fs (ground p ds) || w.truth p ds })
   facts_put w no_forms = refl
@@ -58,4 +55,4 @@ module _ (s : Scope) where
       let start : World = with_facts s first (section (codes "true") fs) in
       entries_put start (section (codes "values") fs)
       ∙ ap values (facts_put first (section (codes "true") fs))
-      ∙ (λ i. record { truth = λ p ds. or_nothing (is_listed s (section (codes "true") fs) (ground p ds)) i; value = (values first).value })
+      ∙ (λ i. record { truth = λ p ds. or_false (is_listed s (section (codes "true") fs) (ground p ds)) i; value = (values first).value })

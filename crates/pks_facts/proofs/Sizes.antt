@@ -4,11 +4,11 @@ use Rattle.pks_terms.specs.Sets.{Each}
 use Rattle.pks_terms.specs.Signatures.{Shape}
 use Rattle.pks_terms.specs.declared.problem.Signature.{Signature}
 use Rattle.pks_terms.specs.Views.{shape_of, signature_of}
+use Rattle.pks_terms.proofs.ListLaws.{each_unmapped}
 use Rattle.pks_meaning.specs.Tables.{Table, entries_of}
 use Rattle.pks_meaning.specs.Scopes.{Scope, signature_in}
 use Rattle.pks_stated.specs.Sizes.{IsSmall}
 use Rattle.pks_accepted.specs.Facts.{HasShapes}
-use Rattle.pks_world.proofs.Filling.{each_unmapped}
 
 entries_length : {X : Type 0} (t : Table X) → length (entries_of t) ≡ length t
 entries_length [] = refl

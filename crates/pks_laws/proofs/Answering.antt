@@ -14,7 +14,7 @@ use Rattle.pks_terms.specs.Meaning.{IsTrueOf}
 use Rattle.pks_terms.specs.Closure.{normal_conj}
 use Rattle.pks_terms.specs.Queries.{Plain, Know, KnowWhether, KnowValue, Query, known_value, is_member, has_known_sides, is_decided, known_whether, answers_plain, answers}
 use Rattle.pks_laws.specs.Saying.{IsSaidOf}
-use Rattle.pks_terms.proofs.ListLaws.{found, found_in, all_set_of, all_alike}
+use Rattle.pks_terms.proofs.ListLaws.{found, found_in, and_true, all_set_of, all_alike}
 use Rattle.pks_terms.proofs.OrderLaws.{same_term, literal_cmp_tells}
 use Rattle.pks_laws.proofs.Values.{AllTrue, value_of-normal}
 use Rattle.pks_laws.proofs.Holding.{true_in-normal, true_in-negated, holds_true, denied_false}
@@ -61,10 +61,6 @@ module _ {s : Signature} (w w' : World) (d : Five) (m : IsTrueOf s w w' d) where
   not_alike true false e = sym e
   not_alike false true e = sym e
   not_alike false false e = refl
-
-  and_true : (a : Bool) → (a && true) ≡ a
-  and_true true = refl
-  and_true false = refl
 
   alone_alike : (l : Literal) → is_member d (l ∷ []) ≡ true → true_in w l ≡ true_in w' l
   unfolding all_true_in

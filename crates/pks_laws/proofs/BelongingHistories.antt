@@ -92,6 +92,10 @@ abbrev pub history_or : History → State → History
 history_or g (At x) = x
 history_or g Stopped = g
 
+abbrev pub rest_of_steps : List (Instance × Five) → List (Instance × Five)
+rest_of_steps [] = []
+rest_of_steps (step ∷ steps) = steps
+
 -- ---- the end of the rounds: each moment is closed by the rules, and none clashes
 
 module _ (p : Problem) where
@@ -120,10 +124,6 @@ module _ (p : Problem) where
   abbrev first_kf : List (Instance × Five) → List Literal
   first_kf [] = []
   first_kf (step ∷ steps) = step.1.kf
-
-  abbrev rest_of_steps : List (Instance × Five) → List (Instance × Five)
-  rest_of_steps [] = []
-  rest_of_steps (step ∷ steps) = steps
 
   steps_end : (before : Five) (steps : List (Instance × Five)) → settled_steps p before steps ≡ steps → list_any (λ step. is_some (first_clash p.signature step.1)) steps ≡ false → Each (λ step. IsEnd step.1) steps
   steps_end before [] e c = tt

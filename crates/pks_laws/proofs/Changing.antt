@@ -13,7 +13,8 @@ use Rattle.pks_terms.specs.Closure.{is_application, applications_in}
 use Rattle.pks_terms.specs.Actions.{Target, Set, Unset, Clear, Assign, Effect, fires, written_truth, written_value, last_written, applied_to}
 use Rattle.pks_terms.specs.Spoiling.{some_fixed_differ, may_fire, may_make_true, may_make_false, may_change, some_may, may_be_changed, is_stable, are_stable, may_be_denied, spoils}
 use Rattle.pks_terms.proofs.ListLaws.{each_in, found_in, each_from_all, map-map, map_alike}
-use Rattle.pks_laws.proofs.Holding.{same_objects_same, denied_false, differ_true, some_differ_true}
+use Rattle.pks_laws.proofs.Values.{same_objects_same}
+use Rattle.pks_laws.proofs.Holding.{denied_false, differ_true, some_differ_true}
 
 -- what is written has P, where each effect that fires writes something with P and what was there has P
 pub last_written_has : {X : Type 0} (P : X → Type 0) (written : Target → Option X) (w : World) (es : List Effect) (x : X) → ((e : Effect) (y : X) → IsIn e es → fires w e ≡ true → written e.target ≡ Some y → P y) → P x → P (last_written written w es x)

@@ -20,6 +20,26 @@ use Rattle.pks_laws.proofs.TreeOrder.{tree_tells}
 use Rattle.pks_laws.proofs.TreeTotal.{tree_cmp_total}
 use Rattle.pks_laws.proofs.BestTree.{before_through, before_do, before_branch, before_end, before_more, before_cases}
 
+-- ---- a tree has one choice at its root
+
+pub act_not_branch : (c : List Literal) (i : Instance) → Some (BranchOn c) ≡ Some (Act i) → ⊥
+act_not_branch c i e = cc
+
+pub act_not_cases : (x : Term) (i : Instance) → Some (CasesOn x) ≡ Some (Act i) → ⊥
+act_not_cases x i e = cc
+
+pub branch_not_act : (i : Instance) (c : List Literal) → Some (Act i) ≡ Some (BranchOn c) → ⊥
+branch_not_act i c e = cc
+
+pub branch_not_cases : (x : Term) (c : List Literal) → Some (CasesOn x) ≡ Some (BranchOn c) → ⊥
+branch_not_cases x c e = cc
+
+pub cases_not_act : (i : Instance) (x : Term) → Some (Act i) ≡ Some (CasesOn x) → ⊥
+cases_not_act i x e = cc
+
+pub cases_not_branch : (c : List Literal) (x : Term) → Some (BranchOn c) ≡ Some (CasesOn x) → ⊥
+cases_not_branch c x e = cc
+
 module _ (p : Problem) where
   -- ---- best of two, best of the same
 
@@ -102,24 +122,6 @@ module _ (p : Problem) where
   module _ (h : History) (n : ℕ) where
     abbrev now : Rattle.pks_terms.specs.Databases.Five
     now = last_moment h
-
-    act_not_branch : (c : List Literal) (i : Instance) → Some (BranchOn c) ≡ Some (Act i) → ⊥
-    act_not_branch c i e = cc
-
-    act_not_cases : (x : Term) (i : Instance) → Some (CasesOn x) ≡ Some (Act i) → ⊥
-    act_not_cases x i e = cc
-
-    branch_not_act : (i : Instance) (c : List Literal) → Some (Act i) ≡ Some (BranchOn c) → ⊥
-    branch_not_act i c e = cc
-
-    branch_not_cases : (x : Term) (c : List Literal) → Some (CasesOn x) ≡ Some (BranchOn c) → ⊥
-    branch_not_cases x c e = cc
-
-    cases_not_act : (i : Instance) (x : Term) → Some (Act i) ≡ Some (CasesOn x) → ⊥
-    cases_not_act i x e = cc
-
-    cases_not_branch : (c : List Literal) (x : Term) → Some (BranchOn c) ≡ Some (CasesOn x) → ⊥
-    cases_not_branch c x e = cc
 
     act_child : (i : Instance) (y : State) → Acts p h i y → (t : Tree) → IsDerivedBy p h (n + 1) (Act i) t → (u : Tree) × (t ≡ Do i u) × Derives p y u × (depth u ≤ n)
     act_child i y acts Goal d = absurd (none-some (Act i) d.1)

@@ -1,5 +1,5 @@
 -- What conditional effects and assignments tell two worlds alike, and the third law: databases stay true of two worlds through an action.
-use Rattle.std.proofs.Common.{◌≡◌, ◌&&◌, ◌||◌, ◌==◌, ℕ, Bool, true, false, cond, not, is_some, List, [], ◌∷◌, map, filter, filter_map, flat_map, Some, None, unwrap_or, refl, sym, ap, ◌∙◌, ⊎_elim, true≢false, append-nil}
+use Rattle.std.proofs.Common.{◌≡◌, ◌||◌, ◌==◌, ℕ, Bool, true, false, cond, not, is_some, List, [], ◌∷◌, map, filter, filter_map, flat_map, Some, None, unwrap_or, refl, sym, ap, ◌∙◌, ⊎_elim, true≢false, append-nil}
 use Rattle.std.specs.List.{list_any, list_all}
 use Rattle.std.specs.Option.{option_map_or}
 use Rattle.std.specs.Cmp.{Equal-is}
@@ -21,7 +21,7 @@ use Rattle.pks_terms.specs.Justified.{J3, J4, J5, J6, J7, asks_whether, asks_val
 use Rattle.pks_terms.specs.Typed.{AreJustified}
 use Rattle.pks_terms.specs.Branching.{is_allowed}
 use Rattle.pks_terms.specs.Progress.{parameters_in, conj_parameters, arguments_stable, place_at, has_stable_arguments, is_sensed, added_formula, added_value, formulas_added, values_added, regions_added, literals_added, is_applied_in, progressed}
-use Rattle.pks_terms.proofs.ListLaws.{each_added, each_set_of, each_in, each_filter, each_flat_map, each_from_all, found, found_in, map-map, all_same}
+use Rattle.pks_terms.proofs.ListLaws.{each_added, each_set_of, each_in, each_filter, each_flat_map, each_from_all, found, found_in, map-map, and_true, all_same}
 use Rattle.pks_terms.proofs.OrderLaws.{same_term, same_literal, literal_cmp_tells}
 use Rattle.pks_laws.proofs.Values.{values-normal}
 use Rattle.pks_laws.proofs.Holding.{true_in-negated, holds_true, same_objects_itself}
@@ -39,10 +39,6 @@ signed_alike false true true e = refl
 signed_alike false true false e = sym e
 signed_alike false false true e = sym e
 signed_alike false false false e = refl
-
-and_true : (a : Bool) → (a && true) ≡ a
-and_true true = refl
-and_true false = refl
 
 -- ---- the one effect on a predicate
 

@@ -14,7 +14,7 @@ use Rattle.pks_terms.specs.Databases.{Entry, Five, same_objects, normal, normal_
 use Rattle.pks_terms.specs.Meaning.{IsWorld, is_instance, is_value_of, Meets, IsTrueIn}
 use Rattle.pks_terms.proofs.ListLaws.{found, found_in}
 use Rattle.pks_terms.proofs.OrderLaws.{same_term, same_literal}
-use Rattle.pks_laws.proofs.Values.{AllTrue, value_of-normal, values-normal}
+use Rattle.pks_laws.proofs.Values.{AllTrue, same_objects_same, value_of-normal, values-normal}
 
 pub eqb_comm : (m n : ℕ) → (m == n) ≡ (n == m)
 eqb_comm m n =
@@ -58,14 +58,6 @@ same_objects_itself [] [] e = refl
 same_objects_itself [] (x ∷ es) e = cc
 same_objects_itself (d ∷ ds) [] e = cc
 same_objects_itself (d ∷ ds) (x ∷ es) e = and_from (d == x) (same_objects ds es) (eq-eqb d x cc) (same_objects_itself ds es cc)
-
-pub same_objects_same : (ds es : List ℕ) → same_objects ds es ≡ true → ds ≡ es
-same_objects_same [] [] h = refl
-same_objects_same [] (e ∷ es) h = cc
-same_objects_same (d ∷ ds) [] h = cc
-same_objects_same (d ∷ ds) (e ∷ es) h =
-    let a = and_parts (d == e) (same_objects ds es) h in
-    λ i. eqb-true d e a.0 i ∷ same_objects_same ds es a.1 i
 
 module _ (w : World) (kf : List Literal) (a : AllTrue w kf) where
   pub true_in-normal : (l : Literal) → true_in w (normal_literal kf l) ≡ true_in w l

@@ -15,7 +15,8 @@ use Rattle.pks_terms.specs.Actions.{Target, Set, Unset, Clear, Assign, Effect, a
 use Rattle.pks_terms.specs.Justified.{asks_known, is_given, are_given, apart, some_apart, some_fixed_apart, may_undo}
 use Rattle.pks_terms.proofs.ListLaws.{found, map-map, map_alike, in_with_later_map, in_mapped, none_in, all_from_each, each_from_all}
 use Rattle.pks_terms.proofs.OrderLaws.{same_literal}
-use Rattle.pks_laws.proofs.Holding.{holds_true, same_objects_same, same_objects_itself}
+use Rattle.pks_laws.proofs.Values.{same_objects_same}
+use Rattle.pks_laws.proofs.Holding.{holds_true, same_objects_itself}
 use Rattle.pks_laws.proofs.Changing.{last_written_after, value_of-term_of}
 use Rattle.pks_laws.proofs.PuttingIn.{true_in-ordered_at, all_true_in-conj_at}
 

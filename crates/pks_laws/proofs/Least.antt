@@ -19,8 +19,8 @@ use Rattle.pks_terms.proofs.ListLaws.{each_of, found_in, any_in, map-map, map_al
 use Rattle.pks_terms.proofs.OrderLaws.{term_cmp_tells, literal_cmp_tells, same_literal, same_term}
 use Rattle.pks_terms.specs.Totality.{term_cmp_total, literal_cmp_total}
 use Rattle.pks_terms.proofs.SetLaws.{in_added}
-use Rattle.pks_laws.proofs.Values.{least_in}
-use Rattle.pks_laws.proofs.Holding.{same_objects_same, same_objects_itself}
+use Rattle.pks_laws.proofs.Values.{same_objects_same, least_in}
+use Rattle.pks_laws.proofs.Holding.{same_objects_itself}
 
 pub in_left : {X : Type 0} (xs ys : List X) → Within xs (xs ++ ys)
 in_left [] ys x i = absurd i

@@ -18,6 +18,7 @@ use Rattle.pks_terms.specs.Databases.{Five, told, value_if_at, values_at, least,
 use Rattle.pks_terms.specs.Closure.{inner_steps, term_steps, by_value, is_application, rounds, normal_conj, tidied, first_clash, IsClosed}
 use Rattle.pks_terms.specs.Queries.{known_value, is_member}
 use Rattle.pks_terms.specs.Saturated.{IsSaturated}
+use Rattle.pks_terms.proofs.Types.{both_ways}
 use Rattle.pks_terms.proofs.ListLaws.{each_in, each_of, each_map, each_kept, each_set_of, found_in, any_in, in_map, in_mapped, in_appended}
 use Rattle.pks_terms.proofs.OrderLaws.{term_cmp_tells, literal_cmp_tells, conj_cmp_tells, same_literal}
 use Rattle.pks_terms.proofs.SetLaws.{ordered_set_of, in_set_of, set_of_in, same_members}
@@ -125,11 +126,6 @@ module _ (kf : List Literal) where
     unfolding normal_literal literal
     normal_in l ordered i = unfold literal in normals_in l.relation l.positive l.arguments (subst (λ ts. IsIn (record { relation = l.relation; arguments = ts; positive = l.positive }) kf) (sym ordered) i)
 
-both_ways : (a b : Bool) → (a ≡ true → b ≡ true) → (b ≡ true → a ≡ true) → a ≡ b
-both_ways true b f g = sym (f refl)
-both_ways false true f g = g refl
-both_ways false false f g = refl
-
 -- equal one way round, and the other
 module _ {X : Type 0} (cmp : X → X → Ordering) (o : IsTotalOrder cmp) (tells : IsAntisymmetric cmp) where
   pub eq_turned : (x y : X) → is_eq (cmp x y) ≡ is_eq (cmp y x)
@@ -148,7 +144,7 @@ module _ {X : Type 0} (cmp : X → X → Ordering) (o : IsTotalOrder cmp) (tells
   among_normal norm [] x a = refl
   among_normal norm (y ∷ ys) x a = λ i. (ap (λ z. is_eq (cmp z x)) a.0 ∙ eq_turned y x) i || among_normal norm ys x a.1 i
 
-map_fixed : {X : Type 0} (f : X → X) (xs : List X) → Each (λ x. f x ≡ x) xs → map f xs ≡ xs
+pub map_fixed : {X : Type 0} (f : X → X) (xs : List X) → Each (λ x. f x ≡ x) xs → map f xs ≡ xs
 map_fixed f [] a = refl
 map_fixed f (x ∷ xs) a = λ i. a.0 i ∷ map_fixed f xs a.1 i
 

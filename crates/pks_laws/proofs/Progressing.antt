@@ -20,8 +20,8 @@ use Rattle.pks_terms.specs.Orders.{atom_cmp}
 use Rattle.pks_terms.specs.Totality.{atom_cmp_total}
 use Rattle.pks_terms.proofs.OrderLaws.{atom_cmp_tells}
 use Rattle.pks_terms.proofs.SetLaws.{inserted_in}
-use Rattle.pks_laws.proofs.Values.{values-normal}
-use Rattle.pks_laws.proofs.Holding.{true_in-negated, same_objects_same, same_objects_itself}
+use Rattle.pks_laws.proofs.Values.{same_objects_same, values-normal}
+use Rattle.pks_laws.proofs.Holding.{true_in-negated, same_objects_itself}
 use Rattle.pks_laws.proofs.Changing.{last_written_has, fires_may, stable_value, stable_values, unspoiled_stays, instance_not_apart}
 
 -- where an add is applied, all that its text gives is answered

@@ -14,7 +14,7 @@ use Rattle.pks_terms.specs.Problems.{Problem, schema_of}
 use Rattle.pks_terms.specs.Branching.{as_inner, candidates}
 use Rattle.pks_terms.proofs.ListLaws.{each_in, in_mapped, in_appended, in_flat_mapped, map-map}
 use Rattle.pks_laws.proofs.Least.{in_filter_mapped}
-use Rattle.pks_laws.proofs.Holding.{same_objects_same}
+use Rattle.pks_laws.proofs.Values.{same_objects_same}
 use Rattle.pks_laws.proofs.Changing.{last_written_has, value_of-term_of}
 use Rattle.pks_terms.proofs.Types.{wider}
 use Rattle.pks_laws.proofs.Instances.{allowed_instance}

@@ -10,7 +10,7 @@ use Rattle.pks_terms.specs.Worlds.{World, value_of, true_in, all_true_in}
 use Rattle.pks_terms.specs.Databases.{Entry, entry_cmp, Five, same_objects, normal, normal_literal}
 use Rattle.pks_terms.specs.Meaning.{is_instance, is_value_of, Meets, IsTrueIn, IsTrueOf}
 use Rattle.pks_terms.specs.Closure.{is_application, round, rounds, put_in, all_put_in, in_sequence, normal_conj, normal_group, normal_atom, normal_entry, tidied, Outcome, Next, Clash, first_clash, Closes}
-use Rattle.pks_terms.proofs.ListLaws.{each_map, each_kept, each_set_of, each_weaker, any_set_of, any_alike}
+use Rattle.pks_terms.proofs.ListLaws.{each_map, each_kept, each_set_of, each_weaker, or_swapped, any_set_of, any_alike}
 use Rattle.pks_terms.proofs.OrderLaws.{atom_cmp_tells}
 use Rattle.pks_laws.proofs.Values.{AllTrue, value_of-normal, values-normal}
 use Rattle.pks_laws.proofs.Holding.{true_in-normal}
@@ -19,11 +19,6 @@ use Rattle.pks_laws.proofs.Closing.{rounds_true, no_clash}
 
 -- the order of a group's members doesn't matter
 module _ (p : Literal → Bool) where
-  or_swapped : (a b c : Bool) → (a || (b || c)) ≡ (b || (a || c))
-  or_swapped true true c = refl
-  or_swapped true false c = refl
-  or_swapped false b c = refl
-
   one_swapped : (a b c e : Bool) → cond a (not (b || c)) (cond b (not c) e) ≡ cond b (not (a || c)) (cond a (not c) e)
   one_swapped true true c e = refl
   one_swapped true false c e = refl

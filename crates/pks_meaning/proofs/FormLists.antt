@@ -1,5 +1,5 @@
 -- Forms in memory, and their parts.
-use Rattle.std.proofs.Common.{◌≡◌, ℕ, zero, suc, min, ◌==◌, List, [], ◌∷◌, length, take, refl, ap, ◌∙◌, arith}
+use Rattle.std.proofs.Common.{◌≡◌, ℕ, zero, suc, min, ◌==◌, List, [], ◌∷◌, length, take, refl, ap, ◌∙◌}
 use Rattle.std.proofs.lemmas.List.{take_min}
 use Rattle.pks_terms.specs.declared.ids.TypeId.{TypeId}
 use Rattle.pks_terms.specs.Views.{types_of}
@@ -7,11 +7,8 @@ use Rattle.pks_text.specs.Forms.{form}
 use Rattle.pks_text.specs.declared.tree.Form.{Form as CodeForm}
 use Rattle.pks_text.specs.FormViews.{form_view, forms_view}
 use Rattle.pks_grammar.specs.Walk.{count}
+use Rattle.pks_grammar.proofs.Counts.{count_view}
 use Rattle.pks_meaning.specs.Parts.{first_forms}
-
-pub count_view : (fs : List CodeForm) → count (forms_view fs) ≡ length fs
-count_view [] = refl
-count_view (f ∷ fs) = let later : count (forms_view fs) ≡ length fs = count_view fs in omega (arith, later)
 
 -- the first forms in memory
 pub first_view : (n : ℕ) (fs : List CodeForm) → forms_view (take n fs) ≡ first_forms n (forms_view fs)

@@ -19,6 +19,7 @@ use Rattle.pks_terms.specs.Orders.{inner_cmp, number_of, arguments_of}
 use Rattle.pks_terms.specs.Totality.{inner_cmp_total}
 use Rattle.pks_terms.specs.Views.{object_of, inner_of}
 use Rattle.pks_terms.specs.Databases.{Told, told, same_objects, value_if_at, values_at}
+use Rattle.pks_terms.proofs.Types.{both_ways}
 use Rattle.pks_terms.proofs.OrderLaws.{form_cmp_tells}
 use Rattle.pks_normal.specs.Tables.{Table, key_at, found_objects, objects_at, values_in, told_of, IsKey, Puts, Adds, AreShort, IsTableBut, IsTableOf}
 
@@ -37,11 +38,6 @@ unfolding values_in
 at_key t k f ds e = ap (λ (x : Inner). found_objects (get_by (λ y. inner_cmp x (inner_of y)) t)) (e ∙ sym (key_viewed f ds))
 
 -- ---- equal places
-
-both_ways : (a b : Bool) → (a ≡ true → b ≡ true) → (b ≡ true → a ≡ true) → a ≡ b
-both_ways true b f g = sym (f refl)
-both_ways false true f g = g refl
-both_ways false false f g = refl
 
 objects_themselves : (ds : List ℕ) → same_objects ds ds ≡ true
 objects_themselves [] = refl

@@ -2,7 +2,7 @@
 use Rattle.std.proofs.Common.{◌≡◌, ◌<◌, ℕ, suc, Result, Ok, Err, OnErr, List, [], ◌∷◌, ◌++◌, length, map, drop, get_or, append_assoc, append-nil, refl, sym, ap, ◌∙◌, subst}
 use Rattle.std.specs.List.{flat_map, join_with_byte}
 use Rattle.std.proofs.Math.Seq.{drop-cons}
-use Rattle.pks_terms.proofs.Fronts.{map-map}
+use Rattle.pks_terms.proofs.ListLaws.{map-map}
 use Rattle.pks_plan.specs.Appending.{AppendsPart}
 
 -- nothing yet

@@ -1,5 +1,5 @@
 -- What the end of the rounds over a family says of settling.
-use Rattle.std.proofs.Common.{◌≡◌, Bool, false, cond, List, [], ◌∷◌, map, length, refl, sym, ap, ◌∙◌, subst}
+use Rattle.std.proofs.Common.{◌≡◌, Bool, false, cond, map, length, refl, sym, ap, ◌∙◌, subst}
 use Rattle.std.proofs.lemmas.List.{length-map}
 use Rattle.pks_terms.specs.Sets.{Each}
 use Rattle.pks_terms.specs.Signatures.{HasValues}
@@ -10,15 +10,12 @@ use Rattle.pks_terms.specs.Actions.{Instance}
 use Rattle.pks_terms.specs.Problems.{Problem}
 use Rattle.pks_terms.specs.Settling.{History, State, At, Stopped, with_last, clashes, tidied_history, settle_round, settle_rounds, Settles}
 use Rattle.pks_terms.specs.Remembering.{IsTrueHistory}
+use Rattle.pks_terms.proofs.ListLaws.{each_unmapped}
 use Rattle.pks_laws.proofs.BelongingHistories.{settled_closed}
 use Rattle.pks_laws.proofs.Histories.{deeds_with_last, deeds_settled, settled_history}
 use Rattle.pks_laws.proofs.LeastFamily.{settled_least}
 use Rattle.pks_postdict.specs.Ends.{IsLeastOver}
 use Rattle.pks_postdict.specs.Lasting.{IsLastFamily}
-
-each_mapped : {X Y : Type 0} (P : Y → Type 0) (f : X → Y) (xs : List X) → Each P (map f xs) → Each (λ x. P (f x)) xs
-each_mapped P f [] a = tt
-each_mapped P f (x ∷ xs) a = (a.0, each_mapped P f xs a.1)
 
 -- the history g is the end of the rounds from h
 module _ (p : Problem) (h f g : History) (same : f ≡ h) (end : IsLastFamily p f g) where
@@ -40,7 +37,7 @@ module _ (p : Problem) (h f g : History) (same : f ≡ h) (end : IsLastFamily p 
 
   pub closed_later : clashes p.signature g ≡ false → Each (λ (step : Instance × Five). IsClosed p.signature (tidied step.1)) g.steps
   closed_later none =
-      each_mapped (λ (step : Instance × Five). IsClosed p.signature step.1) (λ (step : Instance × Five). (step.0, tidied step.1)) g.steps
+      each_unmapped (λ (step : Instance × Five). IsClosed p.signature step.1) (λ (step : Instance × Five). (step.0, tidied step.1)) g.steps
       (settled_closed p h (tidied_history g) (settles_at none)).1
 
   pub least_over : HasValues p.signature → (k : History) → k ≡ tidied_history g → IsLeastOver p h k

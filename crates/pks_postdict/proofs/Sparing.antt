@@ -14,6 +14,7 @@ use Rattle.pks_terms.specs.Views.{instance_of}
 use Rattle.pks_terms.proofs.OrderLaws.{literal_cmp_tells}
 use Rattle.pks_terms.proofs.SetLaws.{added_in}
 use Rattle.pks_laws.specs.OfSignature.{IsMomentOf}
+use Rattle.pks_laws.proofs.BelongingHistories.{rest_of_steps}
 use Rattle.pks_laws.proofs.ClosedAgain.{closed_saturated}
 use Rattle.pks_laws.proofs.Least.{in_left, in_right}
 use Rattle.pks_postdict.specs.declared.family.Held.{Held}
@@ -71,10 +72,6 @@ module _ (p : Problem) where
   first_of d [] = d
   first_of d (step ∷ steps) = step.1
 
-  abbrev others_of : List (Instance × Five) → List (Instance × Five)
-  others_of [] = []
-  others_of (step ∷ steps) = steps
-
   steps_after : (d e : Place) (xs ys : List Link) (news : List Literal) → IsGrowth d e → AreGrowths xs ys → held_of e.held ≡ grown p.signature (held_of d.held) (news ++ from_next p (held_of d.held) (links_of xs)) → links_of ys ≡ settled_steps p (held_of d.held) (links_of xs) → AreSpared p e ys
   steps_after d e [] [] news g a r l = alone_after d e (news ++ []) g r
   steps_after d e (x ∷ xs) (y ∷ ys) news g a r l =
@@ -83,7 +80,7 @@ module _ (p : Problem) where
       let given : List Literal = forward p (instance_of x.step) D in
       let own : List Literal = backward p (instance_of x.step) D X in
       let here : held_of y.place.held ≡ grown p.signature X (given ++ from_next p X (links_of xs)) = ap (first_of X) l in
-      let rest : links_of ys ≡ settled_steps p X (links_of xs) = ap others_of l in
+      let rest : links_of ys ≡ settled_steps p X (links_of xs) = ap rest_of_steps l in
       let onward : Within given (held_of y.place.held).kf = subst (λ (z : Five). Within given z.kf) (sym here) (λ k i. grown_news p.signature X (given ++ from_next p X (links_of xs)) k (in_left given (from_next p X (links_of xs)) k i)) in
       let back : Within own (held_of e.held).kf = subst (λ (z : Five). Within own z.kf) (sym r) (λ k i. grown_news p.signature D (news ++ own) k (in_right news own k i)) in (
         alone_after d e (news ++ own) g r,

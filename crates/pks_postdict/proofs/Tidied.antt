@@ -15,11 +15,7 @@ use Rattle.pks_terms.proofs.SetLaws.{ordered_set_of, in_set_of, set_of_in, same_
 use Rattle.pks_terms.proofs.Sequences.{each_in_sequence, in_sequence_twice}
 use Rattle.pks_laws.proofs.Least.{one_value}
 use Rattle.pks_laws.proofs.Belonging.{saturated_end, end_of}
-use Rattle.pks_laws.proofs.NormalMembers.{literal_again, term_again}
-
-map_fixed : {X : Type 0} (f : X → X) (xs : List X) → Each (λ x. f x ≡ x) xs → map f xs ≡ xs
-map_fixed f [] a = refl
-map_fixed f (x ∷ xs) a = λ i. a.0 i ∷ map_fixed f xs a.1 i
+use Rattle.pks_laws.proofs.NormalMembers.{map_fixed, literal_again, term_again}
 
 filter_fixed : {X : Type 0} (p : X → Bool) (xs : List X) → Each (λ x. p x ≡ true) xs → filter p xs ≡ xs
 filter_fixed p [] a = refl

@@ -13,6 +13,7 @@ use Rattle.pks_meaning.specs.Meaning.{is_before, least, scope_of}
 use Rattle.pks_meaning.specs.Leasts.{IsIn, IsLeast}
 use Rattle.pks_meaning.proofs.Least.{least_is, least_none}
 use Rattle.pks_domain.specs.FirstFault.{declarations_fault, meaning_fault}
+use Rattle.pks_accepted.proofs.Whole.{or_none}
 use Rattle.pks_reader.specs.Files.{faults_by_section, IsFirstOf}
 
 -- ---- there is one least fault
@@ -42,10 +43,6 @@ or_assoc (Some x) b c = refl
 or_nothing : {X : Type 0} (a : Option X) → or_else a None ≡ a
 or_nothing None = refl
 or_nothing (Some x) = refl
-
-or_none : {X : Type 0} (a b : Option X) → or_else a b ≡ None → (a ≡ None) × (b ≡ None)
-or_none None b e = (refl, e)
-or_none (Some x) b e = absurd (none-some x (sym e))
 
 -- the first of the least faults
 abbrev pub first_fault : List (List Fault) → Option Fault

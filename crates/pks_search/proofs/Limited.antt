@@ -12,7 +12,7 @@ use Rattle.pks_terms.specs.Trees.{Tree, Goal, Impossible, Do, Branch, Cases, Cha
 use Rattle.pks_terms.specs.Searching.{both_sides, one_more, ChainBefore}
 use Rattle.pks_laws.proofs.Unique.{acts_one, takes_one}
 use Rattle.pks_laws.proofs.BestTree.{before_do, before_branch, before_end, before_more, before_cases}
-use Rattle.pks_laws.proofs.Choosing.{best_stopped, best_goal}
+use Rattle.pks_laws.proofs.Choosing.{act_not_branch, act_not_cases, branch_not_act, branch_not_cases, cases_not_act, cases_not_branch, best_stopped, best_goal}
 use Rattle.pks_search.specs.Limits.{IsCheapWithin, IsBestWithin, IsCheapBy, IsBestAfter, IsBestTaking, AreCheapCases, AreBestCheapCases}
 
 module _ (p : Problem) where
@@ -43,24 +43,6 @@ module _ (p : Problem) where
   needs_depth h k (Cases x m) d = omega arith
 
   module _ (h : History) (n : ℕ) where
-    act_not_branch : (c : List Literal) (i : Instance) → Some (BranchOn c) ≡ Some (Act i) → ⊥
-    act_not_branch c i e = cc
-
-    act_not_cases : (x : Term) (i : Instance) → Some (CasesOn x) ≡ Some (Act i) → ⊥
-    act_not_cases x i e = cc
-
-    branch_not_act : (i : Instance) (c : List Literal) → Some (Act i) ≡ Some (BranchOn c) → ⊥
-    branch_not_act i c e = cc
-
-    branch_not_cases : (x : Term) (c : List Literal) → Some (CasesOn x) ≡ Some (BranchOn c) → ⊥
-    branch_not_cases x c e = cc
-
-    cases_not_act : (i : Instance) (x : Term) → Some (Act i) ≡ Some (CasesOn x) → ⊥
-    cases_not_act i x e = cc
-
-    cases_not_branch : (c : List Literal) (x : Term) → Some (BranchOn c) ≡ Some (CasesOn x) → ⊥
-    cases_not_branch c x e = cc
-
     -- ---- actions
 
     -- an action that costs more than the limit has no cheap tree

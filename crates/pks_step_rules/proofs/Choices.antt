@@ -8,15 +8,11 @@ use Rattle.std.proofs.Math.Seq.{take-set-lt}
 use Rattle.pks_set.proofs.Mapped.{map-filter}
 use Rattle.pks_terms.specs.Sets.{choices_from}
 use Rattle.pks_step_rules.specs.Choosing.{choices_after}
-use Rattle.pks_terms.proofs.ListLaws.{map-map, map_alike}
+use Rattle.pks_terms.proofs.ListLaws.{map-map, map_alike, flat_map_alike}
 
 map-flat_map : {X Y Z : Type 0} (f : Y → Z) (g : X → List Y) (xs : List X) → map f (flat_map g xs) ≡ flat_map (λ x. map f (g x)) xs
 map-flat_map f g [] = refl
 map-flat_map f g (x ∷ xs) = map-append f (g x) (flat_map g xs) ∙ ap (λ zs. map f (g x) ++ zs) (map-flat_map f g xs)
-
-flat_map_alike : {X Y : Type 0} (f g : X → List Y) → ((x : X) → f x ≡ g x) → (xs : List X) → flat_map f xs ≡ flat_map g xs
-flat_map_alike f g h [] = refl
-flat_map_alike f g h (x ∷ xs) = λ i. h x i ++ flat_map_alike f g h xs i
 
 module _ {X : Type 0} (forms : X → List X) where
   -- from the first place on

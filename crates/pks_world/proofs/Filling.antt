@@ -71,7 +71,7 @@ pub rows_only : (f n v : ℕ) (ds es : List ObjId) (old new : Kept) → Writes (
 rows_only f n v ds es old new w = λ g xs.
     ⊎_elim {C = (kept_at new (place g xs) ≡ kept_at old (place g xs)) ⊎ ((g ≡ f) × (kept_at new (place g xs) ≡ Some v))} (λ e. inl e) (λ e. inr (row_of f n ds es g xs e.0, e.1)) (split (is_in_rows f n ds es (place g xs)) v (kept_at old (place g xs)) (kept_at new (place g xs)) (w g xs))
 
-same_eq : (t u : Term) → t ≡ u → term_eq t u ≡ true
+pub same_eq : (t u : Term) → t ≡ u → term_eq t u ≡ true
 unfolding term_eq
 same_eq t u e = ap (λ x. is_eq (term_cmp t x)) (sym e) ∙ ap is_eq (tied_itself term_cmp_total t)
 
@@ -147,11 +147,6 @@ elsewhere_least s (d ∷ ds) (x ∷ xs) (suc f) e = elsewhere_least s ds xs f cc
 -- the shape of a function
 pub shape_at : (shapes : List DShape) (f : ℕ) (d : DShape) → f < length shapes → slice_get (map shape_of shapes) f ≡ Some (shape_of (get_or shapes f d))
 shape_at shapes f d h = slice_get-map shape_of shapes f ∙ ap (option_map shape_of) (slice_get-get_or shapes f d h)
-
--- what holds of each image holds of each element
-pub each_unmapped : {X Y : Type 0} (P : Y → Type 0) (f : X → Y) (xs : List X) → Each P (map f xs) → Each (λ x. P (f x)) xs
-each_unmapped P f [] a = tt
-each_unmapped P f (x ∷ xs) a = (a.0, each_unmapped P f xs a.1)
 
 pub each_second : {X : Type 0} (P Q R : X → Type 0) (xs : List X) → Each (λ x. P x × Q x × R x) xs → Each Q xs
 each_second P Q R [] a = tt

@@ -14,6 +14,7 @@ use Rattle.pks_terms.specs.Actions.{Sense, Instance, sense_at, instances_of, see
 use Rattle.pks_terms.specs.Problems.{Problem, schema_of}
 use Rattle.pks_terms.specs.Knowledge.{observations}
 use Rattle.pks_terms.specs.declared.schema.Sense as sense
+use Rattle.pks_terms.proofs.ListLaws.{flat_map_alike}
 use Rattle.pks_world.specs.Contents.{ground}
 use Rattle.pks_world.specs.Observed.{objects_in, range_at, slot_range, true_at, row, plane, grid}
 
@@ -28,10 +29,6 @@ flat-flat f g (x ∷ xs) = flat-append f (g x) (flat_map g xs) ∙ ap (λ zs. fl
 flat-mapped : {X Y Z : Type 0} (f : Y → List Z) (g : X → Y) (xs : List X) → flat_map f (map g xs) ≡ flat_map (λ x. f (g x)) xs
 flat-mapped f g [] = refl
 flat-mapped f g (x ∷ xs) = ap (λ zs. f (g x) ++ zs) (flat-mapped f g xs)
-
-flat_alike : {X Y : Type 0} (f g : X → List Y) → ((x : X) → f x ≡ g x) → (xs : List X) → flat_map f xs ≡ flat_map g xs
-flat_alike f g h [] = refl
-flat_alike f g h (x ∷ xs) = λ i. h x i ++ flat_alike f g h xs i
 
 -- the true ones of a list
 true_ones : (w : World) (p : ℕ) (dss : List (List ℕ)) → flat_map (true_at w p) dss ≡ map (ground p) (filter (w.truth p) dss)
@@ -53,7 +50,7 @@ module _ (s : Signature) (w : World) (p : ℕ) where
   from_more F a o tys ss =
       ap (flat_map F) (instances_more a o tys ss)
       ∙ flat-flat F (λ d. map (λ ds. d ∷ ds) (instances_of s w tys ss)) (range_at s w (Some a) (Some o))
-      ∙ flat_alike (λ d. flat_map F (map (λ ds. d ∷ ds) (instances_of s w tys ss))) (λ d. flat_map (λ ds. F (d ∷ ds)) (instances_of s w tys ss)) (λ d. flat-mapped F (λ ds. d ∷ ds) (instances_of s w tys ss)) (range_at s w (Some a) (Some o))
+      ∙ flat_map_alike (λ d. flat_map F (map (λ ds. d ∷ ds) (instances_of s w tys ss))) (λ d. flat_map (λ ds. F (d ∷ ds)) (instances_of s w tys ss)) (λ d. flat-mapped F (λ ds. d ∷ ds) (instances_of s w tys ss)) (range_at s w (Some a) (Some o))
 
   abbrev all_of : List ℕ → List (Option Term) → List Atom
   all_of tys ss = grid w p (length ss) (slot_range s w tys ss 0) (slot_range s w tys ss 1) (slot_range s w tys ss 2)
@@ -63,20 +60,20 @@ module _ (s : Signature) (w : World) (p : ℕ) where
   grid_is [] (o ∷ ss) e h = cc
   grid_is (a ∷ tys) [] e h = cc
   grid_is (a ∷ []) (o ∷ []) e h =
-      flat_alike (λ d. plane w p 1 d (0 ∷ []) (0 ∷ [])) (λ d. flat_map (λ ds. true_at w p (d ∷ ds)) (instances_of s w [] [])) (λ d. append-nil _) (range_at s w (Some a) (Some o)) ∙ sym (from_more (true_at w p) a o [] [])
+      flat_map_alike (λ d. plane w p 1 d (0 ∷ []) (0 ∷ [])) (λ d. flat_map (λ ds. true_at w p (d ∷ ds)) (instances_of s w [] [])) (λ d. append-nil _) (range_at s w (Some a) (Some o)) ∙ sym (from_more (true_at w p) a o [] [])
   grid_is (a ∷ []) (o ∷ q ∷ ss) e h = absurd (omega arith)
   grid_is (a ∷ b ∷ tys) (o ∷ []) e h = absurd (omega arith)
   grid_is (a ∷ b ∷ []) (o ∷ q ∷ []) e h =
-      flat_alike (λ d. plane w p 2 d (range_at s w (Some b) (Some q)) (0 ∷ [])) (λ d. flat_map (λ ds. true_at w p (d ∷ ds)) (instances_of s w (b ∷ []) (q ∷ [])))
+      flat_map_alike (λ d. plane w p 2 d (range_at s w (Some b) (Some q)) (0 ∷ [])) (λ d. flat_map (λ ds. true_at w p (d ∷ ds)) (instances_of s w (b ∷ []) (q ∷ [])))
       (λ d. sym (from_more (λ ds. true_at w p (d ∷ ds)) b q [] [])) (range_at s w (Some a) (Some o)) ∙ sym (from_more (true_at w p) a o (b ∷ []) (q ∷ []))
   grid_is (a ∷ b ∷ []) (o ∷ q ∷ r ∷ ss) e h = absurd (omega arith)
   grid_is (a ∷ b ∷ c ∷ tys) (o ∷ q ∷ []) e h = absurd (omega arith)
   grid_is (a ∷ b ∷ c ∷ []) (o ∷ q ∷ r ∷ []) e h =
-      flat_alike (λ d. plane w p 3 d (range_at s w (Some b) (Some q)) (range_at s w (Some c) (Some r))) (λ d. flat_map (λ ds. true_at w p (d ∷ ds)) (instances_of s w (b ∷ c ∷ []) (q ∷ r ∷ [])))
+      flat_map_alike (λ d. plane w p 3 d (range_at s w (Some b) (Some q)) (range_at s w (Some c) (Some r))) (λ d. flat_map (λ ds. true_at w p (d ∷ ds)) (instances_of s w (b ∷ c ∷ []) (q ∷ r ∷ [])))
       (λ d.
-      flat_alike (λ e. row w p 3 d e (range_at s w (Some c) (Some r))) (λ e. flat_map (λ ds. true_at w p (d ∷ e ∷ ds)) (instances_of s w (c ∷ []) (r ∷ [])))
+      flat_map_alike (λ e. row w p 3 d e (range_at s w (Some c) (Some r))) (λ e. flat_map (λ ds. true_at w p (d ∷ e ∷ ds)) (instances_of s w (c ∷ []) (r ∷ [])))
       (λ e.
-      flat_alike (λ f. true_at w p (d ∷ e ∷ f ∷ [])) (λ f. flat_map (λ ds. true_at w p (d ∷ e ∷ f ∷ ds)) (instances_of s w [] [])) (λ f. sym (append-nil _)) (range_at s w (Some c) (Some r))
+      flat_map_alike (λ f. true_at w p (d ∷ e ∷ f ∷ [])) (λ f. flat_map (λ ds. true_at w p (d ∷ e ∷ f ∷ ds)) (instances_of s w [] [])) (λ f. sym (append-nil _)) (range_at s w (Some c) (Some r))
       ∙ sym (from_more (λ ds. true_at w p (d ∷ e ∷ ds)) c r [] []))
       (range_at s w (Some b) (Some q))
       ∙ sym (from_more (λ ds. true_at w p (d ∷ ds)) b q (c ∷ []) (r ∷ []))) (range_at s w (Some a) (Some o)) ∙ sym (from_more (true_at w p) a o (b ∷ c ∷ []) (q ∷ r ∷ []))

@@ -1,5 +1,5 @@
 -- What one target writes.
-use Rattle.std.proofs.Common.{◌≡◌, ◌&&◌, ◌==◌, ℕ, Bool, true, false, cond, List, [], ◌∷◌, map, Some, None, refl, sym, ap, ◌∙◌, subst}
+use Rattle.std.proofs.Common.{◌≡◌, ◌&&◌, ◌==◌, ℕ, Bool, true, false, cond, List, [], ◌∷◌, map, Some, None, refl, ap, ◌∙◌, subst}
 use Rattle.std.specs.Option.{unwrap_or}
 use Rattle.std.specs.Ordering.{is_eq}
 use Rattle.std.proofs.lemmas.Cmp.{tied_itself}
@@ -10,16 +10,13 @@ use Rattle.pks_terms.specs.Totality.{atom_cmp_total, term_cmp_total}
 use Rattle.pks_terms.specs.Worlds.{World, inner_value, value_of}
 use Rattle.pks_terms.specs.Databases.{same_objects}
 use Rattle.pks_terms.specs.Actions.{Set, Unset, Assign}
+use Rattle.pks_terms.proofs.Types.{both_ways}
 use Rattle.pks_terms.proofs.OrderLaws.{same_term}
-use Rattle.pks_laws.proofs.Holding.{same_objects_itself, same_objects_same}
+use Rattle.pks_laws.proofs.Values.{same_objects_same}
+use Rattle.pks_laws.proofs.Holding.{same_objects_itself}
 use Rattle.pks_world.specs.Contents.{ground, atom_eq, with_truth, with_value}
 use Rattle.pks_world.specs.Applied.{written_to}
 use Rattle.pks_world.proofs.Typing.{same_atom}
-
-both : (a b : Bool) → (a ≡ true → b ≡ true) → (b ≡ true → a ≡ true) → a ≡ b
-both true b f g = sym (f refl)
-both false true f g = g refl
-both false false f g = refl
 
 number_in : Form ℕ → ℕ
 number_in (Object d) = d
@@ -34,7 +31,7 @@ same_lifted {A} (d ∷ ds) (x ∷ es) e = let h : d ≡ x = cc in let t : ◌≡
 
 -- equal atoms at objects have the same predicate and the same objects
 ground_eq : (q p : ℕ) (es ds : List ℕ) → atom_eq (ground q es) (ground p ds) ≡ ((q == p) && same_objects es ds)
-ground_eq q p es ds = both _ _
+ground_eq q p es ds = both_ways _ _
     (λ h. let e = same_atom (ground q es) (ground p ds) h in
     and_from (q == p) (same_objects es ds) (eq-eqb q p (ap (λ (a : Atom). a.predicate) e)) (same_objects_itself es ds (same_lifted es ds (ap (λ (a : Atom). a.arguments) e))))
     (λ h. let k = and_parts (q == p) (same_objects es ds) h in
@@ -44,7 +41,7 @@ ground_eq q p es ds = both _ _
 -- and so for places
 place_eq : (g f : ℕ) (es ds : List ℕ) → term_eq (place g es) (place f ds) ≡ ((g == f) && same_objects es ds)
 unfolding term_eq
-place_eq g f es ds = both _ _
+place_eq g f es ds = both_ways _ _
     (λ h. let e = same_term (place g es) (place f ds) h in
     and_from (g == f) (same_objects es ds) (eq-eqb g f (ap number_of e)) (same_objects_itself es ds (same_lifted es ds (ap arguments_of e))))
     (λ h. let k = and_parts (g == f) (same_objects es ds) h in

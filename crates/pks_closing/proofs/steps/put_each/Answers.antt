@@ -4,7 +4,7 @@ use Rattle.std.proofs.Math.Seq.{take-set-lt}
 use Rattle.pks_terms.specs.declared.term.Term.TheVariants.{Obj}
 use Rattle.pks_terms.specs.Sets.{Each}
 use Rattle.pks_terms.specs.Views.{term_of}
-use Rattle.pks_closing.proofs.Lists.{each_push}
+use Rattle.pks_normal.proofs.Lists.{each_push}
 use Rattle.pks_closing.proofs.steps.put_each.Goals as goal
 
 pub loop-t-preserved : goal.loop-t-preserved

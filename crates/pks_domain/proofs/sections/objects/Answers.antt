@@ -2,11 +2,11 @@ use Rattle.std.proofs.Common.{◌≡◌, ◌-◌, ◌∙◌, ap, sym, ℕ, [], l
 use Rattle.pks_text.specs.Forms.{Forms}
 use Rattle.pks_text.specs.FormViews.{form_view, forms_view}
 use Rattle.pks_grammar.specs.Walk.{count}
+use Rattle.pks_grammar.proofs.Counts.{count_view}
 use Rattle.pks_meaning.specs.Parts.{behind_head}
 use Rattle.pks_meaning.specs.Declarations.{objects_from, objects_faults}
 use Rattle.pks_meaning.specs.Meaning.{all_noted}
 use Rattle.pks_meaning.specs.Views.{found_of, names_of}
-use Rattle.pks_meaning.proofs.FormLists.{count_view}
 use Rattle.pks_domain.proofs.Steps.{objects_noted, objects_declared}
 use Rattle.pks_domain.proofs.sections.objects.Goals as goal
 

@@ -2,7 +2,7 @@ use Rattle.std.proofs.Common.{◌≡◌, ◌+◌, ◌++◌, [], ◌∷◌, true,
 use Rattle.pks_terms.specs.Sets.{Each}
 use Rattle.pks_terms.specs.Views.{instance_of}
 use Rattle.pks_normal.specs.Fives.{five_of}
-use Rattle.pks_closing.proofs.Lists.{each_push}
+use Rattle.pks_normal.proofs.Lists.{each_push}
 use Rattle.pks_postdict.specs.declared.family.Link.{Link}
 use Rattle.pks_postdict.specs.Families.{held_of, links_of}
 use Rattle.pks_postdict.proofs.Reading.{taken_more, there_later}

@@ -1,8 +1,8 @@
 use Rattle.std.proofs.Common.{◌≡◌, length, rules}
 use Rattle.pks_terms.specs.Databases.{normal}
 use Rattle.pks_terms.specs.Views.{term_of}
+use Rattle.pks_terms.proofs.Fronts.{mapped_three}
 use Rattle.pks_kf.specs.Known.{literals_of}
-use Rattle.pks_normal.proofs.Lists.{mapped_three}
 use Rattle.pks_normal.proofs.normals.Normals.normal_arguments.Goals as goal
 
 pub returns-clause-terms : goal.returns-clause-terms

@@ -1,8 +1,8 @@
 use Rattle.std.proofs.Common.{◌≡◌, length, rules}
 use Rattle.pks_terms.specs.Databases.{inner_normal}
 use Rattle.pks_terms.specs.Views.{inner_of}
+use Rattle.pks_terms.proofs.Fronts.{mapped_two}
 use Rattle.pks_kf.specs.Known.{literals_of}
-use Rattle.pks_normal.proofs.Lists.{mapped_two}
 use Rattle.pks_normal.proofs.normals.Normals.normal_inners.Goals as goal
 
 pub returns : goal.returns

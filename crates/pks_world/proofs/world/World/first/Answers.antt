@@ -5,7 +5,8 @@ use Rattle.pks_terms.specs.Sets.{Each}
 use Rattle.pks_terms.specs.Signatures.{Shape}
 use Rattle.pks_terms.specs.Meaning.{IsWorld}
 use Rattle.pks_terms.specs.Views.{shape_of, signature_of}
-use Rattle.pks_world.proofs.Filling.{each_unmapped, each_second, elsewhere_least, first_is, first_typed, all_places}
+use Rattle.pks_terms.proofs.ListLaws.{each_unmapped}
+use Rattle.pks_world.proofs.Filling.{each_second, elsewhere_least, first_is, first_typed, all_places}
 use Rattle.pks_world.proofs.world.World.first.Goals as goal
 
 pub returns-clause-world : goal.returns-clause-world
