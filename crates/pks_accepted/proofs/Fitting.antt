@@ -6,7 +6,7 @@ use Rattle.std.proofs.lemmas.Bool.{true≢false, and_from, eqb-true}
 use Rattle.std.proofs.lemmas.Slice.Eq.{bytes_eq-Decides}
 use Rattle.std.proofs.lemmas.Bool.Decides.{nat_tests}
 use Rattle.pks_terms.specs.Sets.{Each}
-use Rattle.pks_terms.specs.Syntax.{Object, Parameter, Apply, Inner, Term}
+use Rattle.pks_terms.specs.Syntax.{Object, Parameter, Apply, Term}
 use Rattle.pks_terms.specs.Syntax as syntax
 use Rattle.pks_terms.specs.Signatures.{Shape, fits_type, object_is_of}
 use Rattle.pks_terms.specs.Valid.{all_fit, form_fits, inner_fits, term_fits, type_in, is_term}

@@ -1,8 +1,6 @@
 -- The best plan of a problem whose adds all have a case is good.
 use Rattle.std.proofs.Common.{◌≡◌, ℕ, [], Some, subst}
-use Rattle.pks_terms.specs.Databases.{Five}
-use Rattle.pks_terms.specs.Worlds.{World}
-use Rattle.pks_terms.specs.Closure.{Outcome, Next, Closes}
+use Rattle.pks_terms.specs.Closure.{Outcome, Next}
 use Rattle.pks_terms.specs.Problems.{Problem, initial}
 use Rattle.pks_terms.specs.Trees.{Tree, Derives, start_state, IsBest}
 use Rattle.pks_terms.specs.Valid.{IsValid}

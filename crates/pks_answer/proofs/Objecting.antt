@@ -5,12 +5,11 @@ use Rattle.pks_terms.specs.Syntax.{Literal}
 use Rattle.pks_terms.specs.Closure.{Next, Clash}
 use Rattle.pks_terms.specs.Problems.{Problem, initial}
 use Rattle.pks_terms.specs.Jobs.{Job, Check, Plan, Exec, Bench}
-use Rattle.pks_terms.specs.Printed.{Refusal}
 use Rattle.pks_terms.specs.Answers.{Stated, NoWorld, BadWorld, GivenWorld, File, refusal, unjustified, RefusesAdd, RefusesStart, RefusesWorld, RefusesRun, RefusesFor, NoneApplies, RefusesFile}
 use Rattle.pks_laws.proofs.Unique.{closes_one}
 use Rattle.pks_answer.specs.declared.accept.Objection.{Objection}
 use Rattle.pks_answer.specs.declared.accept.Objection.TheVariants as why_is
-use Rattle.pks_answer.specs.Objections.{place_of, IsAdd, IsClash, IsFault, IsBroken, Breaks, IsFaultless, IsWhole, IsFit, Begins, IsFalseStart, IsObjection, Accepts, refusal_for}
+use Rattle.pks_answer.specs.Objections.{place_of, IsAdd, IsClash, IsFault, IsBroken, Breaks, IsFaultless, IsWhole, IsFit, Begins, IsObjection, Accepts, refusal_for}
 
 -- ---- what doesn't apply
 

@@ -1,10 +1,10 @@
 -- From the best plan, as a text, to the reply.
-use Rattle.std.proofs.Common.{◌≡◌, ◌≤◌, ◌<◌, ◌^◌, ℕ, Some, refl, ◌∙◌, subst, arith}
+use Rattle.std.proofs.Common.{◌≡◌, ◌≤◌, ◌<◌, ◌^◌, ℕ, Some, refl, arith}
 use Rattle.pks_terms.specs.Worlds.{World}
 use Rattle.pks_terms.specs.Problems.{Problem}
 use Rattle.pks_terms.specs.Trees.{Tree, depth, start_state, IsBest}
 use Rattle.pks_terms.specs.Knowledge.{run_of}
-use Rattle.pks_terms.specs.Jobs.{Job, Check, Plan, Exec, Bench}
+use Rattle.pks_terms.specs.Jobs.{Plan, Exec, Bench}
 use Rattle.pks_terms.specs.Printed.{Text, nodes_of, tree_text, run_text, bench_text}
 use Rattle.pks_terms.specs.Answers.{Stated, NoWorld, BadWorld, GivenWorld, File, RefusesFile, NoneApplies}
 use Rattle.pks_bench.proofs.Sizes.{plans_small}

@@ -9,7 +9,8 @@ ghost use Rattle.pks_answer.specs.Objections.{place_of, place_for, code_of, rest
 use crate::accept::Objection;
 use pks_file::{InputFile, add_place, init_place, problem_place, world_place};
 use pks_justify::Unjustified;
-use pks_terms::ids::{ActId, ItemNo};
+use pks_plan::names::action_name;
+use pks_terms::ids::ItemNo;
 use pks_terms::problem::Problem;
 use std::alloc::{AllocError, Global};
 
@@ -31,16 +32,6 @@ pub fn refusal_line(alloc: Global, at: Place, code: u16, rest: &str) -> Result<V
     let column = at.column;
     let text = format!(in alloc; "refused {line}:{column} {code}{rest}\n")?;
     Ok(text.into_bytes())
-}
-
-/// The name of an action, or no text where it isn't declared.
-fn action_name<'s>(p: &Problem<'s>, action: ActId) -> &'s str
-    ensures { result.now ≡ name_in (names_of p.now).actions action.0 }
-{
-    match p.schemas.as_slice().get(usize::from(action.0)) {
-        Some(schema) => schema.name,
-        None => "",
-    }
 }
 
 /// What a refusal says of an add: its action, and its number in the action.

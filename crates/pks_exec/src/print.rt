@@ -9,6 +9,7 @@ ghost use Rattle.pks_world.specs.Observed.{objects_in, seen_of};
 ghost use Rattle.pks_exec.specs.Runs.{argument_of, ending_of, event_of};
 
 use crate::run::{End, Event, Run};
+use pks_plan::names::action_name;
 use pks_plan::text::{print_conj, print_literal, print_pattern, print_term};
 use pks_terms::ids::{ActId, ObjId, PredId};
 use pks_terms::literal::{Atom, Conj, Literal, PredAtom};
@@ -23,16 +24,6 @@ fn put(out: &mut Vec<u8>, bytes: &[u8]) -> Result<(), AllocError>
 {
     out.extend_from_slice(bytes)?;
     Ok(())
-}
-
-/// The name of an action, or no text where it isn't declared.
-fn action_name<'s>(p: &Problem<'s>, act: ActId) -> &'s str
-    ensures { result.now ≡ name_in (names_of p.now).actions act.0 }
-{
-    match p.schemas.as_slice().get(usize::from(act.0)) {
-        Some(schema) => schema.name,
-        None => "",
-    }
 }
 
 /// A truth value.

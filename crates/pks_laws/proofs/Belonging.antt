@@ -1,5 +1,5 @@
 -- Closing makes databases of a signature of databases of it, where they don't clash.
-use Rattle.std.proofs.Common.{◌≡◌, ◌&&◌, ℕ, zero, suc, Bool, true, false, cond, List, [], ◌∷◌, ◌++◌, map, filter, slice_get, Option, Some, None, option_map, flat_map, Less, Equal, Greater, refl, sym, ap, subst, inl, inr, true≢false}
+use Rattle.std.proofs.Common.{◌≡◌, ◌&&◌, ℕ, zero, suc, Bool, true, false, cond, List, [], ◌∷◌, ◌++◌, map, filter, slice_get, Option, Some, None, option_map, flat_map, refl, sym, ap, subst, inl, inr, true≢false}
 use Rattle.std.specs.List.{list_all}
 use Rattle.std.specs.Option.{option_map_or}
 use Rattle.std.proofs.lemmas.Bool.{and_parts, and_from}
@@ -9,7 +9,7 @@ use Rattle.pks_terms.specs.Orders.{term_cmp, literal_cmp, conj_cmp, atom_cmp, li
 use Rattle.pks_terms.specs.Totality.{literal_cmp_total}
 use Rattle.pks_terms.specs.Signatures.{Shape, Signature, HasValues, objects_of, range_of, fits_type}
 use Rattle.pks_terms.specs.Databases.{Entry, entry_cmp, Five, normal, normal_literal, holds}
-use Rattle.pks_terms.specs.Closure.{term_steps, by_value, by_member, by_group, is_application, applications_in, is_last_left, by_range, additions, round, rounds, in_sequence, normal_conj, normal_group, normal_atom, normal_pattern, normal_entry, tidied, Outcome, Next, Clash, first_clash, Closes}
+use Rattle.pks_terms.specs.Closure.{term_steps, by_value, by_member, by_group, is_application, applications_in, is_last_left, by_range, additions, round, rounds, normal_conj, normal_group, normal_atom, normal_pattern, normal_entry, tidied, Outcome, Next, Clash, first_clash, Closes}
 use Rattle.pks_terms.specs.Saturated.{Within, IsSaturated}
 use Rattle.pks_terms.specs.Valid.{all_fit, inner_fits, term_fits, is_term, is_related, is_literal, is_atom, is_pattern, AreOf}
 use Rattle.pks_terms.proofs.ListLaws.{each_append, each_in, each_map, each_filter, each_kept, each_flat_map, each_added, each_set_of, each_weaker}

@@ -9,7 +9,7 @@ use Rattle.pks_terms.specs.Orders.{literal_cmp, literal, equation}
 use Rattle.pks_terms.specs.Totality.{literal_cmp_total}
 use Rattle.pks_terms.specs.Signatures.{Shape, Signature, fits_type}
 use Rattle.pks_terms.specs.Databases.{Five, values_at, holds}
-use Rattle.pks_terms.specs.Closure.{additions, round, first_clash, tidied, Outcome, Next, Clash, Closes, IsClosed}
+use Rattle.pks_terms.specs.Closure.{additions, round, first_clash, tidied, Next, Clash, IsClosed}
 use Rattle.pks_terms.specs.Actions.{Target, Set, Unset, Clear, Assign, Effect, Instance}
 use Rattle.pks_terms.specs.Spoiling.{is_stable, are_stable, spoils}
 use Rattle.pks_terms.specs.Problems.{Problem, schema_of}

@@ -20,7 +20,7 @@ use Rattle.pks_terms.specs.Spoiling.{is_stable, are_stable}
 use Rattle.pks_terms.specs.Justified.{J3, J4, J5, J6, J7, asks_whether, asks_value, is_given_whether, is_given_value, is_given_either_way, is_given, are_given, is_plain_term, senses_all, senses_whether, senses_value, given_of, alone_case, whether_case, item_case, case_of, is_empty_list, is_unconditional, is_place, value_assigned, is_plain_value, assigns_known, is_target_on, is_about, single, is_decided_by, decides}
 use Rattle.pks_terms.specs.Typed.{AreJustified}
 use Rattle.pks_terms.specs.Branching.{is_allowed}
-use Rattle.pks_terms.specs.Progress.{parameters_in, conj_parameters, arguments_stable, place_at, has_stable_arguments, is_sensed, added_formula, added_value, formulas_added, values_added, regions_added, literals_added, is_applied_in, progressed}
+use Rattle.pks_terms.specs.Progress.{parameters_in, conj_parameters, arguments_stable, place_at, has_stable_arguments, added_formula, added_value, formulas_added, values_added, regions_added, literals_added, is_applied_in, progressed}
 use Rattle.pks_terms.proofs.ListLaws.{each_added, each_set_of, each_in, each_filter, each_flat_map, each_from_all, found, found_in, map-map, and_true, all_same}
 use Rattle.pks_terms.proofs.OrderLaws.{same_term, same_literal, literal_cmp_tells}
 use Rattle.pks_laws.proofs.Values.{values-normal}

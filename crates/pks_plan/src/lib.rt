@@ -5,7 +5,7 @@ pub mod body;
 mod bytes;
 pub mod laws;
 mod lines;
-mod names;
+pub mod names;
 pub mod order;
 mod parts;
 #[cfg(test)]

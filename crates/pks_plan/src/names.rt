@@ -1,4 +1,4 @@
-//! The names by their numbers.
+//! Names by their numbers. `docs/FORMAT.md` says where they are printed.
 
 ghost use Rattle.std.specs.Prelude.{◌≡◌};
 ghost use Rattle.pks_terms.specs.Printed.{name_in};
@@ -37,8 +37,8 @@ pub(crate) fn function_name<'s>(p: &Problem<'s>, fun: FnId) -> &'s str
     }
 }
 
-/// The name of an action, or no text where it isn't declared.
-pub(crate) fn action_name<'s>(p: &Problem<'s>, act: ActId) -> &'s str
+/// The name of an action, or no text where it isn't declared. It takes no memory.
+pub fn action_name<'s>(p: &Problem<'s>, act: ActId) -> &'s str
     ensures { result.now ≡ name_in (names_of p.now).actions act.0 }
 {
     match p.schemas.as_slice().get(usize::from(act.0)) {

@@ -1,15 +1,15 @@
 -- Databases in normal form stay as they are when they are put in it again.
-use Rattle.std.proofs.Common.{◌≡◌, ◌⊎◌, ℕ, Bool, true, cond, List, [], ◌∷◌, ◌++◌, map, filter, Option, Some, None, option_map, Ordering, Less, Equal, Greater, append-nil, append_assoc, refl, sym, ap, ◌∙◌, subst, inl, inr, ⊎_elim}
+use Rattle.std.proofs.Common.{◌≡◌, ℕ, Bool, true, cond, List, [], ◌∷◌, map, filter, Option, Some, None, option_map, Ordering, refl, sym, ap, ◌∙◌}
 use Rattle.std.specs.Cmp.{IsTotalOrder}
 use Rattle.std.specs.FinMap.{IsAntisymmetric}
 use Rattle.pks_terms.specs.Sets.{Each, IsIn, set_of}
 use Rattle.pks_terms.specs.Syntax.{Term, Literal, Atom, Pattern}
-use Rattle.pks_terms.specs.Orders.{term_cmp, literal_cmp, conj_cmp, atom_cmp}
+use Rattle.pks_terms.specs.Orders.{term_cmp}
 use Rattle.pks_terms.specs.Totality.{term_cmp_total, literal_cmp_total, conj_cmp_total, atom_cmp_total, entry_cmp_total}
 use Rattle.pks_terms.specs.Signatures.{Signature, HasValues}
-use Rattle.pks_terms.specs.Databases.{Entry, entry_cmp, Five, values_at, normal, normal_literal}
+use Rattle.pks_terms.specs.Databases.{Entry, Five, values_at, normal, normal_literal}
 use Rattle.pks_terms.specs.Closure.{is_application, rounds, in_sequence, normal_conj, normal_group, normal_atom, normal_pattern, normal_entry, tidied, IsClosed}
-use Rattle.pks_terms.proofs.ListLaws.{each_of, each_map, each_kept, each_weaker, each_set_of, each_in, in_filtered}
+use Rattle.pks_terms.proofs.ListLaws.{each_of, each_map, each_kept, each_set_of, in_filtered}
 use Rattle.pks_terms.proofs.OrderLaws.{term_cmp_tells, literal_cmp_tells, conj_cmp_tells, atom_cmp_tells, entry_cmp_tells}
 use Rattle.pks_terms.proofs.SetLaws.{ordered_set_of, in_set_of, set_of_in, same_members}
 use Rattle.pks_terms.proofs.Sequences.{each_in_sequence, in_sequence_twice}

@@ -3,7 +3,7 @@ use Rattle.std.proofs.Common.{◌≡◌, ◌⊎◌, inl, inr, ℕ, List, refl, s
 use Rattle.pks_terms.specs.Printed.{Text, none_text, refusal_text}
 use Rattle.pks_run.specs.Answer.{IsAnswer, IsWhole, IsCutShort, IsExactly, HasNoPlan, IsRefused}
 use Rattle.pks_run.specs.declared.status.Status.{Status}
-use Rattle.pks_run.specs.declared.status.Status.TheVariants.{NoPlan, Refused, ReadFault, WriteFault, Memory}
+use Rattle.pks_run.specs.declared.status.Status.TheVariants.{NoPlan, Refused, WriteFault}
 
 has_no_plan : (words : List Text) (input text : Text) → IsAnswer words input NoPlan text → HasNoPlan words input
 has_no_plan words input text (j, asks, (f, accepted, (n, depth, best, e))) = (j, asks, (f, accepted, (n, depth, best)))

@@ -1,5 +1,5 @@
 -- An input reads in one way, by what reading it gave.
-use Rattle.std.proofs.Common.{◌≡◌, ◌<◌, ◌≤◌, ℕ, [], ◌∷◌, length, Option, Some, None, IfSome, refl, sym, ap, ◌∙◌, subst, arith}
+use Rattle.std.proofs.Common.{◌≡◌, ◌<◌, ℕ, [], ◌∷◌, length, Option, Some, None, IfSome, refl, ap, ◌∙◌, arith}
 use Rattle.pks_terms.specs.Printed.{Text}
 use Rattle.pks_text.specs.Lines.{line_column_of}
 use Rattle.pks_terms.specs.Answers.{Place, Reading, ReadAs, Faulty, File}
@@ -8,7 +8,7 @@ use Rattle.pks_run.specs.Answer.{IsWhole}
 use Rattle.pks_run.specs.Replied.{IsReplied}
 use Rattle.pks_run.specs.declared.status.Status.{Status}
 use Rattle.pks_run.specs.declared.status.Status.TheVariants as status_is
-use Rattle.pks_file.specs.Inputs.{line_and_column, first_high, IsFaulty, too_long, too_high, refused, IsRead, Reads}
+use Rattle.pks_file.specs.Inputs.{line_and_column, IsFaulty, too_long, too_high, refused, IsRead, Reads}
 
 -- as this file alone
 pub one_file : (input : Text) (f : File) → ((g : File) → IsRead input g → g ≡ f) → ((fault : Fault) → IsFaulty input fault → ⊥) → (x : Reading) → Reads input x → x ≡ ReadAs f

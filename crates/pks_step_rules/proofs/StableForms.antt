@@ -1,6 +1,6 @@
 -- The stable forms of targets.
 use Rattle.std.proofs.Common.{◌≡◌, ℕ, List, map, filter, flat_map, sym, ◌∙◌}
-use Rattle.pks_terms.specs.Syntax.{Apply, Inner, Term, Literal, term_of}
+use Rattle.pks_terms.specs.Syntax.{Apply, Inner, Term, term_of}
 use Rattle.pks_terms.specs.Orders.{equation}
 use Rattle.pks_terms.specs.Signatures.{Signature}
 use Rattle.pks_terms.specs.Databases.{Five}

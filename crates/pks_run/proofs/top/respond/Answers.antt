@@ -1,13 +1,12 @@
-use Rattle.std.proofs.Common.{map, string_bytes, Err, ap, subst, sym}
+use Rattle.std.proofs.Common.{map, string_bytes, subst}
 use Rattle.std.proofs.lemmas.Option.{IfSome_then}
 use Rattle.std.proofs.lemmas.Result.{IfOk-weaker}
 use Rattle.pks_words.specs.JobViews.{job_of}
 use Rattle.pks_terms.specs.Jobs.{Job}
 use Rattle.pks_run.specs.Answer.{IsBench}
 use Rattle.pks_run.specs.Replied.{IsReplied}
-use Rattle.pks_run.specs.declared.status.Status.TheVariants.{Words}
-use Rattle.pks_run.proofs.Reading.{of_any, replied_whole}
-use Rattle.pks_run.proofs.Replying.{asked_in_bounds, usage_answers, one_usage}
+use Rattle.pks_run.proofs.Reading.{replied_whole}
+use Rattle.pks_run.proofs.Replying.{asked_in_bounds}
 use Rattle.pks_run.proofs.top.respond.Goals as goal
 
 pub returns-in-Ok-clause-answer : goal.returns-in-Ok-clause-answer

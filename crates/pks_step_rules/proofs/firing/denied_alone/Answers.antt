@@ -1,4 +1,4 @@
-use Rattle.std.proofs.Common.{◌≡◌, ◌+◌, [], false, append_assoc}
+use Rattle.std.proofs.Common.{◌+◌, [], false, append_assoc}
 use Rattle.std.proofs.lemmas.List.{take_rest}
 use Rattle.pks_terms.specs.declared.literal.Atom.TheVariants.{Pred}
 use Rattle.pks_terms.specs.Views.{literal_of, literals_in}

@@ -1,4 +1,4 @@
-use Rattle.std.proofs.Common.{◌≡◌, ◌+◌, [], append_assoc}
+use Rattle.std.proofs.Common.{◌+◌, [], append_assoc}
 use Rattle.std.proofs.lemmas.List.{take_rest}
 use Rattle.pks_terms.specs.declared.schema.Target.TheVariants.{Set}
 use Rattle.pks_step_rules.specs.Changes.{some_effects}

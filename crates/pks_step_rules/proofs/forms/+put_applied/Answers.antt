@@ -1,12 +1,11 @@
-use Rattle.std.proofs.Common.{List, ◌≡◌, ◌∙◌, ◌∷◌, ◌++◌, ◌+◌, ◌<◌, map, ap, sym, drop, length, flat_map, slice_index_or, slice_set, append_assoc, rules, arith}
+use Rattle.std.proofs.Common.{List, ◌≡◌, ◌∷◌, ◌<◌, map, length, slice_index_or, append_assoc, rules, arith}
 use Rattle.std.proofs.lemmas.List.{map-append, drop_more}
 use Rattle.pks_terms.specs.declared.term.Inner.TheVariants.{Obj}
 use Rattle.pks_terms.specs.Syntax.{Object, Inner}
 use Rattle.pks_terms.specs.Settling.{inner_forms}
-use Rattle.pks_terms.specs.Views.{object_of, inner_of, terms_of}
+use Rattle.pks_terms.specs.Views.{object_of, inner_of}
 use Rattle.pks_kf.specs.Known.{literals_of}
 use Rattle.pks_normal.specs.Reading.{first_inners}
-use Rattle.pks_step_rules.specs.Choosing.{choices_after}
 use Rattle.pks_step_rules.proofs.Choices.{choices_own, front_within, front_at, front_set}
 use Rattle.pks_step_rules.proofs.forms.+put_applied.Goals as goal
 

@@ -1,4 +1,4 @@
-use Rattle.std.proofs.Common.{◌≡◌, ◌++◌, [], ap, map}
+use Rattle.std.proofs.Common.{◌≡◌, [], ap}
 use Rattle.pks_terms.specs.Settling.{inner_forms}
 use Rattle.pks_terms.specs.Views.{terms_of}
 use Rattle.pks_kf.specs.Known.{literals_of}

@@ -1,4 +1,4 @@
-use Rattle.std.proofs.Common.{◌≡◌, ◌∙◌, ◌++◌, [], ap, map}
+use Rattle.std.proofs.Common.{◌≡◌, ◌∙◌, [], ap, map}
 use Rattle.std.proofs.lemmas.List.Folds.{flat_map-map}
 use Rattle.pks_terms.specs.Syntax.{Apply}
 use Rattle.pks_terms.specs.Settling.{argument_forms}

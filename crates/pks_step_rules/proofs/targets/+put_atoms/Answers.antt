@@ -1,4 +1,4 @@
-use Rattle.std.proofs.Common.{◌≡◌, ◌∙◌, ◌++◌, ◌+◌, ◌<◌, List, ap, sym, map, take, length, flat_map, slice_index_or, slice_set, append_assoc, rules, arith}
+use Rattle.std.proofs.Common.{◌≡◌, ◌∙◌, ◌+◌, ◌<◌, List, ap, sym, take, length, flat_map, slice_index_or, slice_set, append_assoc, rules, arith}
 use Rattle.std.proofs.lemmas.List.{map-append, drop_more}
 use Rattle.pks_terms.specs.declared.term.Term.TheVariants.{Obj}
 use Rattle.pks_terms.specs.Syntax.{Term}

@@ -1,4 +1,4 @@
-use Rattle.std.proofs.Common.{◌≡◌, ◌∙◌, ◌++◌, ap, List, map, take}
+use Rattle.std.proofs.Common.{◌∙◌, ◌++◌, ap, List, map, take}
 use Rattle.pks_terms.specs.Syntax.{Named, Term}
 use Rattle.pks_terms.specs.Orders.{literal}
 use Rattle.pks_terms.specs.Views.{terms_of, literals_in}

@@ -1,4 +1,4 @@
-use Rattle.std.proofs.Common.{◌≡◌, ◌∙◌, ◌++◌, ap, map, true, false}
+use Rattle.std.proofs.Common.{◌∙◌, ◌++◌, ap, map, true, false}
 use Rattle.pks_terms.specs.Syntax.{Named, Atom}
 use Rattle.pks_terms.specs.Orders.{literal}
 use Rattle.pks_terms.specs.Settling.{stable_forms}

@@ -10,7 +10,7 @@ use Rattle.pks_terms.proofs.ListLaws.{each_weaker}
 use Rattle.pks_laws.specs.OfSignature.{IsMomentOf}
 use Rattle.pks_laws.proofs.SearchStates.{with_last_of}
 use Rattle.pks_normal.specs.Fives.{five_of}
-use Rattle.pks_postdict.specs.Families.{held_of, links_of}
+use Rattle.pks_postdict.specs.Families.{held_of}
 use Rattle.pks_postdict.specs.Growing.{AreSpared}
 use Rattle.pks_postdict.proofs.Sparing.{fresh_spared, moment_saturated}
 use Rattle.pks_postdict.proofs.family.Family.of.Goals as goal
