@@ -1,7 +1,7 @@
 // Which later effect may undo an earlier one.
 ghost use Rattle.std.specs.Prelude.{◌≡◌, map};
 ghost use Rattle.std.specs.List.{list_any};
-ghost use Rattle.pks_terms.specs.Syntax.{Term as Value, term_of as lifted};
+ghost use Rattle.pks_terms.specs.Syntax.{Term as Value, term_of as lifted, are_two_objects};
 ghost use Rattle.pks_terms.specs.Justified.{apart, some_apart, some_fixed_apart, may_undo};
 ghost use Rattle.pks_terms.specs.Orders.{number_of, arguments_of};
 ghost use Rattle.pks_terms.specs.Actions.{Set, Unset, Assign};

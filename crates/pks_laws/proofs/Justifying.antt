@@ -5,7 +5,7 @@ use Rattle.std.proofs.lemmas.Bool.{or_cases, and_parts, and_from, cases_Bool, eq
 use Rattle.std.proofs.lemmas.Option.{none-some, cond_some}
 use Rattle.pks_terms.specs.Signatures.{Signature}
 use Rattle.pks_terms.specs.Sets.{Each, IsIn, with_later}
-use Rattle.pks_terms.specs.Syntax.{Object, Parameter, Apply, Inner, Term, term_of, Equality, Literal, Atom}
+use Rattle.pks_terms.specs.Syntax.{Object, Parameter, Apply, Inner, Term, term_of, are_two_objects, Equality, Literal, Atom}
 use Rattle.pks_terms.specs.Orders.{inequation}
 use Rattle.pks_terms.specs.Worlds.{World, inner_value, value_of, true_in}
 use Rattle.pks_terms.specs.Databases.{Five, holds}

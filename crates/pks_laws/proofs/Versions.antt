@@ -5,7 +5,7 @@ use Rattle.std.specs.Option.{option_map_or}
 use Rattle.std.proofs.lemmas.Option.{none-some, same_Some}
 use Rattle.std.proofs.lemmas.Bool.{eqb-true}
 use Rattle.pks_terms.specs.Sets.{Each, IsIn, all_some, with_others, one_replaced}
-use Rattle.pks_terms.specs.Syntax.{Object, Parameter, Apply, Inner, Term, term_of, object, place, as_object, Relation, Named, Equality, Literal, negated}
+use Rattle.pks_terms.specs.Syntax.{Object, Parameter, Apply, Inner, Term, term_of, object, place, as_object, are_two_objects, Relation, Named, Equality, Literal, negated}
 use Rattle.pks_terms.specs.Orders.{term_cmp, literal_cmp, literal, equation}
 use Rattle.pks_terms.specs.Signatures.{Shape, Signature, type_of, fits_type, objects_of, range_of, object_is_of, is_foreign}
 use Rattle.pks_terms.specs.Databases.{Five, values_at, least, inner_normal, normal, is_evident, holds}
