@@ -18,7 +18,7 @@ use Rattle.pks_branch.specs.ChoiceOrder.{choice_cmp}
 use Rattle.pks_branch.specs.ChoiceViews.{choice_of, side_of}
 use Rattle.pks_search.specs.Ready.{IsReady}
 use Rattle.pks_search.specs.Limits.{IsBestWithin, IsCheapBy, IsCheapAmong, IsFoundAmong, IsBestAfter, IsBestTaking, AreBestCheapCases}
-use Rattle.pks_search.proofs.Costs.{costs_at_most}
+use Rattle.pks_failures.proofs.Costs.{costs_at_most}
 use Rattle.pks_search.proofs.Limited.{cheap_stopped, cheap_goal, price, dear_act, dear_branch, dear_cases}
 use Rattle.pks_search.proofs.Found.{found_first, found_none, found_some, found_all, none_at_depth, none_at_cost, costs_some}
 use Rattle.pks_terms.proofs.ListLaws.{in_map}
