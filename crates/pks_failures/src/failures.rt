@@ -63,7 +63,16 @@ impl Failures {
 
     /// Notes that no tree at the history, no deeper than `depth`, costs at most `limit`. Where memory is wanting the table
     /// stays as it is.
-    pub fn note(&mut self, history: History, depth: u32, limit: u32)
+    pub fn note(&mut self, h: &History, depth: u32, limit: u32)
+        ensures { (p : Problem) → HasNoTree p h.now depth limit → AreRight p self.old → AreRight p self.new }
+    {
+        if let Ok(history) = h.share() {
+            self.put(history, depth, limit);
+        }
+    }
+
+    // Puts the failure in place of one with the same mark, if there is memory.
+    fn put(&mut self, history: History, depth: u32, limit: u32)
         ensures { (p : Problem) → HasNoTree p history depth limit → AreRight p self.old → AreRight p self.new }
     {
         let mark = mark_of(&history);

@@ -15,6 +15,7 @@ ghost use Rattle.pks_search.specs.Past.{RemembersPast};
 
 use crate::rising::best_rising;
 use pks_closing::closing::CloseEnd;
+use pks_failures::failures::Failures;
 use pks_history::history::History;
 use pks_plan::tree::Tree;
 use pks_query::db::Db;
@@ -60,5 +61,6 @@ pub fn best_from(
     ensures past { IfOk result (λ o. IfSome o (λ t. RemembersPast (problem_of p.now) (tree_of t))) }
 {
     let h = History::start(alloc, start)?;
-    best_rising(alloc, p, &h, 0, u32::from(depth), 16 * 9_999)
+    let mut failures = Failures::new(alloc)?;
+    best_rising(alloc, p, &h, 0, u32::from(depth), 16 * 9_999, &mut failures)
 }
