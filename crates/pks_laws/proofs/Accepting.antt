@@ -14,7 +14,6 @@ use Rattle.pks_terms.specs.Printed.{Text}
 use Rattle.pks_terms.specs.Jobs.{Job}
 use Rattle.pks_terms.specs.Answers.{Reading, File, unjustified_in, unjustified, IsAccepted}
 use Rattle.pks_laws.proofs.Validity.{valid_typed}
-use Rattle.pks_laws.proofs.Staying.{worlds_stay}
 use Rattle.pks_laws.proofs.GoodPlans.{plan_good}
 
 front_empty : {X : Type 0} (xs ys : List X) → xs ++ ys ≡ [] → xs ≡ []
@@ -45,7 +44,7 @@ all_justified p e n = at p.schemas 0 n e
 
 -- the best tree of a valid problem has a good run in every compatible world
 pub best_good : (p : Problem) (n : ℕ) (t : Tree) (w : World) → unjustified p ≡ [] → IsValid p → IsBest p n (Some t) → IsCompatible p w → Good p t w
-best_good p n t w none v b k = plan_good p (all_justified p none) (worlds_stay p (valid_typed p v)) t b.0.0 w k
+best_good p n t w none v b k = plan_good p (all_justified p none) (valid_typed p v) t b.0.0 w k
 
 module _ (Reads : Text → Reading → Type 0) where
   pub accepted_justified : (j : Job) (input : Text) (f : File) → IsAccepted Reads j input f → AllJustified f.problem
@@ -57,4 +56,4 @@ module _ (Reads : Text → Reading → Type 0) where
 
   -- the best tree of an accepted input has a good run in every compatible world
   pub accepted_good : (j : Job) (input : Text) (f : File) (n : ℕ) (t : Tree) (w : World) → IsAccepted Reads j input f → IsValid f.problem → IsBest f.problem n (Some t) → IsCompatible f.problem w → Good f.problem t w
-  accepted_good j input f n t w a v b k = plan_good f.problem (accepted_justified j input f a) (worlds_stay f.problem (valid_typed f.problem v)) t b.0.0 w k
+  accepted_good j input f n t w a v b k = plan_good f.problem (accepted_justified j input f a) (valid_typed f.problem v) t b.0.0 w k

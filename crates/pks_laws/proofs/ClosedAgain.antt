@@ -17,7 +17,7 @@ use Rattle.pks_laws.proofs.Holding.{eqb_comm}
 use Rattle.pks_laws.proofs.Least.{in_left, in_right, in_flat, in_order-map, one_value, addition_in}
 use Rattle.pks_laws.proofs.NormalMembers.{eq_turned, literal_again, term_again, normal_in, closed_one_value}
 use Rattle.pks_laws.proofs.Belonging.{saturated_end, end_of}
-use Rattle.pks_laws.specs.Lookup.{IsInOrder}
+use Rattle.pks_terms.specs.Moments.{IsInOrder}
 
 module _ (s : Signature) where
   -- it doesn't matter which side stands first

@@ -4,7 +4,7 @@ use Rattle.std.specs.List.{filter}
 use Rattle.std.specs.Prelude.{length, nat_le}
 use Rattle.std.proofs.lemmas.Bool.{and_parts, or_cases, not_from_false, false_from_ne_true}
 use Rattle.pks_terms.specs.Sets.{Each, IsIn, fronts}
-use Rattle.pks_terms.specs.Syntax.{Object, Term, term_of, object}
+use Rattle.pks_terms.specs.Syntax.{Term, term_of, object}
 use Rattle.pks_terms.specs.Worlds.{World, inner_value, value_of, all_true_in}
 use Rattle.pks_terms.specs.Orders.{literal, inequation}
 use Rattle.pks_terms.specs.Signatures.{Signature, range_of}
@@ -12,40 +12,27 @@ use Rattle.pks_terms.specs.Databases.{Five, is_plain, differ, holds}
 use Rattle.pks_terms.specs.Meaning.{IsWorld, IsTrueIn, IsTrueOf}
 use Rattle.pks_terms.specs.Closure.{Outcome, Next, Closes}
 use Rattle.pks_terms.specs.Queries.{Plain, Know, KnowWhether, KnowValue, Query, answers_plain, answers}
-use Rattle.pks_terms.specs.Actions.{Schema, Instance, argument, query_at, sense_at, applied_to, observed}
+use Rattle.pks_terms.specs.Actions.{Instance, query_at}
 use Rattle.pks_terms.specs.Problems.{Aim, Now, AtStart, Always, Once, Problem, schema_of, initial, IsCompatible}
-use Rattle.pks_terms.specs.Typed.{AllJustified}
-use Rattle.pks_terms.specs.Progress.{progressed}
+use Rattle.pks_terms.specs.Typed.{IsTyped, AllJustified}
 use Rattle.pks_terms.specs.Branching.{instances, left, may_split, Choice, BranchOn, CasesOn, Side, AsTrue, AsFalse, Is, IsSo, IsMember, assumed}
-use Rattle.pks_terms.specs.Settling.{History, last_moment, pushed, with_last, effects_of, State, At, Stopped, settle_rounds, tidied_history, Settles}
+use Rattle.pks_terms.specs.Settling.{History, last_moment, pushed, with_last, State, At, Stopped, settle_rounds, tidied_history, Settles}
 use Rattle.pks_terms.specs.Aims.{moments, is_met, met}
 use Rattle.pks_terms.specs.Trees.{Tree, Goal, Impossible, Do, Branch, Cases, Chain, End, More, objects_in, after_step, Acts, SettlesAfter, Takes, Derives, DerivesEach, start_state, IsPlan}
-use Rattle.pks_terms.specs.Knowledge.{grounded, after_action, observations, after_actions, SeeAlike, Alike, KnowsThen, Knows, KnowsUnlessDenied, KnowsAim, GoodFrom, GoodCase, Good}
+use Rattle.pks_terms.specs.Knowledge.{grounded, after_action, observations, after_actions, ground_actions, SeeAlike, Alike, KnowsThen, Knows, KnowsUnlessDenied, KnowsAim, GoodFrom, GoodCase, Good}
 use Rattle.pks_terms.proofs.ListLaws.{each_in, each_of, each_from_all, found_in, in_map, in_mapped, in_filtered, in_filter}
 use Rattle.pks_laws.proofs.Holding.{holds_true, differ_true}
 use Rattle.pks_laws.proofs.Closing.{value_in_range}
 use Rattle.pks_laws.proofs.Answering.{known_value_alike, known_whether_alike}
 use Rattle.pks_laws.proofs.Changing.{value_of-term_of}
-use Rattle.pks_laws.proofs.PuttingIn.{argument-map, applied_alike}
+use Rattle.pks_laws.proofs.Doing.{grounded_alike, present, grounds_pushed}
 use Rattle.pks_laws.proofs.Tidying.{closed_true}
-use Rattle.pks_laws.proofs.Deciding.{progressed_true}
+use Rattle.pks_laws.proofs.StepLaws.{action_true}
 use Rattle.pks_laws.proofs.Assuming.{assumed_true}
-use Rattle.pks_laws.proofs.Instances.{allowed_instance, arguments_alike, argument_alike}
+use Rattle.pks_laws.proofs.Instances.{allowed_instance, arguments_alike}
 use Rattle.pks_laws.proofs.Unique.{acts_one, takes_one}
-use Rattle.pks_terms.specs.Remembering.{deeds_of, present, TrueAlong, AgreeAlong, Both, Remembers, PastFrom, PastEach}
-use Rattle.pks_laws.proofs.Histories.{last_both, last_worlds, both_pushed, present_pushed, deeds_pushed, both_replaced, deeds_with_last, settled_both, deeds_settled}
-
--- the ground actions lead step by step where the instances lead
-abbrev pub SameWay : Problem → World → List Instance → List Instance → Type 0
-SameWay p w [] [] = Unit {0}
-SameWay p w (a ∷ more) (i ∷ is) = (after_action p w a ≡ applied_to w (effects_of p i)) × SameWay p (after_action p w a) more is
-SameWay p w more is = ⊥
-
-way_pushed : (p : Problem) (w : World) (done is : List Instance) (a i : Instance) → SameWay p w done is → after_action p (after_actions p w done) a ≡ applied_to (after_actions p w done) (effects_of p i) → SameWay p w (done ++ a ∷ []) (is ++ i ∷ [])
-way_pushed p w [] [] a i s e = (e, tt)
-way_pushed p w (b ∷ done) (j ∷ is) a i s e = (s.0, way_pushed p (after_action p w b) done is a i s.1 e)
-way_pushed p w [] (j ∷ is) a i s e = absurd s
-way_pushed p w (b ∷ done) [] a i s e = absurd s
+use Rattle.pks_terms.specs.Remembering.{deeds_of, TrueAlong, AgreeAlong, Both, Remembers, PastFrom, PastEach}
+use Rattle.pks_laws.proofs.Histories.{last_both, both_pushed, deeds_pushed, both_replaced, deeds_with_last, settled_both, deeds_settled}
 
 -- ---- the moments of a history by the ground actions so far
 
@@ -54,69 +41,67 @@ moment_of [] d steps = d
 moment_of (a ∷ more) d [] = d
 moment_of (a ∷ more) d (step ∷ steps) = moment_of more step.1 steps
 
-moment_in : (p : Problem) (w : World) (done first : List Instance) (d : Five) (steps : List (Instance × Five)) → SameWay p w done (deeds_of steps) → IsIn first (fronts done) → IsIn (moment_of first d steps) (d ∷ map (λ (step : Instance × Five). step.1) steps)
-moment_in p w [] first d [] s (inl e) = inl (ap (λ f. moment_of f d []) e)
-moment_in p w [] first d [] s (inr i) = absurd i
-moment_in p w (a ∷ done) first d (step ∷ steps) s (inl e) = inl (ap (λ f. moment_of f d (step ∷ steps)) e)
-moment_in p w (a ∷ done) first d (step ∷ steps) s (inr i) =
-    let r = in_mapped (λ (f : List Instance). a ∷ f) (fronts done) first i in
-    inr (subst (λ f. IsIn (moment_of f d (step ∷ steps)) (step.1 ∷ map (λ (step : Instance × Five). step.1) steps)) r.2 (moment_in p (after_action p w a) done r.0 step.1 steps s.1 r.1))
-moment_in p w [] first d (step ∷ steps) s i = absurd s
-moment_in p w (a ∷ done) first d [] s i = absurd s
+abbrev fives_of : List (Instance × Five) → List Five
+fives_of steps = map (λ (step : Instance × Five). step.1) steps
 
-in_moment : (p : Problem) (w : World) (done : List Instance) (d : Five) (steps : List (Instance × Five)) → SameWay p w done (deeds_of steps) → (e : Five) → IsIn e (d ∷ map (λ (step : Instance × Five). step.1) steps) → (first : List Instance) × IsIn first (fronts done) × (moment_of first d steps ≡ e)
-in_moment p w [] d [] s e (inl q) = ([], inl refl, q)
-in_moment p w [] d [] s e (inr i) = absurd i
-in_moment p w (a ∷ done) d (step ∷ steps) s e (inl q) = ([], inl refl, q)
-in_moment p w (a ∷ done) d (step ∷ steps) s e (inr i) =
-    let r = in_moment p (after_action p w a) done step.1 steps s.1 e i in
-    (a ∷ r.0, inr (in_map (λ (f : List Instance). a ∷ f) (fronts done) r.0 r.1), r.2)
-in_moment p w [] d (step ∷ steps) s e i = absurd s
-in_moment p w (a ∷ done) d [] s e i = absurd s
+moment_in : (p : Problem) (w : World) (first : List Instance) (d : Five) (steps : List (Instance × Five)) → IsIn first (fronts (ground_actions p w (deeds_of steps))) → IsIn (moment_of first d steps) (d ∷ fives_of steps)
+moment_in p w first d [] (inl e) = inl (ap (λ f. moment_of f d []) e)
+moment_in p w first d [] (inr i) = absurd i
+moment_in p w first d (step ∷ steps) (inl e) = inl (ap (λ f. moment_of f d (step ∷ steps)) e)
+moment_in p w first d (step ∷ steps) (inr i) =
+    let g = grounded w step.0 in
+    let v = after_action p w g in
+    let r = in_mapped (λ (f : List Instance). g ∷ f) (fronts (ground_actions p v (deeds_of steps))) first i in
+    inr (subst (λ f. IsIn (moment_of f d (step ∷ steps)) (step.1 ∷ fives_of steps)) r.2 (moment_in p v r.0 step.1 steps r.1))
 
--- each moment is true of the worlds after the first of the ground actions
-moment_true : (p : Problem) (w w' : World) (done first : List Instance) (d : Five) (steps : List (Instance × Five)) → SameWay p w done (deeds_of steps) → SameWay p w' done (deeds_of steps) → IsIn first (fronts done)
+in_moment : (p : Problem) (w : World) (d : Five) (steps : List (Instance × Five)) (e : Five) → IsIn e (d ∷ fives_of steps) → (first : List Instance) × IsIn first (fronts (ground_actions p w (deeds_of steps))) × (moment_of first d steps ≡ e)
+in_moment p w d [] e (inl q) = ([], inl refl, q)
+in_moment p w d [] e (inr i) = absurd i
+in_moment p w d (step ∷ steps) e (inl q) = ([], inl refl, q)
+in_moment p w d (step ∷ steps) e (inr i) =
+    let g = grounded w step.0 in
+    let r = in_moment p (after_action p w g) step.1 steps e i in
+    (g ∷ r.0, inr (in_map (λ (f : List Instance). g ∷ f) (fronts (ground_actions p (after_action p w g) (deeds_of steps))) r.0 r.1), r.2)
+
+-- each moment is true of the worlds after the first of the ground actions, where these are the same in both
+moment_true : (p : Problem) (w w' : World) (first : List Instance) (d : Five) (steps : List (Instance × Five)) → ground_actions p w (deeds_of steps) ≡ ground_actions p w' (deeds_of steps) → IsIn first (fronts (ground_actions p w (deeds_of steps)))
     → TrueAlong p w d steps → TrueAlong p w' d steps → AgreeAlong p w w' d steps → IsTrueOf p.signature (after_actions p w first) (after_actions p w' first) (moment_of first d steps)
-moment_true p w w' [] first d [] s s' (inl e) t t' a =
+moment_true p w w' first d [] same (inl e) t t' a =
     subst (λ f. IsTrueOf p.signature (after_actions p w f) (after_actions p w' f) (moment_of f d [])) e (record { first = t; second = t'; whether = a.0; values = a.1 })
-moment_true p w w' [] first d [] s s' (inr i) t t' a = absurd i
-moment_true p w w' (b ∷ done) first d (step ∷ steps) s s' (inl e) t t' a =
+moment_true p w w' first d [] same (inr i) t t' a = absurd i
+moment_true p w w' first d (step ∷ steps) same (inl e) t t' a =
     subst (λ f. IsTrueOf p.signature (after_actions p w f) (after_actions p w' f) (moment_of f d (step ∷ steps))) e (record { first = t.0; second = t'.0; whether = a.0.0; values = a.0.1 })
-moment_true p w w' (b ∷ done) first d (step ∷ steps) s s' (inr i) t t' a =
-    let r = in_mapped (λ (f : List Instance). b ∷ f) (fronts done) first i in
+moment_true p w w' first d (step ∷ steps) same (inr i) t t' a =
+    let g = grounded w step.0 in
+    let g' = grounded w' step.0 in
+    let v = after_action p w g in
+    let v' = after_action p w' g' in
+    let head : g ≡ g' = cc same in
+    let rest : ground_actions p v (deeds_of steps) ≡ ground_actions p v' (deeds_of steps) = cc same in
+    let r = in_mapped (λ (f : List Instance). g ∷ f) (fronts (ground_actions p v (deeds_of steps))) first i in
     subst (λ f. IsTrueOf p.signature (after_actions p w f) (after_actions p w' f) (moment_of f d (step ∷ steps))) r.2
-    (moment_true p (after_action p w b) (after_action p w' b) done r.0 step.1 steps s.1 s'.1 r.1
-    (subst (λ (v : World). TrueAlong p v step.1 steps) (sym s.0) t.1) (subst (λ (v : World). TrueAlong p v step.1 steps) (sym s'.0) t'.1)
-    (subst (λ (v : World). AgreeAlong p v (after_action p w' b) step.1 steps) (sym s.0) (subst (λ (v : World). AgreeAlong p (applied_to w (effects_of p step.0)) v step.1 steps) (sym s'.0) a.1)))
-moment_true p w w' [] first d (step ∷ steps) s s' i t t' a = absurd s
-moment_true p w w' (b ∷ done) first d [] s s' i t t' a = absurd s
+    (subst (λ (h : Instance). IsTrueOf p.signature (after_actions p v r.0) (after_actions p (after_action p w' h) r.0) (moment_of r.0 step.1 steps)) (sym head)
+    (moment_true p v v' r.0 step.1 steps rest r.1 t.1 t'.1 a.1))
 
--- an action whose arguments are allowed leads from a world to a world
-abbrev pub WorldsStay : Problem → Type 0
-WorldsStay p = (w : World) (d : Five) (i : Instance) → IsWorld p.signature w → IsTrueIn p.signature w d → IsIn i (instances p d) → IsWorld p.signature (applied_to w (effects_of p i))
-
-module _ (p : Problem) (justified : AllJustified p) (stay : WorldsStay p) where
-  -- what is known of a node: its history is true of all worlds that are alike so far
+module _ (p : Problem) (justified : AllJustified p) (typed : IsTyped p) where
+  -- what is known of a node: its history is true of all worlds that are alike so far, and its steps are the ground actions that were done
   record Node (h : History) (done : List Instance) (w : World) : Type 0 where
     self : Alike p done w w
     both : (w' : World) → Alike p done w w' → Both p w w' h
-    here : (w' : World) → Alike p done w w' → after_actions p w' done ≡ present p w' (deeds_of h.steps)
-    way : (w' : World) → Alike p done w w' → SameWay p w' done (deeds_of h.steps)
+    grounds : (w' : World) → Alike p done w w' → ground_actions p w' (deeds_of h.steps) ≡ done
 
   module _ (h : History) (done : List Instance) (w : World) (n : Node h done w) where
     abbrev now : World
     now = after_actions p w done
 
+    here : (w' : World) → Alike p done w w' → present p w' (deeds_of h.steps) ≡ after_actions p w' done
+    here w' a = ap (after_actions p w') (n.grounds w' a)
+
     -- the last moment is true of the present worlds
     last_here : (w' : World) → Alike p done w w' → IsTrueOf p.signature now (after_actions p w' done) (last_moment h)
     last_here w' a =
-        subst (λ (v : World). IsTrueOf p.signature v (after_actions p w' done) (last_moment h)) (sym (n.here w n.self))
-        (subst (λ (v : World). IsTrueOf p.signature (present p w (deeds_of h.steps)) v (last_moment h)) (sym (n.here w' a)) (last_both p w w' h (n.both w' a)))
-
-    worlds_here : (w' : World) → Alike p done w w' → IsWorld p.signature now × IsWorld p.signature (after_actions p w' done)
-    worlds_here w' a =
-        let b = last_worlds p w w' h (n.both w' a) in
-        (subst (IsWorld p.signature) (sym (n.here w n.self)) b.0, subst (IsWorld p.signature) (sym (n.here w' a)) b.1)
+        subst (λ (v : World). IsTrueOf p.signature v (after_actions p w' done) (last_moment h)) (here w n.self)
+        (subst (λ (v : World). IsTrueOf p.signature (present p w (deeds_of h.steps)) v (last_moment h)) (here w' a) (last_both p w w' h (n.both w' a)))
 
     -- what is answered at a moment is known of it
     module _ (first : List Instance) (d : Five) (true_then : (w' : World) → Alike p done w w' → IsTrueOf p.signature (after_actions p w first) (after_actions p w' first) d) where
@@ -131,9 +116,12 @@ module _ (p : Problem) (justified : AllJustified p) (stay : WorldsStay p) where
     knows_unless : (q : Query) → answers p.signature (last_moment h) q ≡ true → KnowsUnlessDenied p done done w q
     knows_unless = unless_then done (last_moment h) last_here
 
+    front_of : (first : List Instance) → IsIn first (fronts done) → IsIn first (fronts (ground_actions p w (deeds_of h.steps)))
+    front_of first i = subst (λ (is : List Instance). IsIn first (fronts is)) (sym (n.grounds w n.self)) i
+
     then_true : (first : List Instance) → IsIn first (fronts done) → (w' : World) → Alike p done w w' → IsTrueOf p.signature (after_actions p w first) (after_actions p w' first) (moment_of first h.start h.steps)
     then_true first i w' a =
-        let b = n.both w' a in moment_true p w w' done first h.start h.steps (n.way w n.self) (n.way w' a) i b.along b.along' b.agree
+        let b = n.both w' a in moment_true p w w' first h.start h.steps (n.grounds w n.self ∙ sym (n.grounds w' a)) (front_of first i) b.along b.along' b.agree
 
     knows_at : (first : List Instance) → IsIn first (fronts done) → (q : Query) → answers p.signature (moment_of first h.start h.steps) q ≡ true → KnowsUnlessDenied p done first w q
     knows_at first i = unless_then first (moment_of first h.start h.steps) (then_true first i)
@@ -147,11 +135,12 @@ module _ (p : Problem) (justified : AllJustified p) (stay : WorldsStay p) where
         nothing_first [] = inl refl
         nothing_first (x ∷ xs) = inl refl
     knows_aim (Always q) k = λ first i.
-        knows_at first i q (each_in (λ d. answers p.signature d q ≡ true) (moments h) (moment_of first h.start h.steps) (each_from_all (λ d. answers p.signature d q ≡ true) (λ d. answers p.signature d q) (λ d a. a) (moments h) k) (moment_in p w done first h.start h.steps (n.way w n.self) i))
+        knows_at first i q (each_in (λ d. answers p.signature d q ≡ true) (moments h) (moment_of first h.start h.steps) (each_from_all (λ d. answers p.signature d q ≡ true) (λ d. answers p.signature d q) (λ d a. a) (moments h) k) (moment_in p w first h.start h.steps (front_of first i)))
     knows_aim (Once q) k =
         let f = found_in (λ d. answers p.signature d q) (moments h) k in
-        let m = in_moment p w done h.start h.steps (n.way w n.self) f.0 f.1 in
-        (m.0, m.1, knows_at m.0 m.1 q (ap (λ d. answers p.signature d q) m.2 ∙ f.2))
+        let m = in_moment p w h.start h.steps f.0 f.1 in
+        let i = subst (λ (is : List Instance). IsIn m.0 (fronts is)) (n.grounds w n.self) m.1 in
+        (m.0, i, knows_at m.0 i q (ap (λ d. answers p.signature d q) m.2 ∙ f.2))
 
     -- ---- an action
 
@@ -159,23 +148,9 @@ module _ (p : Problem) (justified : AllJustified p) (stay : WorldsStay p) where
       abbrev ground : Instance
       ground = grounded now i
 
-      abbrev sc : Schema
-      sc = schema_of p i.action
-
-      args_alike : (w' : World) → Alike p done w w' → (k : ℕ) → inner_value now (argument i.arguments k) ≡ inner_value (after_actions p w' done) (argument i.arguments k)
-      args_alike w' a =
-          argument_alike now (after_actions p w' done) i.arguments (arguments_alike now (after_actions p w' done) p (last_moment h) (last_here w' a).values i chosen)
-
-      -- the ground action leads to the same world as the instance
-      ground_leads : (w' : World) → Alike p done w w' → after_action p (after_actions p w' done) ground ≡ applied_to (after_actions p w' done) (effects_of p i)
-      unfolding after_action
-      ground_leads w' a =
-          applied_alike (after_actions p w' done) ground.arguments i.arguments
-          (λ k. ap (inner_value (after_actions p w' done)) (argument-map (λ t. Object (inner_value now t)) refl i.arguments k) ∙ args_alike w' a k) sc.effects
-
-      append_done : (v : World) (is : List Instance) (j : Instance) → after_actions p v (is ++ j ∷ []) ≡ after_action p (after_actions p v is) j
-      append_done v [] j = refl
-      append_done v (x ∷ is) j = append_done (after_action p v x) is j
+      -- it is the same ground action in all worlds that are alike so far
+      ground_there : (w' : World) → Alike p done w w' → ground ≡ grounded (after_actions p w' done) i
+      ground_there w' a = grounded_alike now (after_actions p w' done) i (arguments_alike now (after_actions p w' done) p (last_moment h) (last_here w' a).values i chosen)
 
       see_front : (v v' : World) (is : List Instance) (j : Instance) → SeeAlike p v v' (is ++ j ∷ []) → SeeAlike p v v' is × (observations p (after_action p (after_actions p v is) j) j ≡ observations p (after_action p (after_actions p v' is) j) j)
       see_front v v' [] j s = (tt, s.0)
@@ -188,26 +163,22 @@ module _ (p : Problem) (justified : AllJustified p) (stay : WorldsStay p) where
       see_self v [] = tt
       see_self v (x ∷ is) = (refl, see_self (after_action p v x) is)
 
-      progressed_here : (w' : World) → Alike p (done ++ ground ∷ []) w w' → IsTrueOf p.signature (applied_to now (effects_of p i)) (applied_to (after_actions p w' done) (effects_of p i)) (progressed p.signature (last_moment h) sc i.arguments)
-      unfolding observations
-      progressed_here w' a =
-          let b = alike_before w' a in
-          let m = last_here w' b in
-          let k = worlds_here w' b in
-          let seen = (see_front w w' done ground a.same).1 in
-          progressed_true p.signature now (after_actions p w' done) (last_moment h) m i.arguments sc (args_alike w' b) (allowed_instance p (last_moment h) i chosen).0 (justified i.action)
-          (stay now (last_moment h) i k.0 m.first chosen) (stay (after_actions p w' done) (last_moment h) i k.1 m.second chosen)
-          (ap (λ (v : World). observed p.signature v (map (sense_at ground.arguments) sc.senses)) (sym (ground_leads w n.self)) ∙ seen ∙ ap (λ (v : World). observed p.signature v (map (sense_at ground.arguments) sc.senses)) (ground_leads w' b))
-
       self_after : Alike p (done ++ ground ∷ []) w w
       self_after = record { start = n.self.start; same = see_self w (done ++ ground ∷ []) }
+
+      -- after it the instances are the ground actions that were done, and this one
+      grounds_after : (w' : World) → Alike p done w w' → (e : Five) → ground_actions p w' (deeds_of (pushed h i e).steps) ≡ done ++ ground ∷ []
+      grounds_after w' a e =
+          let last : grounded (present p w' (deeds_of h.steps)) i ≡ ground = ap (λ (v : World). grounded v i) (here w' a) ∙ sym (ground_there w' a) in
+          ap (ground_actions p w') (deeds_pushed p h.steps i e) ∙ grounds_pushed p w' (deeds_of h.steps) i ∙ (λ j. n.grounds w' a j ++ last j ∷ [])
 
       -- the node after the action
       acted : (x : State) → Acts p h i x → (e : Five) × (x ≡ At (pushed h i e)) × Node (pushed h i e) (done ++ ground ∷ []) w
       acted x c =
-          let closed : (w' : World) → Alike p (done ++ ground ∷ []) w w' → (e : Five) × (c.outcome ≡ Next e) × IsTrueOf p.signature (applied_to now (effects_of p i)) (applied_to (after_actions p w' done) (effects_of p i)) e = λ w' a.
+          let closed : (w' : World) → Alike p (done ++ ground ∷ []) w w' → (e : Five) × (c.outcome ≡ Next e) × IsTrueOf p.signature (after_action p now ground) (after_action p (after_actions p w' done) (grounded (after_actions p w' done) i)) e = λ w' a.
           let b = alike_before w' a in
-          closed_true p.signature _ _ (progressed p.signature (last_moment h) sc i.arguments) (progressed_here w' a) c.outcome c.progress in
+          let v' = after_actions p w' done in
+          action_true p now v' (last_moment h) i c.outcome typed (last_here w' b) chosen (justified i.action) ((see_front w w' done ground a.same).1 ∙ ap (λ (g : Instance). observations p (after_action p v' g) g) (ground_there w' b)) c.progress in
           let first = closed w self_after in (
             first.0,
             c.gives ∙ ap (after_step h i) first.1,
@@ -216,22 +187,12 @@ module _ (p : Problem) (justified : AllJustified p) (stay : WorldsStay p) where
               both = λ w' a.
                   let b = alike_before w' a in
                   let o = closed w' a in
-                  let m = last_here w' b in
-                  let k = worlds_here w' b in
                   let same : o.0 ≡ first.0 = cc (o.1, first.1) in
-                  let t = subst (λ (e : Five). IsTrueOf p.signature (applied_to now (effects_of p i)) (applied_to (after_actions p w' done) (effects_of p i)) e) same o.2 in
-                  let e = n.here w n.self in
-                  let e' = n.here w' b in
                   both_pushed p w w' h i first.0 (n.both w' b)
-                  (subst (λ (v : World). IsTrueOf p.signature (applied_to (present p w (deeds_of h.steps)) (effects_of p i)) (applied_to v (effects_of p i)) first.0) e'
-                  (subst (λ (v : World). IsTrueOf p.signature (applied_to v (effects_of p i)) (applied_to (after_actions p w' done) (effects_of p i)) first.0) e t));
-              here = λ w' a.
-                  let b = alike_before w' a in
-                  append_done w' done ground ∙ ground_leads w' b ∙ ap (λ (v : World). applied_to v (effects_of p i)) (n.here w' b)
-                  ∙ sym (present_pushed p w' (deeds_of h.steps) i) ∙ ap (present p w') (sym (deeds_pushed p h.steps i first.0));
-              way = λ w' a.
-                  let b = alike_before w' a in
-                  subst (λ (is : List Instance). SameWay p w' (done ++ ground ∷ []) is) (sym (deeds_pushed p h.steps i first.0)) (way_pushed p w' done (deeds_of h.steps) ground i (n.way w' b) (ground_leads w' b));
+                  (subst (λ (v : World). IsTrueOf p.signature (after_action p (present p w (deeds_of h.steps)) (grounded (present p w (deeds_of h.steps)) i)) (after_action p v (grounded v i)) first.0) (sym (here w' b))
+                  (subst (λ (v : World). IsTrueOf p.signature (after_action p v (grounded v i)) (after_action p (after_actions p w' done) (grounded (after_actions p w' done) i)) first.0) (sym (here w n.self))
+                  (subst (λ (e : Five). IsTrueOf p.signature (after_action p now ground) (after_action p (after_actions p w' done) (grounded (after_actions p w' done) i)) e) same o.2)));
+              grounds = λ w' a. grounds_after w' (alike_before w' a) first.0;
             },
           )
 
@@ -240,7 +201,6 @@ module _ (p : Problem) (justified : AllJustified p) (stay : WorldsStay p) where
     taken : (c : Choice) (side : Side) (x : State) → IsMember (last_moment h) c → IsSo now c side → Takes p h c side x → (g : History) × (x ≡ At g) × Node g done w
     taken c side x member so t =
         let closed : (w' : World) → Alike p done w w' → (e : Five) × (t.outcome ≡ Next e) × IsTrueOf p.signature now (after_actions p w' done) e = λ w' a.
-        let k = worlds_here w' a in
         closed_true p.signature now (after_actions p w' done) (assumed p.signature (last_moment h) c side) (assumed_true now (after_actions p w' done) (last_moment h) (last_here w' a) c side member so) t.outcome t.assumed in
         let first = closed w n.self in
         let settles : Settles p (with_last h first.0) x = subst (λ (o : Outcome). SettlesAfter p h o x) first.1 t.settled in
@@ -249,23 +209,23 @@ module _ (p : Problem) (justified : AllJustified p) (stay : WorldsStay p) where
         let same : o.0 ≡ first.0 = cc (o.1, first.1) in
         let m = subst (λ (e : Five). IsTrueOf p.signature now (after_actions p w' done) e) same o.2 in
         both_replaced p w w' h first.0 (n.both w' a)
-        (subst (λ (v : World). IsTrueOf p.signature (present p w (deeds_of h.steps)) v first.0) (n.here w' a) (subst (λ (v : World). IsTrueOf p.signature v (after_actions p w' done) first.0) (n.here w n.self) m)) in
+        (subst (λ (v : World). IsTrueOf p.signature (present p w (deeds_of h.steps)) v first.0) (sym (here w' a)) (subst (λ (v : World). IsTrueOf p.signature v (after_actions p w' done) first.0) (sym (here w n.self)) m)) in
         let end : History = tidied_history (settle_rounds p settles.count (with_last h first.0)) in (
           end,
           (settled_both p w w (with_last h first.0) x (replaced w n.self) settles).0,
           record {
             self = n.self;
             both = λ w' a. (settled_both p w w' (with_last h first.0) x (replaced w' a) settles).1;
-            here = λ w' a. n.here w' a ∙ ap (present p w') (sym (deeds_settled p settles.count (with_last h first.0) ∙ deeds_with_last p h.start h.steps first.0));
-            way = λ w' a. subst (λ (is : List Instance). SameWay p w' done is) (sym (deeds_settled p settles.count (with_last h first.0) ∙ deeds_with_last p h.start h.steps first.0)) (n.way w' a);
+            grounds = λ w' a. ap (ground_actions p w') (deeds_settled p settles.count (with_last h first.0) ∙ deeds_with_last p h.start h.steps first.0) ∙ n.grounds w' a;
           },
         )
 
   node_self : (h : History) (done : List Instance) (w : World) → Node h done w → Alike p done w w
   node_self h done w n = n.self
 
-  node_both : (h : History) (done : List Instance) (w : World) → Node h done w → (w' : World) → Alike p done w w' → Both p w w' h
-  node_both h done w n = n.both
+  -- the history was true then
+  remembers : (h : History) (done : List Instance) (w : World) → Node h done w → Remembers p h done w
+  remembers h done w n = λ w' a. (n.grounds w' a, (n.both w' a).along')
 
   arguments_known : (h : History) (done : List Instance) (w : World) → Node h done w → (i : Instance) → IsIn i (instances p (last_moment h)) → Each (λ a. Knows p done w (KnowValue (term_of a))) i.arguments
   arguments_known h done w n i chosen =
@@ -296,12 +256,12 @@ value_left s w d t i m h =
 not_stopped : (h : History) → At h ≡ Stopped → ⊥
 not_stopped h e = cc
 
-knows_goal : (p : Problem) (j : AllJustified p) (s : WorldsStay p) (h : History) (done : List Instance) (w : World) → Node p j s h done w → met p h ≡ true → Each (KnowsAim p done w) p.goal
+knows_goal : (p : Problem) (j : AllJustified p) (s : IsTyped p) (h : History) (done : List Instance) (w : World) → Node p j s h done w → met p h ≡ true → Each (KnowsAim p done w) p.goal
 unfolding met
 knows_goal p j s h done w n k = each_from_all (KnowsAim p done w) (is_met p.signature h) (knows_aim p j s h done w n) p.goal k
 
 mutual
-  good_from : (p : Problem) (j : AllJustified p) (s : WorldsStay p) (t : Tree) (h : History) (done : List Instance) (w : World) → Node p j s h done w → Derives p (At h) t → GoodFrom p done w t
+  good_from : (p : Problem) (j : AllJustified p) (s : IsTyped p) (t : Tree) (h : History) (done : List Instance) (w : World) → Node p j s h done w → Derives p (At h) t → GoodFrom p done w t
   good_from p j s Goal h done w n k = knows_goal p j s h done w n k
   good_from p j s Impossible h done w n k = absurd (not_stopped h k)
   good_from p j s (Do i t) h done w n k =
@@ -319,10 +279,10 @@ mutual
       let t = last_here p j s h done w n w (node_self p j s h done w n) in (
         λ w' a. sym (each_in (λ t. value_of (after_actions p w done) t ≡ value_of (after_actions p w' done) t) (last_moment h).kv x (last_here p j s h done w n w' a).values k.0),
         good_case p j s m x h done w n k.0
-            (subst (IsIn (value_of (after_actions p w done) x)) (sym k.2) (value_left p.signature (after_actions p w done) (last_moment h) x (worlds_here p j s h done w n w (node_self p j s h done w n)).0 t.first k.1)) k.3,
+            (subst (IsIn (value_of (after_actions p w done) x)) (sym k.2) (value_left p.signature (after_actions p w done) (last_moment h) x t.first.world t.first k.1)) k.3,
       )
 
-  good_case : (p : Problem) (j : AllJustified p) (s : WorldsStay p) (m : Chain) (x : Term) (h : History) (done : List Instance) (w : World) → Node p j s h done w → IsIn x (last_moment h).kv → IsIn (value_of (after_actions p w done) x) (objects_in m) → DerivesEach p h x m → GoodCase p done w (value_of (after_actions p w done) x) m
+  good_case : (p : Problem) (j : AllJustified p) (s : IsTyped p) (m : Chain) (x : Term) (h : History) (done : List Instance) (w : World) → Node p j s h done w → IsIn x (last_moment h).kv → IsIn (value_of (after_actions p w done) x) (objects_in m) → DerivesEach p h x m → GoodCase p done w (value_of (after_actions p w done) x) m
   good_case p j s End x h done w n member i k = absurd i
   good_case p j s (More o t m) x h done w n member i k = (
     λ e. let a = taken p j s h done w n (CasesOn x) (Is o) k.0.0 member (sym e) k.0.1 in good_from p j s t a.0 done w a.2 (subst (λ (x : State). Derives p x t) a.1 k.0.2),
@@ -334,21 +294,18 @@ mutual
 at_one : (g k : History) → At g ≡ At k → g ≡ k
 at_one g k e = cc
 
-remembers : (p : Problem) (j : AllJustified p) (s : WorldsStay p) (h : History) (done : List Instance) (w : World) → Node p j s h done w → Remembers p h done w
-remembers p j s h done w n = λ w' a. (node_both p j s h done w n w' a).along'
-
-acted_node : (p : Problem) (j : AllJustified p) (s : WorldsStay p) (h : History) (done : List Instance) (w : World) (n : Node p j s h done w) (i : Instance) → IsIn i (instances p (last_moment h)) → (g : History) → Acts p h i (At g) → Node p j s g (done ++ grounded (after_actions p w done) i ∷ []) w
+acted_node : (p : Problem) (j : AllJustified p) (s : IsTyped p) (h : History) (done : List Instance) (w : World) (n : Node p j s h done w) (i : Instance) → IsIn i (instances p (last_moment h)) → (g : History) → Acts p h i (At g) → Node p j s g (done ++ grounded (after_actions p w done) i ∷ []) w
 acted_node p j s h done w n i chosen g a =
     let r = acted p j s h done w n i chosen (At g) a in
     subst (λ (k : History). Node p j s k (done ++ grounded (after_actions p w done) i ∷ []) w) (sym (at_one g (pushed h i r.0) r.1)) r.2
 
-taken_node : (p : Problem) (j : AllJustified p) (s : WorldsStay p) (h : History) (done : List Instance) (w : World) (n : Node p j s h done w) (c : Choice) (side : Side) → IsMember (last_moment h) c → IsSo (after_actions p w done) c side → (g : History) → Takes p h c side (At g) → Node p j s g done w
+taken_node : (p : Problem) (j : AllJustified p) (s : IsTyped p) (h : History) (done : List Instance) (w : World) (n : Node p j s h done w) (c : Choice) (side : Side) → IsMember (last_moment h) c → IsSo (after_actions p w done) c side → (g : History) → Takes p h c side (At g) → Node p j s g done w
 taken_node p j s h done w n c side member so g t =
     let r = taken p j s h done w n c side (At g) member so t in
     subst (λ (k : History). Node p j s k done w) (sym (at_one g r.0 r.1)) r.2
 
 mutual
-  past_from : (p : Problem) (j : AllJustified p) (s : WorldsStay p) (t : Tree) (h : History) (done : List Instance) (w : World) → Node p j s h done w → Derives p (At h) t → PastFrom p h done w t
+  past_from : (p : Problem) (j : AllJustified p) (s : IsTyped p) (t : Tree) (h : History) (done : List Instance) (w : World) → Node p j s h done w → Derives p (At h) t → PastFrom p h done w t
   past_from p j s Goal h done w n k = remembers p j s h done w n
   past_from p j s Impossible h done w n k = remembers p j s h done w n
   past_from p j s (Do i t) h done w n k = (
@@ -363,7 +320,7 @@ mutual
   )
   past_from p j s (Cases x m) h done w n k = (remembers p j s h done w n, past_each p j s m x h done w n k.0 k.3)
 
-  past_each : (p : Problem) (j : AllJustified p) (s : WorldsStay p) (m : Chain) (x : Term) (h : History) (done : List Instance) (w : World) → Node p j s h done w → IsIn x (last_moment h).kv → DerivesEach p h x m → PastEach p h done w x m
+  past_each : (p : Problem) (j : AllJustified p) (s : IsTyped p) (m : Chain) (x : Term) (h : History) (done : List Instance) (w : World) → Node p j s h done w → IsIn x (last_moment h).kv → DerivesEach p h x m → PastEach p h done w x m
   past_each p j s End x h done w n member k = tt
   past_each p j s (More o t m) x h done w n member k = (
     λ e g a. past_from p j s t g done w (taken_node p j s h done w n (CasesOn x) (Is o) member (sym e) g a) (subst (λ (y : State). Derives p y t) (takes_one p h (CasesOn x) (Is o) k.0.0 (At g) k.0.1 a) k.0.2),
@@ -371,7 +328,7 @@ mutual
   )
 
 -- the start, in a compatible world
-start_node : (p : Problem) (j : AllJustified p) (s : WorldsStay p) (o : Outcome) → Closes p.signature (initial p) o → (w : World) → IsCompatible p w → (d : Five) × (o ≡ Next d) × Node p j s (record { start = d; steps = [] }) [] w
+start_node : (p : Problem) (j : AllJustified p) (s : IsTyped p) (o : Outcome) → Closes p.signature (initial p) o → (w : World) → IsCompatible p w → (d : Five) × (o ≡ Next d) × Node p j s (record { start = d; steps = [] }) [] w
 start_node p j s o c w k =
     let self : Alike p [] w w = record {
       start = record { first = k; second = k; whether = each_of (λ c. all_true_in w c ≡ all_true_in w c) (initial p).kw (λ c i. refl); values = each_of (λ t. value_of w t ≡ value_of w t) (initial p).kv (λ t i. refl) };
@@ -388,19 +345,18 @@ start_node p j s o c w k =
             let same : r.0 ≡ first.0 = cc (r.1, first.1) in
             let t = subst (λ (d : Five). IsTrueOf p.signature w w' d) same r.2 in
             record { along = t.first; along' = t.second; agree = (t.whether, t.values) };
-        here = λ w' a. refl;
-        way = λ w' a. tt;
+        grounds = λ w' a. refl;
       },
     )
 
 -- the headline's second half: in every compatible world the run of a derived tree is good
-pub plan_good : (p : Problem) → AllJustified p → WorldsStay p → (t : Tree) → IsPlan p t → (w : World) → IsCompatible p w → Good p t w
+pub plan_good : (p : Problem) → AllJustified p → IsTyped p → (t : Tree) → IsPlan p t → (w : World) → IsCompatible p w → Good p t w
 plan_good p j s t plan w k =
     let n = start_node p j s plan.outcome plan.closes w k in
     good_from p j s t (record { start = n.0; steps = [] }) [] w n.2 (subst (λ (o : Outcome). Derives p (start_state o) t) n.1 plan.derives)
 
 -- at each node of a run in a compatible world, what the databases of each moment say was true then in all worlds that are alike so far
-pub plan_remembers : (p : Problem) → AllJustified p → WorldsStay p → (t : Tree) (d : Five) → Closes p.signature (initial p) (Next d) → Derives p (At (record { start = d; steps = [] })) t → (w : World) → IsCompatible p w → PastFrom p (record { start = d; steps = [] }) [] w t
+pub plan_remembers : (p : Problem) → AllJustified p → IsTyped p → (t : Tree) (d : Five) → Closes p.signature (initial p) (Next d) → Derives p (At (record { start = d; steps = [] })) t → (w : World) → IsCompatible p w → PastFrom p (record { start = d; steps = [] }) [] w t
 plan_remembers p j s t d c k w compatible =
     let n = start_node p j s (Next d) c w compatible in
     let same : n.0 ≡ d = cc n.1 in

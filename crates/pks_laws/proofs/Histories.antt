@@ -2,23 +2,25 @@
 use Rattle.std.proofs.Common.{◌≡◌, ℕ, zero, suc, cond, List, [], ◌∷◌, ◌++◌, map, refl, sym, ap, ◌∙◌, subst}
 use Rattle.pks_terms.specs.Worlds.{World}
 use Rattle.pks_terms.specs.Databases.{Five}
-use Rattle.pks_terms.specs.Meaning.{IsWorld, IsTrueIn, IsTrueOf}
+use Rattle.pks_terms.specs.Meaning.{IsTrueIn, IsTrueOf}
 use Rattle.pks_terms.specs.Closure.{tidied}
-use Rattle.pks_terms.specs.Actions.{Instance, applied_to}
+use Rattle.pks_terms.specs.Actions.{Instance}
 use Rattle.pks_terms.specs.Problems.{Problem}
-use Rattle.pks_terms.specs.Settling.{History, last_of, last_moment, pushed, steps_with_last, with_last, effects_of, settled_steps, settle_round, settle_rounds, State, At, Stopped, tidied_history, Settles}
+use Rattle.pks_terms.specs.Settling.{History, last_of, last_moment, pushed, steps_with_last, with_last, settled_steps, settle_round, settle_rounds, State, At, Stopped, tidied_history, Settles}
 use Rattle.pks_laws.proofs.Tidying.{tidied_true_in, tidied_true}
-use Rattle.pks_terms.specs.Remembering.{deeds_of, present, Agree, AgreeAlong, TrueAlong, Both, SeenAlong, IsTrueHistory}
+use Rattle.pks_terms.specs.Remembering.{deeds_of, Agree, AgreeAlong, TrueAlong, Both, SeenAlong, IsTrueHistory}
+use Rattle.pks_terms.specs.Knowledge.{grounded, after_action}
+use Rattle.pks_laws.proofs.Doing.{present}
 use Rattle.pks_laws.proofs.Settled.{worlds_along, settle_rounds_true, settled_fine}
 
 module _ (p : Problem) where
   last_true : (w : World) (d : Five) (steps : List (Instance × Five)) → TrueAlong p w d steps → IsTrueIn p.signature (present p w (deeds_of steps)) (last_of d steps)
   last_true w d [] t = t
-  last_true w d (step ∷ steps) t = last_true (applied_to w (effects_of p step.0)) step.1 steps t.1
+  last_true w d (step ∷ steps) t = last_true (after_action p w (grounded w step.0)) step.1 steps t.1
 
   last_agree : (w w' : World) (d : Five) (steps : List (Instance × Five)) → AgreeAlong p w w' d steps → Agree (present p w (deeds_of steps)) (present p w' (deeds_of steps)) (last_of d steps)
   last_agree w w' d [] a = a
-  last_agree w w' d (step ∷ steps) a = last_agree (applied_to w (effects_of p step.0)) (applied_to w' (effects_of p step.0)) step.1 steps a.1
+  last_agree w w' d (step ∷ steps) a = last_agree (after_action p w (grounded w step.0)) (after_action p w' (grounded w' step.0)) step.1 steps a.1
 
   -- the last moment is true of the present worlds
   pub last_both : (w w' : World) (h : History) → Both p w w' h → IsTrueOf p.signature (present p w (deeds_of h.steps)) (present p w' (deeds_of h.steps)) (last_moment h)
@@ -26,30 +28,23 @@ module _ (p : Problem) where
       let a = last_agree w w' h.start h.steps b.agree in
       record { first = last_true w h.start h.steps b.along; second = last_true w' h.start h.steps b.along'; whether = a.0; values = a.1 }
 
-  pub last_worlds : (w w' : World) (h : History) → Both p w w' h → IsWorld p.signature (present p w (deeds_of h.steps)) × IsWorld p.signature (present p w' (deeds_of h.steps))
-  last_worlds w w' h b = ((last_true w h.start h.steps b.along).world, (last_true w' h.start h.steps b.along').world)
-
   -- ---- one more moment
 
-  true_pushed : (w : World) (d : Five) (steps : List (Instance × Five)) (i : Instance) (e : Five) → TrueAlong p w d steps → IsTrueIn p.signature (applied_to (present p w (deeds_of steps)) (effects_of p i)) e → TrueAlong p w d (steps ++ (i, e) ∷ [])
+  true_pushed : (w : World) (d : Five) (steps : List (Instance × Five)) (i : Instance) (e : Five) → TrueAlong p w d steps → IsTrueIn p.signature (after_action p (present p w (deeds_of steps)) (grounded (present p w (deeds_of steps)) i)) e → TrueAlong p w d (steps ++ (i, e) ∷ [])
   true_pushed w d [] i e t m = (t, m)
-  true_pushed w d (step ∷ steps) i e t m = (t.0, true_pushed (applied_to w (effects_of p step.0)) step.1 steps i e t.1 m)
+  true_pushed w d (step ∷ steps) i e t m = (t.0, true_pushed (after_action p w (grounded w step.0)) step.1 steps i e t.1 m)
 
-  agree_pushed : (w w' : World) (d : Five) (steps : List (Instance × Five)) (i : Instance) (e : Five) → AgreeAlong p w w' d steps → Agree (applied_to (present p w (deeds_of steps)) (effects_of p i)) (applied_to (present p w' (deeds_of steps)) (effects_of p i)) e → AgreeAlong p w w' d (steps ++ (i, e) ∷ [])
+  agree_pushed : (w w' : World) (d : Five) (steps : List (Instance × Five)) (i : Instance) (e : Five) → AgreeAlong p w w' d steps → Agree (after_action p (present p w (deeds_of steps)) (grounded (present p w (deeds_of steps)) i)) (after_action p (present p w' (deeds_of steps)) (grounded (present p w' (deeds_of steps)) i)) e → AgreeAlong p w w' d (steps ++ (i, e) ∷ [])
   agree_pushed w w' d [] i e a b = (a, b)
-  agree_pushed w w' d (step ∷ steps) i e a b = (a.0, agree_pushed (applied_to w (effects_of p step.0)) (applied_to w' (effects_of p step.0)) step.1 steps i e a.1 b)
+  agree_pushed w w' d (step ∷ steps) i e a b = (a.0, agree_pushed (after_action p w (grounded w step.0)) (after_action p w' (grounded w' step.0)) step.1 steps i e a.1 b)
 
   pub both_pushed : (w w' : World) (h : History) (i : Instance) (e : Five) → Both p w w' h
-      → IsTrueOf p.signature (applied_to (present p w (deeds_of h.steps)) (effects_of p i)) (applied_to (present p w' (deeds_of h.steps)) (effects_of p i)) e → Both p w w' (pushed h i e)
+      → IsTrueOf p.signature (after_action p (present p w (deeds_of h.steps)) (grounded (present p w (deeds_of h.steps)) i)) (after_action p (present p w' (deeds_of h.steps)) (grounded (present p w' (deeds_of h.steps)) i)) e → Both p w w' (pushed h i e)
   both_pushed w w' h i e b m = record {
     along = true_pushed w h.start h.steps i e b.along m.first;
     along' = true_pushed w' h.start h.steps i e b.along' m.second;
     agree = agree_pushed w w' h.start h.steps i e b.agree (m.whether, m.values);
   }
-
-  pub present_pushed : (w : World) (is : List Instance) (i : Instance) → present p w (is ++ i ∷ []) ≡ applied_to (present p w is) (effects_of p i)
-  present_pushed w [] i = refl
-  present_pushed w (x ∷ is) i = present_pushed (applied_to w (effects_of p x)) is i
 
   pub deeds_pushed : (steps : List (Instance × Five)) (i : Instance) (e : Five) → deeds_of (steps ++ (i, e) ∷ []) ≡ deeds_of steps ++ i ∷ []
   deeds_pushed [] i e = refl
@@ -59,11 +54,11 @@ module _ (p : Problem) where
 
   true_replaced : (w : World) (d : Five) (step : Instance × Five) (steps : List (Instance × Five)) (e : Five) → TrueAlong p w d (step ∷ steps) → IsTrueIn p.signature (present p w (deeds_of (step ∷ steps))) e → TrueAlong p w d (steps_with_last (step ∷ steps) e)
   true_replaced w d step [] e t m = (t.0, m)
-  true_replaced w d step (next ∷ rest) e t m = (t.0, true_replaced (applied_to w (effects_of p step.0)) step.1 next rest e t.1 m)
+  true_replaced w d step (next ∷ rest) e t m = (t.0, true_replaced (after_action p w (grounded w step.0)) step.1 next rest e t.1 m)
 
   agree_replaced : (w w' : World) (d : Five) (step : Instance × Five) (steps : List (Instance × Five)) (e : Five) → AgreeAlong p w w' d (step ∷ steps) → Agree (present p w (deeds_of (step ∷ steps))) (present p w' (deeds_of (step ∷ steps))) e → AgreeAlong p w w' d (steps_with_last (step ∷ steps) e)
   agree_replaced w w' d step [] e a b = (a.0, b)
-  agree_replaced w w' d step (next ∷ rest) e a b = (a.0, agree_replaced (applied_to w (effects_of p step.0)) (applied_to w' (effects_of p step.0)) step.1 next rest e a.1 b)
+  agree_replaced w w' d step (next ∷ rest) e a b = (a.0, agree_replaced (after_action p w (grounded w step.0)) (after_action p w' (grounded w' step.0)) step.1 next rest e a.1 b)
 
   deeds_replaced : (step : Instance × Five) (steps : List (Instance × Five)) (e : Five) → deeds_of (steps_with_last (step ∷ steps) e) ≡ deeds_of (step ∷ steps)
   deeds_replaced step [] e = refl
@@ -89,7 +84,7 @@ module _ (p : Problem) where
 
   agree_steps : (w w' : World) (before d e : Five) (steps : List (Instance × Five)) → Agree w w' e → AgreeAlong p w w' d steps → AgreeAlong p w w' e (settled_steps p before steps)
   agree_steps w w' before d e [] k a = k
-  agree_steps w w' before d e (step ∷ steps) k a = (k, agree_steps (applied_to w (effects_of p step.0)) (applied_to w' (effects_of p step.0)) step.1 step.1 _ steps (head_agree (applied_to w (effects_of p step.0)) (applied_to w' (effects_of p step.0)) step.1 steps a.1) a.1)
+  agree_steps w w' before d e (step ∷ steps) k a = (k, agree_steps (after_action p w (grounded w step.0)) (after_action p w' (grounded w' step.0)) step.1 step.1 _ steps (head_agree (after_action p w (grounded w step.0)) (after_action p w' (grounded w' step.0)) step.1 steps a.1) a.1)
     where
       head_agree : (w w' : World) (d : Five) (steps : List (Instance × Five)) → AgreeAlong p w w' d steps → Agree w w' d
       head_agree w w' d [] a = a
@@ -129,14 +124,14 @@ module _ (p : Problem) where
 
   true_tidied : (w : World) (d : Five) (steps : List (Instance × Five)) → TrueAlong p w d steps → TrueAlong p w (tidied d) (tidy_steps steps)
   true_tidied w d [] t = tidied_true_in w d t
-  true_tidied w d (step ∷ steps) t = (tidied_true_in w d t.0, true_tidied (applied_to w (effects_of p step.0)) step.1 steps t.1)
+  true_tidied w d (step ∷ steps) t = (tidied_true_in w d t.0, true_tidied (after_action p w (grounded w step.0)) step.1 steps t.1)
 
   agree_one : (w w' : World) (d : Five) → IsTrueIn p.signature w d → IsTrueIn p.signature w' d → Agree w w' d → Agree w w' (tidied d)
   agree_one w w' d m m' a = let t = tidied_true w w' d (record { first = m; second = m'; whether = a.0; values = a.1 }) in (t.whether, t.values)
 
   agree_tidied : (w w' : World) (d : Five) (steps : List (Instance × Five)) → TrueAlong p w d steps → TrueAlong p w' d steps → AgreeAlong p w w' d steps → AgreeAlong p w w' (tidied d) (tidy_steps steps)
   agree_tidied w w' d [] t t' a = agree_one w w' d t t' a
-  agree_tidied w w' d (step ∷ steps) t t' a = (agree_one w w' d t.0 t'.0 a.0, agree_tidied (applied_to w (effects_of p step.0)) (applied_to w' (effects_of p step.0)) step.1 steps t.1 t'.1 a.1)
+  agree_tidied w w' d (step ∷ steps) t t' a = (agree_one w w' d t.0 t'.0 a.0, agree_tidied (after_action p w (grounded w step.0)) (after_action p w' (grounded w' step.0)) step.1 steps t.1 t'.1 a.1)
 
   deeds_tidied : (steps : List (Instance × Five)) → deeds_of (tidy_steps steps) ≡ deeds_of steps
   deeds_tidied [] = refl

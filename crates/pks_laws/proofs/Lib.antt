@@ -12,6 +12,7 @@ pub mod ClosedAgain
 pub mod Closing
 pub mod Compatible
 pub mod Deciding
+pub mod Doing
 pub mod Fitting
 pub mod GoodPlans
 pub mod Grounding
@@ -28,6 +29,7 @@ pub mod PuttingIn
 pub mod SearchStates
 pub mod Sensing
 pub mod Settled
+pub mod SettledEnd
 pub mod SidesInOrder
 pub mod Sorted
 pub mod Staying

@@ -25,7 +25,8 @@ use Rattle.pks_terms.proofs.SetLaws.{ordered_set_of, in_set_of, set_of_in, same_
 use Rattle.pks_laws.proofs.Values.{least_in}
 use Rattle.pks_laws.proofs.Least.{in_left, in_right, in_filter_map, in_order_swapped, literal_eq_itself, normal_again, normal_literal_again, value_literal, one_value, addition_in}
 use Rattle.pks_laws.proofs.Belonging.{saturated_end, end_of}
-use Rattle.pks_laws.specs.Lookup.{is_among, IsInOrder}
+use Rattle.pks_terms.specs.Moments.{IsInOrder}
+use Rattle.pks_laws.specs.Lookup.{is_among}
 
 -- what holds wherever a step leads from where it holds, holds where steps lead one by one
 

@@ -16,8 +16,8 @@ use Rattle.pks_laws.proofs.Belonging.{closed_values, closed_of}
 use Rattle.pks_laws.proofs.BelongingSteps.{initial_of, choice_of, assumed_of, action_of}
 use Rattle.pks_laws.proofs.BelongingHistories.{is_clash, history_or, settled_closed, settled_of}
 use Rattle.pks_laws.proofs.SidesInOrder.{closed_ordered, initial_ordered, assumed_ordered, progressed_ordered, settled_ordered}
-use Rattle.pks_laws.specs.Lookup.{AreInOrder}
-use Rattle.pks_laws.specs.OfSignature.{IsSideOf, IsMomentOf, AreMomentsOf, IsHistoryOf}
+use Rattle.pks_terms.specs.Moments.{AreInOrder, IsMomentOf, AreMomentsOf}
+use Rattle.pks_laws.specs.OfSignature.{IsSideOf, IsHistoryOf}
 use Rattle.pks_terms.specs.Handed.{IsStepOf}
 
 -- what is closed of databases of the signature is a moment

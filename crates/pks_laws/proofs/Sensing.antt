@@ -1,5 +1,5 @@
 -- What the justified adds of an action put into Kw and Kv is alike in two worlds in which the same is observed.
-use Rattle.std.proofs.Common.{◌≡◌, ◌&&◌, ◌==◌, ℕ, Bool, true, false, cond, List, [], ◌∷◌, ◌++◌, map, filter, flat_map, Option, Some, None, option_map, refl, sym, ap, ◌∙◌, subst, inl, inr, ⊎_elim, true≢false}
+use Rattle.std.proofs.Common.{◌≡◌, ◌&&◌, ◌==◌, ℕ, Bool, true, false, cond, List, [], ◌∷◌, ◌++◌, map, filter, flat_map, unwrap_or, Option, Some, None, option_map, refl, sym, ap, ◌∙◌, subst, inl, inr, ⊎_elim, true≢false}
 use Rattle.std.specs.List.{list_any}
 use Rattle.std.specs.Cmp.{Equal-is}
 use Rattle.std.specs.FinMap.{slice_cmp-IsAntisymmetric}
@@ -7,7 +7,7 @@ use Rattle.std.proofs.lemmas.Bool.{and_parts, and_from, eqb-true, eq-eqb}
 use Rattle.pks_terms.specs.Sets.{Each, IsIn}
 use Rattle.pks_terms.specs.Syntax.{Object, Parameter, Apply, Inner, Term, term_of, Relation, Named, Equality, Literal, Pattern}
 use Rattle.pks_terms.specs.Orders.{term_eq, conj_cmp}
-use Rattle.pks_terms.specs.Signatures.{Signature, predicate_shape, objects_of}
+use Rattle.pks_terms.specs.Signatures.{Signature, no_shape, predicate_shape, objects_of}
 use Rattle.pks_terms.specs.Worlds.{World, inner_value, value_of, relates, signed, true_in, all_true_in}
 use Rattle.pks_terms.specs.Databases.{Five, inner_normal}
 use Rattle.pks_terms.specs.Meaning.{AreOfTypes, IsWorld, is_instance, IsTrueIn, IsTrueOf}
@@ -21,6 +21,10 @@ use Rattle.pks_laws.proofs.Values.{inner_value-normal}
 use Rattle.pks_laws.proofs.Changing.{value_of-term_of, stable_value}
 use Rattle.pks_laws.proofs.PuttingIn.{SameAt, argument-map, true_in-literal_at, conj_at_alike, term_at_alike}
 use Rattle.pks_laws.proofs.Progressing.{untouched_same}
+
+-- a true atom has objects of its predicate's types
+pub true_atoms_typed : (s : Signature) (w : World) → IsWorld s w → (p : ℕ) (ds : List ℕ) → w.truth p ds ≡ true → AreOfTypes s (predicate_shape s p).arguments ds
+true_atoms_typed s w world p ds h = let a = world.atoms p ds h in subst (λ o. AreOfTypes s (unwrap_or o no_shape).arguments ds) (sym a.1) a.2
 
 module _ (s : Signature) (w w' : World) (d : Five) (m : IsTrueOf s w w' d) (given : List Inner) (sc : Schema) (same_args : (i : ℕ) → inner_value w (argument given i) ≡ inner_value w' (argument given i)) where
   abbrev pub acts : List Effect
@@ -154,7 +158,7 @@ module _ (s : Signature) (w w' : World) (d : Five) (m : IsTrueOf s w w' d) (give
       all_seen_one : (u u' : World) → IsWorld s u → (p : ℕ) (ss : List (Option Term)) (ds : List ℕ) → is_instance u ss ds ≡ true
           → filter (u.truth p) (instances_of s u (predicate_shape s p).arguments ss) ≡ filter (u'.truth p) (instances_of s u' (predicate_shape s p).arguments ss) → u.truth p ds ≡ true → (u'.truth p ds ≡ true) × (is_instance u' ss ds ≡ true)
       all_seen_one u u' wu p ss ds inst e t =
-          let here = in_filter (u.truth p) (instances_of s u (predicate_shape s p).arguments ss) ds (in_instances u (predicate_shape s p).arguments ss ds (wu.atoms p ds t) inst) t in
+          let here = in_filter (u.truth p) (instances_of s u (predicate_shape s p).arguments ss) ds (in_instances u (predicate_shape s p).arguments ss ds (true_atoms_typed s u wu p ds t) inst) t in
           each_in (λ ds. (u'.truth p ds ≡ true) × (is_instance u' ss ds ≡ true)) (filter (u'.truth p) (instances_of s u' (predicate_shape s p).arguments ss)) ds
           (each_filter (λ ds. (u'.truth p ds ≡ true) × (is_instance u' ss ds ≡ true)) (u'.truth p) (instances_of s u' (predicate_shape s p).arguments ss)
           (λ ds j h. (h, each_in (λ ds. is_instance u' ss ds ≡ true) (instances_of s u' (predicate_shape s p).arguments ss) ds (instances_are u' (predicate_shape s p).arguments ss) j))) (subst (IsIn ds) e here)

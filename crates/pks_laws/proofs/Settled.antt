@@ -16,13 +16,15 @@ use Rattle.pks_terms.specs.Actions.{Target, Set, Unset, Clear, Assign, Effect, I
 use Rattle.pks_terms.specs.Spoiling.{may_fire, some_may, is_stable, are_stable, spoils}
 use Rattle.pks_terms.specs.Problems.{Problem}
 use Rattle.pks_terms.specs.Settling.{History, inner_forms, argument_forms, term_forms, stable_forms, target_forms, undoes, assigns_alike, makes_same, can_be_undone, is_made_otherwise, lasting, lasted, fired, must_have_fired, cannot_have_fired, effects_of, forward, backward, grown, from_next, settled_steps, settle_round, settle_rounds, clashes}
+use Rattle.pks_terms.specs.Knowledge.{grounded, after_action}
 use Rattle.pks_terms.specs.Remembering.{TrueAlong}
-use Rattle.pks_terms.proofs.ListLaws.{each_append, each_in, each_of, each_map, each_filter, each_flat_map, each_added, each_weaker, each_from_all, found_in, values_of_all_some, none_in, any_in, all_from_each}
+use Rattle.pks_terms.proofs.ListLaws.{each_append, each_in, each_map, each_filter, each_flat_map, each_added, each_weaker, each_from_all, found_in, values_of_all_some, none_in, all_from_each}
 use Rattle.pks_laws.proofs.Values.{AllTrue, values_at_true, inner_object_value}
 use Rattle.pks_laws.proofs.Holding.{true_in-literal, true_in-negated, holds_true, denied_false, differ_true, same_objects_itself}
 use Rattle.pks_laws.proofs.Closing.{additions_true, no_clash}
 use Rattle.pks_laws.proofs.Changing.{last_written_has, last_written_after, values-term_of, fires_may, makes_true_may, makes_false_may, changes_may, stable_value, stable_values, unspoiled_stays}
 use Rattle.pks_laws.proofs.Progressing.{kept_known}
+use Rattle.pks_laws.proofs.Doing.{effects_do}
 
 -- ---- forms have the values of what they are forms of
 
@@ -254,11 +256,11 @@ first_true p w d (step ∷ steps) t = t.0
 -- each world along a history is a world of the signature
 abbrev pub WorldsAlong : Problem → World → List (Instance × Five) → Type 0
 WorldsAlong p w [] = IsWorld p.signature w
-WorldsAlong p w (step ∷ steps) = IsWorld p.signature w × WorldsAlong p (applied_to w (effects_of p step.0)) steps
+WorldsAlong p w (step ∷ steps) = IsWorld p.signature w × WorldsAlong p (after_action p w (grounded w step.0)) steps
 
 pub worlds_along : (p : Problem) (w : World) (d : Five) (steps : List (Instance × Five)) → TrueAlong p w d steps → WorldsAlong p w steps
 worlds_along p w d [] t = t.world
-worlds_along p w d (step ∷ steps) t = (t.0.world, worlds_along p (applied_to w (effects_of p step.0)) step.1 steps t.1)
+worlds_along p w d (step ∷ steps) t = (t.0.world, worlds_along p (after_action p w (grounded w step.0)) step.1 steps t.1)
 
 first_world : (p : Problem) (w : World) (steps : List (Instance × Five)) → WorldsAlong p w steps → IsWorld p.signature w
 first_world p w [] i = i
@@ -275,15 +277,19 @@ module _ (p : Problem) where
         regions = m.regions;
       }
 
-  forward_true : (w : World) (i : Instance) (d : Five) (after : Five) → IsTrueIn p.signature w d → IsTrueIn p.signature (applied_to w (effects_of p i)) after → AllTrue (applied_to w (effects_of p i)) (forward p i d)
-  forward_true w i d after m n =
-      let es = effects_of p i in
-      let T : Literal → Type 0 = λ l. true_in (applied_to w es) l ≡ true in
-      each_append T (lasting p.signature es d) (flat_map (fired p.signature es d) (with_later es)) (kept_known w d m es) (each_flat_map T (fired p.signature es d) (with_later es) (λ q j. fired_true w d m es after n q j))
+  forward_true : (w : World) (i : Instance) (d : Five) (after : Five) → IsTrueIn p.signature w d → IsTrueIn p.signature (after_action p w (grounded w i)) after → AllTrue (after_action p w (grounded w i)) (forward p i d)
+  forward_true w i d after m n = subst (λ (v : World). AllTrue v (forward p i d)) (effects_do p w i) (put_in (subst (λ (v : World). IsTrueIn p.signature v after) (sym (effects_do p w i)) n))
+    where
+      put_in : IsTrueIn p.signature (applied_to w (effects_of p i)) after → AllTrue (applied_to w (effects_of p i)) (forward p i d)
+      put_in n =
+          let es = effects_of p i in
+          let T : Literal → Type 0 = λ l. true_in (applied_to w es) l ≡ true in
+          each_append T (lasting p.signature es d) (flat_map (fired p.signature es d) (with_later es)) (kept_known w d m es) (each_flat_map T (fired p.signature es d) (with_later es) (λ q j. fired_true w d m es after n q j))
 
-  backward_true : (w : World) (i : Instance) (d : Five) (after : Five) → IsTrueIn p.signature w d → IsTrueIn p.signature (applied_to w (effects_of p i)) after → AllTrue w (backward p i d after)
-  backward_true w i d after m n =
+  backward_true : (w : World) (i : Instance) (d : Five) (after : Five) → IsTrueIn p.signature w d → IsTrueIn p.signature (after_action p w (grounded w i)) after → AllTrue w (backward p i d after)
+  backward_true w i d after m same =
       let es = effects_of p i in
+      let n = subst (λ (v : World). IsTrueIn p.signature v after) (sym (effects_do p w i)) same in
       let T : Literal → Type 0 = λ l. true_in w l ≡ true in
       each_append T (lasted p.signature es d after) (flat_map (must_have_fired p.signature es d after) (with_others es) ++ flat_map (cannot_have_fired p.signature es d after) (with_later es)) (lasted_true w d m es after n)
       (each_append T (flat_map (must_have_fired p.signature es d after) (with_others es)) (flat_map (cannot_have_fired p.signature es d after) (with_later es))
@@ -297,7 +303,7 @@ module _ (p : Problem) where
   settled_steps_true : (w : World) (before : Five) (d : Five) (steps : List (Instance × Five)) → IsTrueIn p.signature w d → WorldsAlong p w steps → TrueAlong p w before steps → TrueAlong p w d (settled_steps p before steps)
   settled_steps_true w before d [] m i t = m
   settled_steps_true w before d (step ∷ steps) m i t =
-      let v : World = applied_to w (effects_of p step.0) in
+      let v : World = after_action p w (grounded w step.0) in
       let after = first_true p v step.1 steps t.1 in (
         m,
         settled_steps_true v step.1 (grown p.signature step.1 (forward p step.0 before ++ from_next p step.1 steps)) steps
@@ -308,7 +314,7 @@ module _ (p : Problem) where
   -- settling keeps the instances
   worlds_kept : (w : World) (before : Five) (steps : List (Instance × Five)) → WorldsAlong p w steps → WorldsAlong p w (settled_steps p before steps)
   worlds_kept w before [] i = i
-  worlds_kept w before (step ∷ steps) i = (i.0, worlds_kept (applied_to w (effects_of p step.0)) step.1 steps i.1)
+  worlds_kept w before (step ∷ steps) i = (i.0, worlds_kept (after_action p w (grounded w step.0)) step.1 steps i.1)
 
   pub settle_round_true : (w : World) (h : History) → WorldsAlong p w h.steps → TrueAlong p w h.start h.steps → (WorldsAlong p w (settle_round p h).steps) × TrueAlong p w (settle_round p h).start (settle_round p h).steps
   unfolding settle_round
@@ -328,7 +334,7 @@ module _ (p : Problem) where
 
   steps_fine : (w : World) (d : Five) (steps : List (Instance × Five)) → TrueAlong p w d steps → (is_some (first_clash p.signature d) || list_any (λ (step : Instance × Five). is_some (first_clash p.signature step.1)) steps) ≡ false
   steps_fine w d [] t = ap (λ b. b || false) (moment_fine w d t)
-  steps_fine w d (step ∷ steps) t = ap (λ b. b || (is_some (first_clash p.signature step.1) || list_any (λ (step : Instance × Five). is_some (first_clash p.signature step.1)) steps)) (moment_fine w d t.0) ∙ steps_fine (applied_to w (effects_of p step.0)) step.1 steps t.1
+  steps_fine w d (step ∷ steps) t = ap (λ b. b || (is_some (first_clash p.signature step.1) || list_any (λ (step : Instance × Five). is_some (first_clash p.signature step.1)) steps)) (moment_fine w d t.0) ∙ steps_fine (after_action p w (grounded w step.0)) step.1 steps t.1
 
   -- a history that is true doesn't clash, however long it is settled
   pub settled_fine : (n : ℕ) (w : World) (h : History) → WorldsAlong p w h.steps → TrueAlong p w h.start h.steps → clashes p.signature (settle_rounds p n h) ≡ false

@@ -22,7 +22,8 @@ use Rattle.pks_laws.proofs.Least.{in_order-map}
 use Rattle.pks_terms.proofs.Sequences.{each_in_sequence}
 use Rattle.pks_laws.proofs.Belonging.{if_of, end_of}
 use Rattle.pks_laws.proofs.BelongingHistories.{later_each, other_each, is_clash, history_or}
-use Rattle.pks_laws.specs.Lookup.{IsInOrder, AreInOrder, IsInOrderAlong}
+use Rattle.pks_terms.specs.Moments.{IsInOrder, AreInOrder}
+use Rattle.pks_laws.specs.Lookup.{IsInOrderAlong}
 
 abbrev O : Literal → Type 0
 O = IsInOrder

@@ -5,13 +5,13 @@ use Rattle.std.proofs.lemmas.Bool.{and_parts, eqb-true}
 use Rattle.std.proofs.lemmas.Option.{none-some, same_Some, cond_some}
 use Rattle.pks_terms.specs.Sets.{Each, IsIn, all_some, choices_from}
 use Rattle.pks_terms.specs.Syntax.{Object, Parameter, Apply, Inner, Term, term_of, as_object}
-use Rattle.pks_terms.specs.Signatures.{Shape, Signature, fits_type, predicate_shape, objects_of, has_type}
+use Rattle.pks_terms.specs.Signatures.{Shape, Signature, fits_type, objects_of, has_type}
 use Rattle.pks_terms.specs.Worlds.{World, inner_value, value_of}
 use Rattle.pks_terms.specs.Databases.{Five}
-use Rattle.pks_terms.specs.Meaning.{AreOfTypes, IsWorld}
-use Rattle.pks_terms.specs.Actions.{Target, Set, Unset, Clear, Assign, Effect, argument, term_at, target_at, effect_at, written_truth, written_value, applied_to}
+use Rattle.pks_terms.specs.Meaning.{AreOfTypes, IsWorld, IsTrueIn}
+use Rattle.pks_terms.specs.Actions.{Target, Set, Unset, Clear, Assign, Effect, Instance, argument, term_at, target_at, effect_at, written_truth, written_value, applied_to}
 use Rattle.pks_terms.specs.Problems.{Problem, schema_of}
-use Rattle.pks_terms.specs.Branching.{as_inner, candidates}
+use Rattle.pks_terms.specs.Branching.{as_inner, candidates, instances}
 use Rattle.pks_terms.proofs.ListLaws.{each_in, in_mapped, in_appended, in_flat_mapped, map-map}
 use Rattle.pks_laws.proofs.Least.{in_filter_mapped}
 use Rattle.pks_laws.proofs.Values.{same_objects_same}
@@ -19,7 +19,8 @@ use Rattle.pks_laws.proofs.Changing.{last_written_has, value_of-term_of}
 use Rattle.pks_terms.proofs.Types.{wider}
 use Rattle.pks_laws.proofs.Instances.{allowed_instance}
 use Rattle.pks_terms.specs.Typed.{may_stand, AllMayStand, IsTypedTarget, IsTyped}
-use Rattle.pks_laws.proofs.GoodPlans.{WorldsStay}
+use Rattle.pks_terms.specs.Knowledge.{grounded, after_action}
+use Rattle.pks_laws.proofs.Doing.{effects_do}
 
 module _ (s : Signature) (w : World) (i : IsWorld s w) where
   chosen : (b : Bool) (o : Option Inner) (u : Inner) → cond b o None ≡ Some u → (b ≡ true) × (o ≡ Some u)
@@ -76,11 +77,11 @@ module _ (s : Signature) (w : World) (i : IsWorld s w) where
     all_stand (a ∷ tys) [] m = m
 
     -- what an effect writes is typed
-    writes_atom : (x : Target) (p : ℕ) (ds : List ℕ) → IsTypedTarget s params x → written_truth w p ds (target_at given x) ≡ Some true → AreOfTypes s (predicate_shape s p).arguments ds
+    writes_atom : (x : Target) (p : ℕ) (ds : List ℕ) → IsTypedTarget s params x → written_truth w p ds (target_at given x) ≡ Some true → (y : Shape) × (slice_get s.predicates p ≡ Some y) × AreOfTypes s y.arguments ds
     writes_atom (Set a) p ds m h =
         let q = and_parts (a.predicate == p) _ (cond_some _ true true h).0 in
         let same : map (λ t. value_of w (term_at given t)) a.arguments ≡ ds = sym (map-map (term_at given) (value_of w) a.arguments) ∙ same_objects_same _ _ q.1 in
-        subst (λ es. AreOfTypes s (predicate_shape s p).arguments es) same (subst (λ n. AreOfTypes s (predicate_shape s n).arguments (map (λ t. value_of w (term_at given t)) a.arguments)) (eqb-true a.predicate p q.0) (all_stand (predicate_shape s a.predicate).arguments a.arguments m))
+        (m.0, ap (slice_get s.predicates) (sym (eqb-true a.predicate p q.0)) ∙ m.1, subst (AreOfTypes s m.0.arguments) same (all_stand m.0.arguments a.arguments m.2))
     writes_atom (Unset a) p ds m h = absurd (true≢false (sym (cond_some _ false true h).1))
     writes_atom (Clear x) p ds m h = absurd (true≢false (sym (cond_some _ false true h).1))
     writes_atom (Assign f ts v) p ds m h = absurd (none-some true h)
@@ -99,7 +100,7 @@ module _ (s : Signature) (w : World) (i : IsWorld s w) where
     unfolding applied_to
     still_world effects all = record {
       atoms = λ p ds h.
-          last_written_has (λ y. y ≡ true → AreOfTypes s (predicate_shape s p).arguments ds) (written_truth w p ds) w (map (effect_at given) effects) _
+          last_written_has (λ y. y ≡ true → (x : Shape) × (slice_get s.predicates p ≡ Some x) × AreOfTypes s x.arguments ds) (written_truth w p ds) w (map (effect_at given) effects) _
           (λ e y j k r t. let o = in_mapped (effect_at given) effects e j in
           writes_atom o.0.target p ds (each_in (λ (e : Effect). IsTypedTarget s params e.target) effects o.0 all o.1) (ap (λ (e : Effect). written_truth w p ds e.target) o.2 ∙ r ∙ ap Some t)) (i.atoms p ds) h;
       typed = λ f ds y q.
@@ -108,7 +109,8 @@ module _ (s : Signature) (w : World) (i : IsWorld s w) where
           writes_value o.0.target f ds v y q (each_in (λ (e : Effect). IsTypedTarget s params e.target) effects o.0 all o.1) (ap (λ (e : Effect). written_value w f ds e.target) o.2 ∙ r)) (i.typed f ds y q);
     }
 
-pub worlds_stay : (p : Problem) → IsTyped p → WorldsStay p
+pub worlds_stay : (p : Problem) → IsTyped p → (w : World) (d : Five) (i : Instance) → IsWorld p.signature w → IsTrueIn p.signature w d → IsIn i (instances p d) → IsWorld p.signature (after_action p w (grounded w i))
 worlds_stay p typed w d x i m chosen =
     let sc = schema_of p x.action in
-    still_world p.signature w i sc.parameters x.arguments (arguments_typed p.signature w i d sc.parameters x.arguments (allowed_instance p d x chosen).1) sc.effects (typed x.action)
+    subst (IsWorld p.signature) (effects_do p w x)
+    (still_world p.signature w i sc.parameters x.arguments (arguments_typed p.signature w i d sc.parameters x.arguments (allowed_instance p d x chosen).1) sc.effects (typed x.action))

@@ -18,7 +18,8 @@ use Rattle.pks_laws.proofs.Belonging.{L, T, in_range_of}
 use Rattle.pks_laws.proofs.BelongingSteps.{declared, choice_of}
 use Rattle.pks_laws.proofs.BelongingHistories.{is_clash, history_or}
 use Rattle.pks_laws.proofs.SearchStates.{last_of_it, start_of, acts_of, takes_of}
-use Rattle.pks_laws.specs.OfSignature.{IsSideOf, AreMomentsOf}
+use Rattle.pks_terms.specs.Moments.{AreMomentsOf}
+use Rattle.pks_laws.specs.OfSignature.{IsSideOf}
 
 -- an object that may be the value of a term is declared
 declared_object : (s : Signature) (x : Term) (e : ℕ) → T s x → IsIn e (range_of s x) → e < length s.objects

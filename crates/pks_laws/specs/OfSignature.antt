@@ -4,13 +4,11 @@ use Rattle.pks_terms.specs.Sets.{Each, IsIn}
 use Rattle.pks_terms.specs.Syntax.{Literal}
 use Rattle.pks_terms.specs.Signatures.{Signature, range_of, is_foreign}
 use Rattle.pks_terms.specs.Databases.{Five, values_at}
-use Rattle.pks_terms.specs.Closure.{IsClosed}
 use Rattle.pks_terms.specs.Problems.{Problem}
 use Rattle.pks_terms.specs.Branching.{Choice, BranchOn, CasesOn, Side, AsTrue, AsFalse, Is}
 use Rattle.pks_terms.specs.Settling.{History}
 use Rattle.pks_terms.specs.Valid.{AreOf}
 use Rattle.pks_terms.specs.Handed.{IsStepOf}
-use Rattle.pks_laws.specs.Lookup.{AreInOrder}
 
 -- each value that the literals give of a function is an object of its result type
 abbrev pub HasOwnValues : Signature → List Literal → Type 0
@@ -27,14 +25,3 @@ IsSideOf s c side = ⊥
 pub record IsHistoryOf (p : Problem) (h : History) : Type 0 where
   pub start : AreOf p.signature h.start
   pub steps : Each (λ step. IsStepOf p step.0 × AreOf p.signature step.1) h.steps
-
--- closed databases of the signature, equations in order
-pub record IsMomentOf (s : Signature) (d : Five) : Type 0 where
-  pub of : AreOf s d
-  pub ordered : AreInOrder d
-  pub closed : IsClosed s d
-
--- so at each moment, and each instance is one of the problem
-pub record AreMomentsOf (p : Problem) (h : History) : Type 0 where
-  pub start : IsMomentOf p.signature h.start
-  pub steps : Each (λ step. IsStepOf p step.0 × IsMomentOf p.signature step.1) h.steps
