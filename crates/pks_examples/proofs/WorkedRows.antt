@@ -24,6 +24,7 @@ use Rattle.pks_terms.specs.Talk.{Over, Unfit, Missing, file_text, answers_in, st
 use Rattle.pks_terms.specs.Shapes.{shapes, derived_adds, derived_text, derive_text}
 use Rattle.pks_terms.specs.Nodes.{GoalNode, BranchNode, DoNode, first_ends, IsShared, shared_text}
 use Rattle.std.specs.Prelude.{codes}
+use Rattle.std.specs.Fmt.{digits}
 use Rattle.pks_terms.specs.Valid.{is_literal, term_fits}
 use Rattle.pks_examples.specs.Worked.{fact, fact_of, equal, unequal, knowing, alive, pour, look, lawn, lawn_at_first, lawn_poured, lawn_looked, lawn_dead, lawn_living, lawn_plan, key_in_hall, done, sweep, alias_open, alias_elsewhere, places_known, r, groups, groups_start, groups_denied, p, q, pair, one_moment, first_tub, second_tub, empty_all, splash, tubs, tubs_start, tubs_emptied, tubs_splashed, tubs_emptied_again, action, spot, crate_signature, crate_known, tolls, lawn_names, lawn_leaves, lawn_nodes, six_lines, safe_signature, safe_names, safe_plan, dial, boxes, wrong_value}
 
@@ -254,7 +255,7 @@ lawn_recalls = record {
 }
 
 pub lawn_recall_printed : recall_text lawn_names lawn_leaves ≡ codes "leaf 1\nmoment 0\n(alive)\n(not (poison))\nmoment 1\n(alive)\n(not (poison))\nmoment 2\n(alive)\n(not (poison))\nleaf 2\nmoment 0\n(alive)\n(poison)\nmoment 1\n(not (alive))\n(poison)\nmoment 2\n(not (alive))\n(poison)\n"
-unfolding recall_text literal_text
+unfolding recall_text literal_text digits
 lawn_recall_printed = refl
 
 -- ---- dialogues
@@ -273,12 +274,12 @@ lawn_talk = (refl, refl)
 
 pub lawn_unfit : (talked_text (talk lawn.signature lawn_names lawn_plan (codes "maybe" ∷ [])) ≡ codes "do (pour)\ndo (look)\ntest (alive)\n") × ((talk lawn.signature lawn_names lawn_plan (codes "maybe" ∷ [])).end ≡ Unfit 1)
     × (refusal_text (answer_refusal (six_lines ++ codes ".\nmaybe\n") 1 320) ≡ codes "refused 8:1 320\n")
-unfolding talk instance_text conj_text literal_text stop_line
+unfolding talk instance_text conj_text literal_text stop_line digits
 lawn_unfit = (refl, refl, refl)
 
 pub lawn_silent : (talked_text (talk lawn.signature lawn_names lawn_plan []) ≡ codes "do (pour)\ndo (look)\ntest (alive)\n") × ((talk lawn.signature lawn_names lawn_plan []).end ≡ Missing 1)
     × (refusal_text (answer_refusal (six_lines ++ codes ".\n") 1 321) ≡ codes "refused 8:1 321\n")
-unfolding talk instance_text conj_text literal_text stop_line
+unfolding talk instance_text conj_text literal_text stop_line digits
 lawn_silent = (refl, refl, refl)
 
 pub safe_talk : (talked_text (talk safe_signature safe_names safe_plan (codes "c3" ∷ [])) ≡ codes "do (read)\nvalue (combo)\ndo (dial c3)\ngoal\n") × ((talk safe_signature safe_names safe_plan (codes "c6" ∷ [])).end ≡ Unfit 1)
@@ -321,7 +322,7 @@ lawn_shares = record {
 }
 
 pub lawn_shared_printed : shared_text lawn_names lawn_nodes ≡ codes "plan depth 3 nodes 4\n1 goal\n2 branch (alive) true 1 false 1\n3 (look) then 2\n4 (pour) then 3\n"
-unfolding shared_text instance_text conj_text literal_text
+unfolding shared_text instance_text conj_text literal_text digits
 lawn_shared_printed = refl
 
 -- ---- modes
