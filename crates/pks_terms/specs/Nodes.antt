@@ -33,6 +33,7 @@ abbrev mutual
   Unfolds nodes n (Branch c t u) = (k m : ℕ) × (at_number nodes n ≡ Some (BranchNode c k m)) × Unfolds nodes k t × Unfolds nodes m u
   Unfolds nodes n (Cases x k) = (cases : List (ℕ × ℕ)) × (at_number nodes n ≡ Some (CasesNode x cases)) × UnfoldEach nodes cases k
 
+  -- the nodes of the cases unfold to their trees, in order
   pub UnfoldEach : List Node → List (ℕ × ℕ) → Chain → Type 0
   UnfoldEach nodes cases End = cases ≡ []
   UnfoldEach nodes cases (More e t k) =
@@ -59,6 +60,7 @@ abbrev mutual
   walk_of (Branch c t u) = walk_of t ++ (walk_of u ++ Branch c t u ∷ [])
   walk_of (Cases x k) = walk_in k ++ Cases x k ∷ []
 
+  -- so of the cases, in order
   pub walk_in : Chain → List Tree
   walk_in End = []
   walk_in (More e t k) = walk_of t ++ walk_in k

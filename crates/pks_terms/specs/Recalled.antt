@@ -25,6 +25,7 @@ abbrev mutual
       × ((z : State) × Takes p h (BranchOn c) AsFalse z × AreLeaves p z u zs) × (xs ≡ ys ++ zs))
   AreLeaves p x (Cases t k) xs = IsAt x (λ h. AreLeavesOfEach p h t k xs)
 
+  -- so it is of the cases of a term, in order
   pub AreLeavesOfEach : Problem → History → Term → Chain → List State → Type 0
   AreLeavesOfEach p h t End xs = xs ≡ []
   AreLeavesOfEach p h t (More e u k) xs =
@@ -47,6 +48,7 @@ abbrev mutual
   leaf_count (Branch c t u) = leaf_count t + leaf_count u
   leaf_count (Cases x k) = leaf_count_in k
 
+  -- and how many cases have
   pub leaf_count_in : Chain → ℕ
   leaf_count_in End = 0
   leaf_count_in (More e t k) = leaf_count t + leaf_count_in k
@@ -60,6 +62,7 @@ abbrev mutual
   leaf_of p (Branch c t u) w = if all_true_in w c then leaf_of p t w else option_map (λ n. leaf_count t + n) (leaf_of p u w)
   leaf_of p (Cases x k) w = leaf_of_case p k (value_of w x) w
 
+  -- by the case of the value
   pub leaf_of_case : Problem → Chain → ℕ → World → Option ℕ
   leaf_of_case p End e w = None
   leaf_of_case p (More o t k) e w = if o == e then leaf_of p t w else option_map (λ n. leaf_count t + n) (leaf_of_case p k e w)

@@ -131,6 +131,7 @@ abbrev mutual
   talk_from s names (Cases x chain) k answers =
       asking (object_named names (range_of s x)) (codes "value " ++ term_text names x) (λ e k answers. talk_case s names chain e k answers) k answers
 
+  -- the walk of the case of the value, if there is one
   pub talk_case : Signature → Names → Chain → ℕ → ℕ → List Text → Talked
   talk_case s names End e k answers = ending NoCase answers
   talk_case s names (More o t chain) e k answers = if nat_eq o e then talk_from s names t k answers else talk_case s names chain e k answers
@@ -185,6 +186,7 @@ abbrev mutual
       truth_text (all_true_in w c) ∷ (if all_true_in w c then world_answers p names t w else world_answers p names u w)
   world_answers p names (Cases x chain) w = name_in names.objects (value_of w x) ∷ case_answers p names chain (value_of w x) w
 
+  -- so in the case of the value
   pub case_answers : Problem → Names → Chain → ℕ → World → List Text
   case_answers p names End e w = []
   case_answers p names (More o t chain) e w = if nat_eq o e then world_answers p names t w else case_answers p names chain e w
