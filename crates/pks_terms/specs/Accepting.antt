@@ -1,4 +1,4 @@
--- Which proofs are accepted.
+-- When a line of a proof is allowed, and when a proof is accepted.
 use Rattle.std.specs.Prelude.{ℕ, zero, suc, Bool, false, ◌&&◌, ◌||◌, ◌==◌, nat_lt, nat_le, length, List, slice_get}
 use Rattle.std.specs.List.{list_any, list_all}
 use Rattle.std.specs.Option.{option_map_or}
@@ -11,16 +11,16 @@ use Rattle.pks_terms.specs.Proofs.{Fact, FactLit, Path, deeds, final_moment, Rea
 use Rattle.pks_terms.specs.Judging.{Judge, fact_eq, is_literal_that, is_region_that, by_cited}
 use Rattle.pks_terms.specs.Reasons.{is_given_item, is_by_side, is_same, is_swapped, is_only, is_other, is_in_range, is_left_out, is_kept, is_from_later, is_effect, is_needed, is_failed, is_grown, is_cleared}
 
--- so of the effects of the action after the moment; there is one
+-- an action follows the moment, and its effects pass
 abbrev pub from_moment : Problem → Path → ℕ → (List Effect → Bool) → Bool
 from_moment p path m q = option_map_or (λ i. q (effects_of p i)) (slice_get (deeds path) m) false
 
--- so of the moment before and the effects of the action that leads from it to this moment
+-- an action leads to the moment, and the moment before passes with its effects
 abbrev pub to_moment : Problem → Path → ℕ → (ℕ → List Effect → Bool) → Bool
 to_moment p path zero q = false
 to_moment p path (suc m) q = from_moment p path m (q m)
 
--- the fact may stand at the moment, for the reason, by what may be relied on
+-- the fact may stand at the moment for the reason: that of an action that leads to the moment, for keep, effect, grow and clear, and of one that follows it, for back, must and cannot
 abbrev pub is_allowed_by : Problem → Path → Judge → ℕ → Fact → Reason → Bool
 is_allowed_by p path j m f (ByGiven n) = is_given_item p n m f
 is_allowed_by p path j m f (BySide n) = is_literal_that (is_by_side path j n m) f
@@ -38,7 +38,7 @@ is_allowed_by p path j m f ByCannot = from_moment p path m (λ es. is_literal_th
 is_allowed_by p path j m f ByGrow = to_moment p path m (λ k es. is_region_that (is_grown j k es) f)
 is_allowed_by p path j m f ByClear = to_moment p path m (λ k es. is_region_that (is_cleared j k es) f)
 
--- the line stands at a moment of the path, and is allowed by its reason and what it cites
+-- the line stands at a moment of the path, and is allowed by its reason and the lines that it cites
 abbrev pub is_allowed_line : Problem → Path → Proof → Line → Bool
 is_allowed_line p path proof line =
     nat_le line.moment (final_moment path) && is_allowed_by p path (by_cited proof line.cites) line.moment line.fact line.reason
@@ -59,6 +59,6 @@ are_used proof = list_all (λ q. (q.0 == length proof) || list_any (λ line. lis
 abbrev pub ends_with : Path → Proof → Literal → Bool
 ends_with path proof l = option_map_or (λ line. (line.moment == final_moment path) && fact_eq line.fact (FactLit l)) (nth proof (length proof)) false
 
--- the proof shows that the literal is known at the end of the path
+-- the proof is accepted: every line is allowed by its reason and cites smaller numbers alone, every line but the last is cited, and the last is the literal at the last moment
 unfoldable pub accepts : Problem → Path → Proof → Literal → Bool
 accepts p path proof l = are_allowed p path proof && (are_used proof && ends_with path proof l)

@@ -48,6 +48,7 @@ abbrev mutual
   owed p path (Branch c t u) = owed p (path ++ Took (BranchOn c) AsTrue ∷ []) t ++ owed p (path ++ Took (BranchOn c) AsFalse ∷ []) u
   owed p path (Cases x k) = owed_in p path x k
 
+  -- so for each case of a term
   pub owed_in : Problem → Path → Term → Chain → List (Path × Literal)
   owed_in p path x End = []
   owed_in p path x (More e t k) = owed p (path ++ Took (CasesOn x) (Is e) ∷ []) t ++ owed_in p path x k

@@ -1,4 +1,4 @@
--- Proofs: lines along a path, each with a fact at a moment and the reason for it.
+-- Proofs: lines along a path, each with a fact at a moment and the reason why it may stand.
 use Rattle.std.specs.Prelude.{ℕ, zero, suc, ◌≡◌, true, List, [], ◌∷◌, length, take, Option, Some, None, slice_get}
 use Rattle.std.specs.List.{filter_map}
 use Rattle.pks_terms.specs.Sets.{Each}
@@ -16,13 +16,13 @@ use Rattle.pks_terms.specs.Remembering.{present}
 
 -- ---- facts
 
--- a literal, an exclusive group, a closed region
+-- a literal, an exclusive group, or a region
 pub data Fact : Type 0 where
   FactLit : Literal → Fact
   FactKx : List Literal → Fact
   FactLcw : Entry → Fact
 
--- what a fact says of a world: the literal is true, exactly one member of the group is, the region is met
+-- the fact is so in the world: the literal is true, exactly one member of the group is, the region is met
 abbrev pub IsFactOf : World → Fact → Type 0
 IsFactOf w (FactLit l) = true_in w l ≡ true
 IsFactOf w (FactKx g) = exactly_one (true_in w) g ≡ true
@@ -30,25 +30,25 @@ IsFactOf w (FactLcw e) = Meets w e
 
 -- ---- paths
 
--- one piece of the way that a run takes through a tree: an action is done, a side of a choice is taken
+-- one piece of the way that a run takes through a tree: an action is done, or a side of a choice is taken
 pub data Turn : Type 0 where
   Went : Instance → Turn
   Took : Choice → Side → Turn
 
--- the way, from the root on
+-- the way, from the root of the tree on
 abbrev pub Path : Type 0
 Path = List Turn
 
--- the instance that is done
+-- the action of a piece, where one is done
 abbrev pub went : Turn → Option Instance
 went (Went i) = Some i
 went (Took c side) = None
 
--- the actions, in order. Moment 0 is before the first of them, and each leads to the next moment
+-- the actions, in order: moment 0 is before the first of them, and each leads to the next moment
 abbrev pub deeds : Path → List Instance
 deeds path = filter_map went path
 
--- the last moment
+-- the moment after the last action
 abbrev pub final_moment : Path → ℕ
 final_moment path = length (deeds path)
 
@@ -64,7 +64,7 @@ takings m [] = []
 takings m (Went i ∷ rest) = takings (suc m) rest
 takings m (Took c side ∷ rest) = record { moment = m; choice = c; side = side } ∷ takings m rest
 
--- the world takes the path: each side is so in the world that the actions before it lead to, their arguments read in each world
+-- the world takes the path: each side is so in the world that the actions before it lead to
 abbrev pub GoesAlong : Problem → World → Path → Type 0
 GoesAlong p w [] = Unit {0}
 GoesAlong p w (Went i ∷ rest) = GoesAlong p (applied_to w (effects_of p i)) rest
@@ -80,7 +80,7 @@ IsPathOf p path = Each (IsStepOf p) (deeds path)
 
 -- ---- proofs
 
--- why a line may stand. Initial items, and the sides that the path takes, are counted from 1
+-- why a line may stand; initial items, and the sides that the path takes, are counted from 1
 pub data Reason : Type 0 where
   ByGiven : ℕ → Reason
   BySide : ℕ → Reason
@@ -105,7 +105,7 @@ pub record Line : Type 0 where
   pub reason : Reason
   pub cites : List ℕ
 
--- the lines, counted from 1
+-- the lines, which are counted from 1
 abbrev pub Proof : Type 0
 Proof = List Line
 
