@@ -20,7 +20,7 @@ abbrev pub to_moment : Problem → Path → ℕ → (ℕ → List Effect → Boo
 to_moment p path zero q = false
 to_moment p path (suc m) q = from_moment p path m (q m)
 
--- the fact may stand at the moment for the reason: that of an action that leads to the moment, for keep, effect, grow and clear, and of one that follows it, for back, must and cannot
+-- the fact may stand at the moment for the reason, by what is cited: keep, effect, grow and clear speak of the action that leads to the moment, back, must and cannot of the one that follows it
 abbrev pub is_allowed_by : Problem → Path → Judge → ℕ → Fact → Reason → Bool
 is_allowed_by p path j m f (ByGiven n) = is_given_item p n m f
 is_allowed_by p path j m f (BySide n) = is_literal_that (is_by_side path j n m) f

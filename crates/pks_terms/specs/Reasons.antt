@@ -198,14 +198,14 @@ abbrev pub assignment : Term → Term → List Target
 assignment (Apply f ts) value = Assign f ts value ∷ []
 assignment t value = []
 
--- the targets of which a literal with this relation, these arguments and this sign is what they make so; either side of an equation may be the place
+-- the targets that make so just the literal with this relation, these arguments and this sign; either side of an equation may be the place
 abbrev pub targets_as : Relation → List Term → Bool → List Target
 targets_as (Named p) ts true = Set (record { predicate = p; arguments = ts }) ∷ []
 targets_as (Named p) ts false = Unset (record { predicate = p; arguments = ts }) ∷ []
 targets_as Equality (t ∷ u ∷ []) true = assignment t u ++ assignment u t
 targets_as Equality ts b = []
 
--- the targets of which the literal is what they make so
+-- the targets that make just this literal so
 abbrev pub targets_of : Literal → List Target
 targets_of l = targets_as l.relation l.arguments l.positive
 
