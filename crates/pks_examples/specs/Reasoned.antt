@@ -15,9 +15,11 @@ proved m l r cites = record { moment = m; fact = FactLit l; reason = r; cites = 
 
 -- ---- the door: it is open; is it?
 
+-- the door is open
 abbrev pub open_door : Literal
 open_door = fact 0
 
+-- the problem of the door
 abbrev pub door : Problem
 door = record { version = 1; signature = facts_alone (shape [] ∷ []); schemas = []; init = StartKf open_door ∷ []; goal = Now (known open_door) ∷ [] }
 
@@ -29,15 +31,17 @@ door_given n = proved 0 open_door (ByGiven n) [] ∷ []
 abbrev pub door_entry : Entry
 door_entry = record { path = []; literal = open_door; proof = door_given 1 }
 
+-- the names of the door
 abbrev pub door_names : Names
 door_names = record { objects = []; predicates = codes "open" ∷ []; functions = []; actions = [] }
 
 -- ---- the lawn
 
--- poured; and then looked, and seen alive or dead
+-- poured
 abbrev pub poured : Path
 poured = Went pour ∷ []
 
+-- poured, looked, and seen alive or dead
 abbrev pub seen : Side → Path
 seen side = Went pour ∷ Went look ∷ Took (BranchOn (alive ∷ [])) side ∷ []
 
@@ -74,21 +78,27 @@ poison_entry = record { path = seen AsFalse; literal = poison; proof = poison_fo
 abbrev pub always : Target → Effect
 always x = record { condition = []; target = x }
 
+-- the cup
 abbrev pub cup : Term
 cup = Object 0
 
+-- the pan
 abbrev pub pan : Term
 pan = Object 1
 
+-- what is picked
 abbrev pub picked : Term
 picked = Apply 0 []
 
+-- the thing is on the shelf
 abbrev pub shelved : Term → Atom
 shelved t = record { predicate = 0; arguments = t ∷ [] }
 
+-- the door of the shelf is open
 abbrev pub door_open : Literal
 door_open = fact 1
 
+-- anything is on the shelf
 abbrev pub any_shelved : Pattern
 any_shelved = record { predicate = 0; slots = None ∷ [] }
 
@@ -159,5 +169,6 @@ pan_by_clear =
 abbrev pub cup_by_keep : Proof
 cup_by_keep = proved 0 (equal picked cup) (ByGiven 1) [] ∷ proved 1 (equal picked cup) ByKeep (1 ∷ []) ∷ []
 
+-- the names of the shelf
 abbrev pub shelf_names : Names
 shelf_names = record { objects = codes "cup" ∷ codes "pan" ∷ []; predicates = codes "shelved" ∷ codes "open" ∷ []; functions = codes "picked" ∷ []; actions = [] }

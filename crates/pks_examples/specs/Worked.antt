@@ -332,9 +332,11 @@ lawn_names = record { objects = []; predicates = codes "alive" ∷ codes "poison
 
 -- ---- the lawn's plan at its ends, and with its equal parts once
 
+-- the lawn's histories at the ends of its plan
 abbrev pub lawn_leaves : List State
 lawn_leaves = At lawn_living ∷ At lawn_dead ∷ []
 
+-- the nodes of the lawn's plan
 abbrev pub lawn_nodes : List Node
 lawn_nodes = GoalNode ∷ BranchNode (alive ∷ []) 1 1 ∷ DoNode look 2 ∷ DoNode pour 3 ∷ []
 
@@ -344,12 +346,15 @@ six_lines = codes "1\n2\n3\n4\n5\n6\n"
 
 -- ---- the safe: reading tells its combination, one of five numbers, and dialling it opens the safe
 
+-- the combination
 abbrev pub combo : Inner
 combo = Apply 0 []
 
+-- the signature of the safe
 abbrev pub safe_signature : Signature
 safe_signature = record { types = 1; parents = None ∷ []; objects = 0 ∷ 0 ∷ 0 ∷ 0 ∷ 0 ∷ []; predicates = shape [] ∷ []; functions = shape [] ∷ [] }
 
+-- the names of the safe
 abbrev pub safe_names : Names
 safe_names = record {
   objects = codes "c1" ∷ codes "c2" ∷ codes "c3" ∷ codes "c4" ∷ codes "c5" ∷ [];

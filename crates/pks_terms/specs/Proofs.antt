@@ -7,12 +7,11 @@ use Rattle.pks_terms.specs.Worlds.{World, true_in}
 use Rattle.pks_terms.specs.Databases.{Entry}
 use Rattle.pks_terms.specs.Meaning.{Meets}
 use Rattle.pks_terms.specs.Sets.{exactly_one}
-use Rattle.pks_terms.specs.Actions.{Instance, applied_to}
+use Rattle.pks_terms.specs.Actions.{Instance}
 use Rattle.pks_terms.specs.Problems.{Problem}
 use Rattle.pks_terms.specs.Branching.{Choice, Side, IsSo}
-use Rattle.pks_terms.specs.Settling.{effects_of}
 use Rattle.pks_terms.specs.Handed.{IsStepOf}
-use Rattle.pks_terms.specs.Remembering.{present}
+use Rattle.pks_terms.specs.Knowledge.{grounded, after_action, after_actions, ground_actions}
 
 -- ---- facts
 
@@ -67,12 +66,12 @@ takings m (Took c side ∷ rest) = record { moment = m; choice = c; side = side 
 -- the world takes the path: each side is so in the world that the actions before it lead to
 abbrev pub GoesAlong : Problem → World → Path → Type 0
 GoesAlong p w [] = Unit {0}
-GoesAlong p w (Went i ∷ rest) = GoesAlong p (applied_to w (effects_of p i)) rest
+GoesAlong p w (Went i ∷ rest) = GoesAlong p (after_action p w (grounded w i)) rest
 GoesAlong p w (Took c side ∷ rest) = IsSo w c side × GoesAlong p w rest
 
--- the world at a moment of the path, for a first world
+-- the world at a moment of the path, for a first world: that after the ground actions which the instances before it are
 abbrev pub world_along : Problem → World → Path → ℕ → World
-world_along p w path m = present p w (take m (deeds path))
+world_along p w path m = after_actions p w (ground_actions p w (take m (deeds path)))
 
 -- each action is one of the problem, with arguments of its parameters' types
 abbrev pub IsPathOf : Problem → Path → Type 0
