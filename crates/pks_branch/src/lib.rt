@@ -4,6 +4,7 @@
 pub mod assuming;
 mod candidates;
 pub mod choices;
+mod early;
 pub mod leaving;
 #[cfg(test)]
 mod tests;
