@@ -5,14 +5,11 @@ use Rattle.pks_text.specs.Tokens.{IsWord, BeginsWith}
 
 -- A place is a number of bytes from the beginning of the text. A word stands at the place of its first byte.
 -- A list stands from its opening parenthesis up to the place behind its closing one.
--- forms and their parts, the one by the other
 mutual
-  -- a word, or a list of forms
   pub data Form : Type 0 where
     Word : (text : List ℕ) → (at : ℕ) → Form
     Listing : (parts : Forms) → (at : ℕ) → (end : ℕ) → Form
 
-  -- forms, one behind the other
   pub data Forms : Type 0 where
     no_forms : Forms
     form : Form → Forms → Forms
@@ -27,7 +24,7 @@ abbrev pub forms_of : List Form → Forms
 forms_of [] = no_forms
 forms_of (f ∷ fs) = form f (forms_of fs)
 
--- the place where a form begins
+-- where a form stands
 abbrev pub place_of : Form → ℕ
 place_of (Word text at) = at
 place_of (Listing parts at end) = at
@@ -38,7 +35,7 @@ pub data Mark : Type 0 where
   Opens : (at : ℕ) → Mark
   Closes : (end : ℕ) → Mark
 
--- the bytes of a token
+-- the bytes of the token
 abbrev pub mark_text : Mark → List ℕ
 mark_text (Said text at) = text
 mark_text (Opens at) = codes "("
@@ -50,20 +47,18 @@ mark_end (Said text at) = at + length text
 mark_end (Opens at) = at + 1
 mark_end (Closes end) = end
 
--- a word is made of word bytes
+-- what is called a word has the bytes of one
 abbrev pub IsOfClass : Mark → Type 0
 IsOfClass (Said text at) = IsWord text
 IsOfClass (Opens at) = Unit {0}
 IsOfClass (Closes end) = Unit {0}
 
--- the tokens of forms, the one by the other
+-- the tokens of forms, in order
 abbrev mutual
-  -- the tokens of a form, in order
   pub form_marks : Form → List Mark
   form_marks (Word text at) = Said text at ∷ []
   form_marks (Listing parts at end) = Opens at ∷ (forms_marks parts ++ Closes end ∷ [])
 
-  -- the tokens of forms, in order
   pub forms_marks : Forms → List Mark
   forms_marks no_forms = []
   forms_marks (form f fs) = form_marks f ++ forms_marks fs
