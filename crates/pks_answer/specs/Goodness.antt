@@ -7,7 +7,7 @@ use Rattle.pks_terms.specs.Knowledge.{Good, run_of}
 use Rattle.pks_terms.specs.Jobs.{Job, Check, Plan, Exec, Bench}
 use Rattle.pks_terms.specs.Printed.{Text, tree_text, run_text, bench_text}
 use Rattle.pks_terms.specs.Answers.{File, GivenWorld}
-use Rattle.pks_search.specs.Past.{RemembersPast}
+use Rattle.pks_terms.specs.Remembering.{RemembersPast}
 
 -- a plan that can be carried out wherever the file's items hold
 pub record IsGood (p : Problem) (t : Tree) : Type 0 where

@@ -10,7 +10,6 @@ use Rattle.pks_terms.specs.Answers.{unjustified}
 use Rattle.pks_terms.specs.Valid.{IsValid}
 use Rattle.pks_laws.proofs.Accepting.{all_justified}
 use Rattle.pks_laws.proofs.GoodPlans.{plan_good}
-use Rattle.pks_laws.proofs.Staying.{worlds_stay}
 use Rattle.pks_laws.proofs.Validity.{valid_typed}
 use Rattle.pks_exec.specs.Runs.{EndsWith}
 
@@ -56,4 +55,4 @@ mutual
 -- the run of a plan in a compatible world, where no add is without a case
 pub plan_ends : (p : Problem) (t : Tree) (w : World) → IsValid p → unjustified p ≡ [] → IsPlan p t → IsCompatible p w → EndsWith AtGoal (run_of p t w)
 plan_ends p t w valid none plan compatible =
-    good_ends p [] w t (plan_good p (all_justified p none) (worlds_stay p (valid_typed p valid)) t plan w compatible)
+    good_ends p [] w t (plan_good p (all_justified p none) (valid_typed p valid) t plan w compatible)

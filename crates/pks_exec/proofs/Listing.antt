@@ -10,6 +10,7 @@ use Rattle.pks_terms.specs.Meaning.{IsWorld, Meets, is_value_of}
 use Rattle.pks_terms.specs.Problems.{Problem, known_start, atom_on, initial_entry, initial}
 use Rattle.pks_terms.proofs.ListLaws.{any_set_of}
 use Rattle.pks_terms.proofs.OrderLaws.{literal_cmp_tells, atom_cmp_tells}
+use Rattle.pks_laws.proofs.Sensing.{true_atoms_typed}
 use Rattle.pks_world.specs.Contents.{ground}
 use Rattle.pks_exec.specs.Instances.{is_value, is_listed, is_told, all_instances}
 use Rattle.pks_exec.proofs.Meeting.{each_passes, some_fails, objects_below}
@@ -60,7 +61,7 @@ module _ (p : Problem) (w : World) (x : Pattern) where
   told_meets : IsWorld p.signature w → tells ≡ true → Meets w (initial_entry (initial p).kf x)
   told_meets world all = record {
     closed = λ ds is holds.
-        let told = each_passes w (length p.signature.objects) (is_told p w x.predicate) x.slots [] ds all is (objects_below p.signature _ ds (world.atoms x.predicate ds holds)) in
+        let told = each_passes w (length p.signature.objects) (is_told p w x.predicate) x.slots [] ds all is (objects_below p.signature _ ds (true_atoms_typed p.signature w world x.predicate ds holds)) in
         listed_is p w x ds ∙ (sym (ap (λ t. not t || is_listed p w x.predicate ds) holds) ∙ told);
   }
 

@@ -1,13 +1,13 @@
 -- Facts without a fault name atoms and values of the declared types.
 use Rattle.std.proofs.Common.{◌≡◌, ◌≤◌, ◌==◌, ◌++◌, ℕ, zero, suc, true, false, List, [], ◌∷◌, map, length, slice_get, Option, Some, None, refl, sym, ap, ◌∙◌, subst, arith, option_map}
-use Rattle.std.specs.Prelude.{codes, unwrap_or, option_and_then}
+use Rattle.std.specs.Prelude.{codes, option_and_then}
 use Rattle.std.specs.Option.{option_map_or}
 use Rattle.std.proofs.lemmas.Bool.{eqb-true}
 use Rattle.std.proofs.lemmas.Option.{same_Some}
 use Rattle.pks_terms.specs.Sets.{Each, IsIn}
 use Rattle.pks_terms.specs.Syntax.{Object, Term, Atom, place}
 use Rattle.pks_terms.specs.Orders.{number_of as function_of, arguments_of}
-use Rattle.pks_terms.specs.Signatures.{Shape, no_shape, predicate_shape, fits_type, objects_of, object_is_of}
+use Rattle.pks_terms.specs.Signatures.{Shape, fits_type, objects_of, object_is_of}
 use Rattle.pks_terms.specs.Actions.{Set, Assign}
 use Rattle.pks_terms.specs.Typed.{AllMayStand, IsTypedTarget}
 use Rattle.pks_terms.specs.Meaning.{AreOfTypes}
@@ -84,8 +84,10 @@ module _ (s : Scope) where
         record {
           predicate = n.number;
           objects = n.objects;
+          shape = n.shape;
+          declared = n.declared;
           named = λ i. option_and_then (λ p. option_map (ground p) (n.objects_is i)) (n.numbered_is i);
-          typed = subst (λ (x : Shape). AreOfTypes (signature_in s) x.arguments n.objects) (sym (ap (λ (o : Option Shape). unwrap_or o no_shape) n.declared)) n.typed;
+          typed = n.typed;
         }
 
     value_is : (given : Given) (f : Form) → value_faults s given f ≡ [] → IsValue s f
@@ -141,7 +143,7 @@ module _ (s : Scope) where
   pub atom_may : (f : Form) (a : Atom) → IsAtom s f → atom_named s f ≡ Some a → IsTypedTarget (signature_in s) [] (Set a)
   atom_may f a i e =
       subst (λ (b : Atom). IsTypedTarget (signature_in s) [] (Set b)) (same_Some (ground i.predicate i.objects) a (sym i.named ∙ e))
-      (stand (predicate_shape (signature_in s) i.predicate).arguments i.objects i.typed)
+      (i.shape, i.declared, stand i.shape.arguments i.objects i.typed)
 
   same_place : (f : Form) (t : Term) → (i : IsValue s f) → place_named s (first_in f) ≡ Some t → place i.function i.objects ≡ t
   same_place f t i e = same_Some (place i.function i.objects) t (sym i.place_is ∙ e)

@@ -2,7 +2,7 @@
 use Rattle.std.specs.Prelude.{ℕ, ◌≡◌, List, Some, slice_get}
 use Rattle.pks_terms.specs.Sets.{IsIn}
 use Rattle.pks_terms.specs.Syntax.{place}
-use Rattle.pks_terms.specs.Signatures.{Shape, predicate_shape, objects_of}
+use Rattle.pks_terms.specs.Signatures.{Shape, objects_of}
 use Rattle.pks_terms.specs.Meaning.{AreOfTypes}
 use Rattle.pks_terms.specs.Worlds.{World}
 use Rattle.pks_text.specs.Forms.{Form}
@@ -11,12 +11,14 @@ use Rattle.pks_meaning.specs.Declarations.{first_in, second_in}
 use Rattle.pks_world.specs.Contents.{ground}
 use Rattle.pks_facts.specs.Naming.{object_named, atom_named, place_named}
 
--- the fact names an atom with objects of the predicate's types
+-- the fact names an atom of a declared predicate with objects of its types
 pub record IsAtom (s : Scope) (f : Form) : Type 0 where
   pub predicate : ℕ
   pub objects : List ℕ
+  pub shape : Shape
+  pub declared : slice_get (signature_in s).predicates predicate ≡ Some shape
   pub named : atom_named s f ≡ Some (ground predicate objects)
-  pub typed : AreOfTypes (signature_in s) (predicate_shape (signature_in s) predicate).arguments objects
+  pub typed : AreOfTypes (signature_in s) shape.arguments objects
 
 -- the entry names a place of the signature, and an object of the function's result type
 pub record IsValue (s : Scope) (e : Form) : Type 0 where

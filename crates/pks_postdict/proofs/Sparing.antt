@@ -13,7 +13,7 @@ use Rattle.pks_terms.specs.Saturated.{Within, IsSaturated}
 use Rattle.pks_terms.specs.Views.{instance_of}
 use Rattle.pks_terms.proofs.OrderLaws.{literal_cmp_tells}
 use Rattle.pks_terms.proofs.SetLaws.{added_in}
-use Rattle.pks_laws.specs.OfSignature.{IsMomentOf}
+use Rattle.pks_terms.specs.Moments.{IsMomentOf}
 use Rattle.pks_laws.proofs.BelongingHistories.{rest_of_steps}
 use Rattle.pks_laws.proofs.ClosedAgain.{closed_saturated}
 use Rattle.pks_laws.proofs.Least.{in_left, in_right}

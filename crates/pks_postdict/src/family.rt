@@ -4,7 +4,7 @@ ghost use Rattle.pks_terms.specs.Sets.{Each};
 ghost use Rattle.pks_terms.specs.Problems.{Problem as SProblem};
 ghost use Rattle.pks_terms.specs.Settling.{with_last};
 ghost use Rattle.pks_terms.specs.Valid.{IsValid};
-ghost use Rattle.pks_laws.specs.OfSignature.{IsMomentOf, AreMomentsOf};
+ghost use Rattle.pks_terms.specs.Moments.{IsMomentOf, AreMomentsOf};
 ghost use Rattle.pks_normal.specs.Fives.{five_of};
 ghost use Rattle.pks_postdict.specs.Families.{held_of, links_of, family_of};
 ghost use Rattle.pks_postdict.specs.Growing.{AreSpared, is_unread, some_grew};

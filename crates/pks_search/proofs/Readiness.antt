@@ -16,7 +16,7 @@ use Rattle.pks_terms.specs.Branching.{instances, is_undecided, left, may_split, 
 use Rattle.pks_terms.specs.Settling.{History, last_moment, pushed, with_last, At, Settles}
 use Rattle.pks_terms.specs.Views.{problem_of}
 use Rattle.pks_terms.proofs.ListLaws.{each_of, in_appended, in_mapped, in_filtered}
-use Rattle.pks_laws.specs.OfSignature.{IsMomentOf, AreMomentsOf}
+use Rattle.pks_terms.specs.Moments.{IsMomentOf, AreMomentsOf}
 use Rattle.pks_laws.proofs.SearchStates.{last_of_it, acts_of}
 use Rattle.pks_search.specs.Ready.{IsReady}
 use Rattle.pks_search.proofs.Lengths.{with_last_as_long, settles_as_long}

@@ -15,10 +15,9 @@ use Rattle.pks_laws.proofs.Accepting.{all_justified}
 use Rattle.pks_laws.proofs.Choosing.{best_plan}
 use Rattle.pks_laws.proofs.GoodPlans.{plan_remembers}
 use Rattle.pks_laws.proofs.SearchStates.{start_of}
-use Rattle.pks_laws.proofs.Staying.{worlds_stay}
 use Rattle.pks_laws.proofs.Unique.{closes_one}
 use Rattle.pks_laws.proofs.Validity.{valid_typed}
-use Rattle.pks_search.specs.Past.{RemembersPast}
+use Rattle.pks_terms.specs.Remembering.{RemembersPast}
 use Rattle.pks_search.specs.Ready.{IsReady}
 
 abbrev first_history : Five → History
@@ -35,7 +34,7 @@ start_best p d h n m o c e q b = best_plan p (Next d) n o c (subst (λ k. IsBest
 
 -- what its histories know of the past was so
 pub best_remembers : (p : Problem) (n : ℕ) (t : Tree) → unjustified p ≡ [] → IsValid p → IsBest p n (Some t) → RemembersPast p t
-best_remembers p n t u v b = λ d w c compatible. plan_remembers p (all_justified p u) (worlds_stay p (valid_typed p v)) t d c (derived d c b.0.0) w compatible
+best_remembers p n t u v b = λ d w c compatible. plan_remembers p (all_justified p u) (valid_typed p v) t d c (derived d c b.0.0) w compatible
   where
     derived : (d : Five) → Closes p.signature (initial p) (Next d) → IsPlan p t → Derives p (At (first_history d)) t
     derived d c plan = subst (λ x. Derives p (start_state x) t) (closes_one p.signature (initial p) plan.outcome (Next d) plan.closes c) plan.derives

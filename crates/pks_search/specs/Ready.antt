@@ -5,7 +5,7 @@ use Rattle.pks_terms.specs.Typed.{AllJustified}
 use Rattle.pks_terms.specs.Settling.{History}
 use Rattle.pks_terms.specs.ValidProblems.{IsValidProblem}
 use Rattle.pks_terms.specs.Views.{problem_of}
-use Rattle.pks_laws.specs.OfSignature.{AreMomentsOf}
+use Rattle.pks_terms.specs.Moments.{AreMomentsOf}
 
 -- a history from which the search may go n actions on
 pub record IsReady (p : Problem) (h : History) (n : ℕ) : Type 0 where

@@ -11,7 +11,7 @@ ghost use Rattle.pks_terms.specs.ValidProblems.{IsValidProblem};
 ghost use Rattle.pks_terms.specs.Views.{problem_of};
 ghost use Rattle.pks_normal.specs.Fives.{five_of};
 ghost use Rattle.pks_plan.specs.TreeViews.{tree_of};
-ghost use Rattle.pks_search.specs.Past.{RemembersPast};
+ghost use Rattle.pks_terms.specs.Remembering.{RemembersPast};
 
 use crate::rising::best_rising;
 use pks_closing::closing::CloseEnd;

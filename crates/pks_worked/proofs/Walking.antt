@@ -9,7 +9,7 @@ use Rattle.pks_terms.specs.Settling.{History}
 use Rattle.pks_terms.specs.ValidProblems.{IsValidProblem}
 use Rattle.pks_terms.specs.Views.{problem_of}
 use Rattle.pks_terms.proofs.ListLaws.{in_map}
-use Rattle.pks_laws.specs.OfSignature.{IsMomentOf, AreMomentsOf}
+use Rattle.pks_terms.specs.Moments.{IsMomentOf, AreMomentsOf}
 use Rattle.pks_search.specs.Ready.{IsReady}
 use Rattle.pks_search.proofs.Looping as looping
 

@@ -5,10 +5,11 @@ use Rattle.std.specs.Cmp.{Equal-is}
 use Rattle.pks_terms.specs.Sets.{IsIn}
 use Rattle.pks_terms.specs.Syntax.{Object, Term, Atom, place}
 use Rattle.pks_terms.specs.Orders.{number_of, atom_cmp, term_eq}
-use Rattle.pks_terms.specs.Signatures.{Shape, Signature, predicate_shape, objects_of}
+use Rattle.pks_terms.specs.Signatures.{Shape, Signature, objects_of}
 use Rattle.pks_terms.specs.Worlds.{World}
 use Rattle.pks_terms.specs.Meaning.{AreOfTypes, IsWorld}
-use Rattle.pks_terms.specs.Typed.{AllMayStand}
+use Rattle.pks_terms.specs.Actions.{Set}
+use Rattle.pks_terms.specs.Typed.{AllMayStand, IsTypedTarget}
 use Rattle.pks_terms.proofs.OrderLaws.{atom_cmp_tells, same_term}
 use Rattle.pks_world.specs.declared.world.World.{World as DWorld}
 use Rattle.pks_world.specs.Contents.{ground, atom_eq, with_truth, with_value, world_of, places_of}
@@ -24,10 +25,12 @@ objects_stand s (a ∷ tys) [] m = absurd m
 objects_stand s (a ∷ tys) (d ∷ ds) m = (m.0, objects_stand s tys ds m.1)
 
 module _ (s : Signature) (w : World) (i : IsWorld s w) where
-  pub atom_typed : (a : Atom) → AllMayStand s [] (predicate_shape s a.predicate).arguments a.arguments → IsWorld s (with_truth w a true)
+  pub atom_typed : (a : Atom) → IsTypedTarget s [] (Set a) → IsWorld s (with_truth w a true)
   atom_typed a m = record {
-    atoms = λ p ds. elim (atom_eq a (ground p ds)) as (λ b. atom_eq a (ground p ds) ≡ b → cond b true (w.truth p ds) ≡ true → AreOfTypes s (predicate_shape s p).arguments ds) [
-      | true ↦ λ e h. objects_stand s (predicate_shape s p).arguments ds (subst (λ (x : Atom). AllMayStand s [] (predicate_shape s x.predicate).arguments x.arguments) (same_atom a (ground p ds) e) m)
+    atoms = λ p ds. elim (atom_eq a (ground p ds)) as (λ b. atom_eq a (ground p ds) ≡ b → cond b true (w.truth p ds) ≡ true → (x : Shape) × (slice_get s.predicates p ≡ Some x) × AreOfTypes s x.arguments ds) [
+      | true ↦ λ e h.
+          let t = subst (λ (b : Atom). IsTypedTarget s [] (Set b)) (same_atom a (ground p ds) e) m in
+          (t.0, t.1, objects_stand s t.0.arguments ds t.2)
       | false ↦ λ e h. i.atoms p ds h
     ] refl;
     typed = i.typed;

@@ -2,7 +2,7 @@ use Rattle.std.proofs.Common.{sym, subst}
 use Rattle.pks_terms.specs.Meaning.{IsTrueOf}
 use Rattle.pks_terms.specs.Valid.{AreOf}
 use Rattle.pks_terms.specs.Views.{problem_of}
-use Rattle.pks_laws.specs.Lookup.{AreInOrder}
+use Rattle.pks_terms.specs.Moments.{AreInOrder}
 use Rattle.pks_laws.proofs.Assuming.{so_too, assumed_true}
 use Rattle.pks_laws.proofs.BelongingSteps.{assumed_of}
 use Rattle.pks_laws.proofs.SidesInOrder.{assumed_ordered}

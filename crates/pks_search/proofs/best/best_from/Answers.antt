@@ -10,7 +10,7 @@ use Rattle.pks_terms.specs.Views.{problem_of}
 use Rattle.pks_normal.specs.Fives.{five_of}
 use Rattle.pks_plan.specs.TreeViews.{tree_of}
 use Rattle.pks_laws.proofs.Accepting.{best_good}
-use Rattle.pks_search.specs.Past.{RemembersPast}
+use Rattle.pks_terms.specs.Remembering.{RemembersPast}
 use Rattle.pks_search.proofs.Deepening.{limit_first}
 use Rattle.pks_search.proofs.Starting.{start_ready, start_best, best_remembers, if_some}
 use Rattle.pks_search.proofs.best.best_from.Goals as goal

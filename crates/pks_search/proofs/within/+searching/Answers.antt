@@ -8,7 +8,7 @@ use Rattle.pks_terms.specs.Branching.{choices, left, Act, BranchOn, CasesOn, AsT
 use Rattle.pks_terms.specs.Settling.{last_moment, with_last, At, Stopped, Settles}
 use Rattle.pks_terms.specs.Trees.{Impossible, cost, IsBestOf}
 use Rattle.pks_terms.specs.Views.{term_of, conj_of, object_of, instance_of, problem_of}
-use Rattle.pks_laws.specs.OfSignature.{IsMomentOf, AreMomentsOf}
+use Rattle.pks_terms.specs.Moments.{IsMomentOf, AreMomentsOf}
 use Rattle.pks_normal.specs.Fives.{five_of}
 use Rattle.pks_query.specs.Steps.{outcome_of}
 use Rattle.pks_postdict.specs.Ends.{state_of, IfAt}

@@ -3,7 +3,7 @@ use Rattle.pks_terms.specs.Sets.{IsIn}
 use Rattle.pks_terms.specs.Branching.{choices, instances, Act}
 use Rattle.pks_terms.specs.Settling.{last_moment}
 use Rattle.pks_terms.specs.Views.{instance_of, problem_of}
-use Rattle.pks_laws.specs.OfSignature.{IsMomentOf, AreMomentsOf}
+use Rattle.pks_terms.specs.Moments.{IsMomentOf, AreMomentsOf}
 use Rattle.pks_normal.specs.Fives.{five_of}
 use Rattle.pks_query.specs.Steps.{outcome_of}
 use Rattle.pks_branch.specs.ChoiceViews.{choice_of}

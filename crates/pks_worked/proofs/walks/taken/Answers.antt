@@ -1,6 +1,6 @@
 use Rattle.std.proofs.Common.{sym, subst}
 use Rattle.pks_terms.specs.Views.{problem_of}
-use Rattle.pks_laws.specs.OfSignature.{IsMomentOf}
+use Rattle.pks_terms.specs.Moments.{IsMomentOf}
 use Rattle.pks_laws.proofs.SearchStates.{last_of_it}
 use Rattle.pks_worked.proofs.walks.taken.Goals as goal
 

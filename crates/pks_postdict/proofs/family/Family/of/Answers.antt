@@ -7,7 +7,7 @@ use Rattle.pks_terms.specs.Handed.{IsStepOf}
 use Rattle.pks_terms.specs.Settling.{with_last}
 use Rattle.pks_terms.specs.Saturated.{IsSaturated}
 use Rattle.pks_terms.proofs.ListLaws.{each_weaker}
-use Rattle.pks_laws.specs.OfSignature.{IsMomentOf}
+use Rattle.pks_terms.specs.Moments.{IsMomentOf}
 use Rattle.pks_laws.proofs.SearchStates.{with_last_of}
 use Rattle.pks_normal.specs.Fives.{five_of}
 use Rattle.pks_postdict.specs.Families.{held_of}

@@ -2,7 +2,7 @@ use Rattle.std.proofs.Common.{sym, subst}
 use Rattle.pks_terms.specs.Views.{signature_of, problem_of}
 use Rattle.pks_terms.specs.Meaning.{IsTrueOf}
 use Rattle.pks_terms.specs.Valid.{AreOf}
-use Rattle.pks_laws.specs.Lookup.{AreInOrder}
+use Rattle.pks_terms.specs.Moments.{AreInOrder}
 use Rattle.pks_laws.proofs.BelongingSteps.{initial_of}
 use Rattle.pks_laws.proofs.SidesInOrder.{initial_ordered}
 use Rattle.pks_query.proofs.db.Db.first.Goals as goal
