@@ -2,4 +2,3 @@ pub mod Lists
 pub mod WalkLaws
 pub mod ChoicesRise
 pub mod Parameters
-pub mod Digits

@@ -5,6 +5,4 @@ pub mod assuming;
 mod candidates;
 pub mod choices;
 pub mod leaving;
-#[cfg(test)]
-mod tests;
 mod walking;
