@@ -93,6 +93,19 @@ pub const ITEMS: &str = "(pks 1)
   (goal (k (r))))
 ";
 
+// Each section is out of order.
+pub const SCRAMBLED: &str = "(pks 1)
+(domain
+  (types t)
+  (objects (t a b c))
+  (predicates (p t) (q t))
+  (functions (f t t) (g t)))
+(problem
+  (init (kf (= c a)) (kf (not (= (g) b))) (kf (q a)) (kf (p c)) (kf (not (p b))) (kf (p b)) (kf (p (f b))) (kf (p (f a)))
+    (kw (p c)) (kw (p c) (p b)) (kw (p b)) (kv (g)) (kv (f c)) (kv (f a)) (kv b))
+  (goal (k (p c))))
+";
+
 pub const EIGHT: &str = "(pks 1)
 (domain
   (types t)

@@ -106,3 +106,39 @@ pub fn action_text(alloc: Global, text: &str, number: usize) -> Result<Vec<u8>, 
     print_instance(&file.problem, &step, &mut out)?;
     Ok(out)
 }
+
+/// The texts of the known literals of a file's initial items, one a line, in the order of the set.
+pub fn literals_in_order(alloc: Global, text: &str) -> Result<Vec<u8>, Fail> {
+    let file = read(alloc, text)?;
+    let five = initial(alloc, &file.problem)?;
+    let mut out = Vec::new(alloc);
+    for l in five.kf.items() {
+        print_literal(&file.problem, l, &mut out)?;
+        out.push(b'\n')?;
+    }
+    Ok(out)
+}
+
+/// The same of formulas.
+pub fn formulas_in_order(alloc: Global, text: &str) -> Result<Vec<u8>, Fail> {
+    let file = read(alloc, text)?;
+    let five = initial(alloc, &file.problem)?;
+    let mut out = Vec::new(alloc);
+    for c in five.kw.items() {
+        print_conj(&file.problem, c, &mut out)?;
+        out.push(b'\n')?;
+    }
+    Ok(out)
+}
+
+/// The same of terms.
+pub fn terms_in_order(alloc: Global, text: &str) -> Result<Vec<u8>, Fail> {
+    let file = read(alloc, text)?;
+    let five = initial(alloc, &file.problem)?;
+    let mut out = Vec::new(alloc);
+    for t in five.kv.items() {
+        print_term(&file.problem, t, &mut out)?;
+        out.push(b'\n')?;
+    }
+    Ok(out)
+}

@@ -1,9 +1,11 @@
 use crate::files::{
-    BOTH, EIGHT, GROUPS, ITEMS, LAMP, LAWN, SAFE, SAFE_WITHOUT_READ, SHELF, TWICE_BOTH, VAULT,
+    BOTH, EIGHT, GROUPS, ITEMS, LAMP, LAWN, SAFE, SAFE_WITHOUT_READ, SCRAMBLED, SHELF, TWICE_BOTH,
+    VAULT,
 };
 use crate::justifying::has_case;
 use crate::moments::{
-    action_text, closing_clashes, first_clashes, item_text, pattern_text, shares,
+    action_text, closing_clashes, first_clashes, formulas_in_order, item_text, literals_in_order,
+    pattern_text, shares, terms_in_order,
 };
 use crate::reading::read;
 use crate::sets::{atoms, formulas, groups, literals, regions, terms};
@@ -108,6 +110,20 @@ fn texts_of_items_and_actions(rt: HostRuntime) -> Result<(), Fail> {
     assert!(rt; pattern.as_slice() == b"(p _)".as_slice());
     let action = action_text(alloc, EIGHT, 1)?;
     assert!(rt; action.as_slice() == b"(j1 b)".as_slice());
+    Ok(())
+}
+
+#[test]
+fn items_stand_in_order(rt: HostRuntime) -> Result<(), Fail> {
+    let alloc = rt.alloc();
+    let literals =
+        "(p b)\n(not (p b))\n(p c)\n(p (f a))\n(p (f b))\n(q a)\n(= c a)\n(not (= (g) b))\n";
+    let found = literals_in_order(alloc, SCRAMBLED)?;
+    assert!(rt; found.as_slice() == literals.as_bytes());
+    let found = formulas_in_order(alloc, SCRAMBLED)?;
+    assert!(rt; found.as_slice() == b"(p b)\n(p b) (p c)\n(p c)\n".as_slice());
+    let found = terms_in_order(alloc, SCRAMBLED)?;
+    assert!(rt; found.as_slice() == b"b\n(f a)\n(f c)\n(g)\n".as_slice());
     Ok(())
 }
 
