@@ -18,8 +18,12 @@ import threading
 from importlib.machinery import SourceFileLoader
 from importlib.util import module_from_spec, spec_from_loader
 
-FRONT_END_LINES = 1_000_000
-MEMORY_OF_FRONT_END = 2_000_000_000
+# What this takes of rt.
+NEEDED = ("in_lanes", "need", "rtlib", "share_work")
+
+# The look for faults goes before all proofs.
+LINES_OF_LOOK = 1_000_000
+MEMORY_OF_LOOK = 2_000_000_000
 
 
 def say(text):
@@ -71,7 +75,7 @@ class Proofs:
 
     def tasks(self):
         """For the scheduler: what each step waits for, its lines, its memory, and the call that does it."""
-        look = [], FRONT_END_LINES, MEMORY_OF_FRONT_END, lambda given, jobs: self.look_for_faults()
+        look = [], LINES_OF_LOOK, MEMORY_OF_LOOK, lambda given, jobs: self.look_for_faults()
         tasks = {(self.program.name, "proof"): look}
         for crate in self.left:
             waits = [(it.name, "proof") for it in crate.below() if it in self.left]
@@ -91,16 +95,13 @@ class Proofs:
 def main(folder):
     signal.signal(signal.SIGINT, signal.SIG_DFL)
     rt = load_rt()
-    try:
-        rt.share_work(True)
-        # (what rt starts ends when this does; it has to be called before there are threads)
-        rt.rtlib.guarded()
-        proofs = Proofs(rt, os.path.abspath(folder))
-        step = proofs.run
-    except AttributeError as missing:
-        say(f"this rt isn't of the kit that README.md names ({missing}), so crates are proved one after another.")
+    if not all(hasattr(rt, name) for name in NEEDED):
+        say("this rt isn't of the kit that README.md names, so crates are proved one after another.")
         return
-    step()
+    rt.share_work(True)
+    # (what rt starts ends when this does; it has to be called before there are threads)
+    rt.rtlib.guarded()
+    Proofs(rt, os.path.abspath(folder)).run()
 
 
 if __name__ == "__main__":

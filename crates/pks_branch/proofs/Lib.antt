@@ -3,4 +3,3 @@ pub mod Barring
 pub mod WalkLaws
 pub mod ChoicesRise
 pub mod Parameters
-pub mod Digits

@@ -6,6 +6,4 @@ mod candidates;
 pub mod choices;
 mod early;
 pub mod leaving;
-#[cfg(test)]
-mod tests;
 mod walking;

@@ -3,5 +3,3 @@
 
 pub mod history;
 pub mod same;
-#[cfg(test)]
-mod tests;

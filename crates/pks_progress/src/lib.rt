@@ -5,5 +5,3 @@ pub mod asking;
 mod kept;
 pub mod progress;
 mod regions;
-#[cfg(test)]
-mod tests;

@@ -697,3 +697,27 @@ pub const TWO_TOLLS_PLAN: &str = "plan depth 2
 (then)
 goal
 ";
+
+pub const TWO_OF_A_GROUP: &str = "(pks 1)
+(domain (types t) (objects (t a b c)) (predicates (r) (p t) (q t)))
+(problem (init (kw (r)) (kx (p a) (p b)) (lcw (q _)) (kf (q a))) (goal (k (r))))
+(world (true (p a) (p b)))
+";
+
+pub const ONE_NOT_LISTED: &str = "(pks 1)
+(domain (types t) (objects (t a b c)) (predicates (r) (p t) (q t)))
+(problem (init (kw (r)) (kx (p a) (p b)) (lcw (q _)) (kf (q a))) (goal (k (r))))
+(world (true (p b) (q a) (q b)))
+";
+
+pub const ONE_DENIED: &str = "(pks 1)
+(domain (types t) (objects (t a b c)) (predicates (r) (p t) (q t)))
+(problem (init (kw (r)) (kx (p a) (p b)) (lcw (q _)) (kf (q a))) (goal (k (r))))
+(world (true (p b)))
+";
+
+pub const NONE_BROKEN: &str = "(pks 1)
+(domain (types t) (objects (t a b c)) (predicates (r) (p t) (q t)))
+(problem (init (kw (r)) (kx (p a) (p b)) (lcw (q _)) (kf (q a))) (goal (k (r))))
+(world (true (p a) (q a)))
+";
