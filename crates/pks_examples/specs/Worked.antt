@@ -1,14 +1,15 @@
 -- Worked problems: what they state, and the databases and histories that come about in them.
 use Rattle.std.specs.Prelude.{ℕ, true, false, List, [], ◌∷◌, Some, None, codes}
-use Rattle.pks_terms.specs.Syntax.{Object, Apply, Term, Named, Equality, Literal, Pattern, negated}
+use Rattle.pks_terms.specs.Syntax.{Object, Parameter, Apply, Inner, Term, Named, Equality, Literal, Pattern, negated}
 use Rattle.pks_terms.specs.Signatures.{Shape, Signature}
 use Rattle.pks_terms.specs.Databases.{Five}
 use Rattle.pks_terms.specs.Queries.{Know, KnowWhether, Query}
 use Rattle.pks_terms.specs.Actions.{Set, Unset, Clear, SenseWhether, ItemKf, ItemKw, ItemLcw, Add, Schema, Instance}
 use Rattle.pks_terms.specs.Problems.{Start, StartKf, StartKw, StartKx, Now, Problem}
-use Rattle.pks_terms.specs.Settling.{History}
+use Rattle.pks_terms.specs.Settling.{History, State, At}
 use Rattle.pks_terms.specs.Trees.{Tree, Goal, Do, Branch}
-use Rattle.pks_terms.specs.Printed.{Names}
+use Rattle.pks_terms.specs.Nodes.{Node, GoalNode, DoNode, BranchNode}
+use Rattle.pks_terms.specs.Printed.{Text, Names}
 
 -- a predicate without arguments as a literal
 abbrev pub fact : ℕ → Literal
@@ -288,3 +289,48 @@ tolls = record { version = 2; signature = facts_alone []; schemas = bare_action 
 
 abbrev pub lawn_names : Names
 lawn_names = record { objects = []; predicates = codes "alive" ∷ codes "poison" ∷ []; functions = []; actions = codes "pour" ∷ codes "look" ∷ [] }
+
+-- ---- the lawn's plan at its ends, and with its equal parts once
+
+abbrev pub lawn_leaves : List State
+lawn_leaves = At lawn_living ∷ At lawn_dead ∷ []
+
+abbrev pub lawn_nodes : List Node
+lawn_nodes = GoalNode ∷ BranchNode (alive ∷ []) 1 1 ∷ DoNode look 2 ∷ DoNode pour 3 ∷ []
+
+-- an input whose file has six lines, as the lawn's has
+abbrev pub six_lines : Text
+six_lines = codes "1\n2\n3\n4\n5\n6\n"
+
+-- ---- the safe: reading tells its combination, one of five numbers, and dialling it opens the safe
+
+abbrev pub combo : Inner
+combo = Apply 0 []
+
+abbrev pub safe_signature : Signature
+safe_signature = record { types = 1; parents = None ∷ []; objects = 0 ∷ 0 ∷ 0 ∷ 0 ∷ 0 ∷ []; predicates = shape [] ∷ []; functions = shape [] ∷ [] }
+
+abbrev pub safe_names : Names
+safe_names = record {
+  objects = codes "c1" ∷ codes "c2" ∷ codes "c3" ∷ codes "c4" ∷ codes "c5" ∷ [];
+  predicates = codes "open" ∷ [];
+  functions = codes "combo" ∷ [];
+  actions = codes "read" ∷ codes "dial" ∷ [];
+}
+
+-- read, and dial what was read
+abbrev pub safe_plan : Tree
+safe_plan = Do (action 0) (Do (record { action = 1; arguments = combo ∷ [] }) Goal)
+
+-- dialling a number opens the safe where it is the combination
+abbrev pub dial : Schema
+dial =
+    let right : Literal = equal (Apply 0 []) (Parameter 0) in
+    record {
+      cost = 1;
+      parameters = 0 ∷ [];
+      pre = [];
+      effects = record { condition = right ∷ []; target = Set (record { predicate = 0; arguments = [] }) } ∷ [];
+      senses = [];
+      adds = record { given = known right ∷ []; item = ItemKf (fact 0) } ∷ [];
+    }
