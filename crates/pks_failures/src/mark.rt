@@ -4,7 +4,7 @@
 use pks_history::history::History;
 use pks_normal::five::Five;
 use pks_terms::ids::ObjId;
-use pks_terms::literal::{Conj, Literal};
+use pks_terms::literal::{Atom, Conj, Literal};
 use pks_terms::schema::Instance;
 use pks_terms::term::{Inner, Term, front};
 
@@ -51,9 +51,16 @@ fn with_term(mark: u64, t: &Term) -> u64 {
     }
 }
 
+fn with_relation(mark: u64, atom: &Atom) -> u64 {
+    match atom {
+        Atom::Pred(a) => mixed(mark, 0x4_0000 + u64::from(a.pred.0)),
+        Atom::Eq { .. } => mixed(mark, 0x5_0000),
+    }
+}
+
 fn with_literal(mark: u64, l: &Literal) -> u64 {
     let arguments = l.atom.arguments();
-    let mut mark = mixed(mark, u64::from(l.positive));
+    let mut mark = with_relation(mixed(mark, u64::from(l.positive)), &l.atom);
     for t in arguments.terms() {
         mark = with_term(mark, t);
     }
