@@ -1,6 +1,6 @@
 ; Eight small actions, one for each way in which acting or sensing may make something known.
 ; Shows: the eight cases of `knows`, J1 to J8, each as small as it can be.
-; ./pks plan 4
+; ./pks plan 3
 (pks 1)
 (domain
   (types slot)
