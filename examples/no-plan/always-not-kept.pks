@@ -1,5 +1,5 @@
-; Pour on the lawn and know whether there was poison, the lawn being alive at every moment.
-; Cause: the aim asks that it is known alive each time, and after pouring nobody knows.
+; Know whether there is poison in the can, the lawn being alive at every moment.
+; Cause: an aim must be met on every side, and where there was poison the lawn dies of pouring.
 ; ./pks plan 4
 (pks 2)
 (domain
