@@ -1,7 +1,7 @@
 """Explains the codes of meaning, 200 to 211, and those of the world, 301 to 311."""
 
 from . import grammar
-from .names import is_term, listed, near
+from .names import count, is_term, listed, near
 from .shape import FOREIGN
 
 LIMITS = {
@@ -97,10 +97,6 @@ def arguments(names, form):
     declared = '(' + ' '.join([form.head() or '?'] + types) + ')'
     return [f'`{form.text()}` has {count(len(form.rest()), "argument")}; the {kind} '
             f'`{form.head()}` has {count(len(types), "argument")}: it is declared as `{declared}`.']
-
-
-def count(number, what):
-    return f'{number} {what}' + ('' if number == 1 else 's')
 
 
 def types_of(names, form):

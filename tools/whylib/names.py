@@ -112,3 +112,7 @@ def near(word, names):
     """The name that looks most like a word, or None."""
     close = difflib.get_close_matches(word, list(names), 1, 0.6)
     return close[0] if close else None
+
+
+def count(number, what):
+    return f'{number} {what}' + ('' if number == 1 else 's')

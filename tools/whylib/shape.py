@@ -1,7 +1,8 @@
 """Explains the codes of shape: 120 to 124, and 300 for the world."""
 
 from . import grammar
-from .forms import gained_parenthesis, lost_parenthesis
+from .forms import VAR, gained_parenthesis, lost_parenthesis
+from .names import count, near
 
 FOREIGN = {
     'and': 'There is no `and`: the parts simply stand one behind the other.',
@@ -20,7 +21,21 @@ FOREIGN = {
     'constants': '`constants` is `objects` here, in the domain.',
     'requirements': 'There is no `requirements`; `(pks 2)` in place of `(pks 1)` gives costs, '
                     'parents of types and aims over time.',
+    'not-k': 'To ask that something isn\'t known write `(not-derived (k ..))`.',
     'define': 'There is no `define`: write `(domain ..)` and then `(problem ..)`, without names.',
+}
+
+
+WHERE = {
+    'if': 'in `knows`, and not within another `if`: put all queries into one list',
+    'when': 'in `effects`, and not within another `when`: put all conditions into one list',
+    'not-derived': 'in `pre` and in the list of an `if`, and not within another',
+    'kx': 'in `init`', 'lcw': 'in `knows` and `init`', 'kf': 'in `knows` and `init`',
+    'k': 'in `pre`, in `goal` and in the list of an `if`',
+    'set': 'in `effects`', 'unset': 'in `effects`', 'clear': 'in `effects`',
+    'assign': 'in `effects`', 'sense': 'in `senses`', 'sense-value': 'in `senses`',
+    'sense-all': 'in `senses`', 'at-start': 'in `goal`', 'always': 'in `goal`',
+    'once': 'in `goal`',
 }
 
 
@@ -30,8 +45,25 @@ def shape(text, form, version):
         return ['The text ends where a form is missing.']
     if form.parent is None:
         return top(form)
-    said = specific(form, version) or []
+    hint = grammar.version_hint(form, version)
+    if hint:
+        return [hint]
+    parts = wrong_number(form)
+    if parts:
+        return parts
+    said = specific(form) or []
     return said + expected(form, bool(said))
+
+
+def wrong_number(form):
+    """For a list whose head is right at its place: it has too few parts, or too many."""
+    head, heads = form.head(), grammar.allowed(grammar.role(form))
+    if grammar.role(form) == 'section':
+        right = head in grammar.SECTIONS[form.parent.head()] and not grammar.order_fault(form)
+        return number(form) if right else None
+    if heads and head in heads or head in ('=', 'not') and grammar.role(form) == 'literal':
+        return number(form)
+    return None
 
 
 def top(form):
@@ -65,27 +97,55 @@ def expected(form, hinted):
     return [] if hinted else ['This form isn\'t what the grammar has here.']
 
 
-def specific(form, version):
+def specific(form):
     """A hint for this very form, or None."""
     kind, head = grammar.role(form), form.head()
-    hint = grammar.version_hint(form, version)
-    if hint:
-        return [hint]
     if grammar.role(form.parent) == 'fact' and form.parent.head() == 'not':
         return ['A world lists what is true; what isn\'t listed is false, so leave this out.']
     if kind == 'section' and head in grammar.SECTIONS[form.parent.head()]:
-        fault = grammar.order_fault(form)
-        return [fault] if fault else number(form)
+        return [grammar.order_fault(form)]
     if kind == 'section' and head and head.lower() in grammar.SECTIONS[form.parent.head()]:
         return [f'Capital letters count: write `{head.lower()}`.']
     if head and head.lower() in FOREIGN:
         return [FOREIGN[head.lower()]]
+    if kind == 'section' and head in WHERE:
+        return belongs(head, [])
     heads = grammar.allowed(kind)
-    if heads and head in heads:
-        return number(form)
-    if heads and head and head.lower() in heads:
+    if heads and head:
+        return swapped(form, kind) or belongs(head, heads) or looks_like(form, kind, heads)
+    return literal_hint(form, kind) or word_hint(form, kind) or list_hint(form, kind)
+
+
+def belongs(head, heads):
+    """Where a head may stand that is wrong here, or the head that looks like it."""
+    if head.lower() in heads:
         return [f'Capital letters count: write `{head.lower()}`.']
-    return literal_hint(form, kind) or word_hint(form, kind) or number(form)
+    return [f'`{head}` may stand only {WHERE[head]}.'] if head in WHERE else None
+
+
+def looks_like(form, kind, heads):
+    """For a list that may be a literal, or have a misspelled head."""
+    said = literal_hint(form, kind) or []
+    close = near(form.head(), heads)
+    if close and len(form.head()) > 2:
+        said = [f'Is `{close}` meant in place of `{form.head()}`?'] + said
+    return said or None
+
+
+SWAPS = {('add', 'k'): 'kf', ('item', 'k'): 'kf', ('start', 'k'): 'kf', ('query', 'kf'): 'k',
+         ('plain', 'kf'): 'k', ('aim', 'kf'): 'k', ('sense', 'k'): 'sense',
+         ('sense', 'kw'): 'sense', ('sense', 'kv'): 'sense-value'}
+
+
+def swapped(form, kind):
+    """For a head that has another one's meaning here."""
+    own = SWAPS.get((kind, form.head()))
+    if own is None:
+        return None
+    inner = ' '.join(p.text() for p in form.rest())
+    why = ('`k` asks whether something is known, `kf` tells that it is.'
+           if kind != 'sense' else 'a sense finds out, and `knows` tells of it.')
+    return [f'Here it is `({own} {inner})`: {why}']
 
 
 def literal_hint(form, kind):
@@ -103,12 +163,6 @@ def literal_hint(form, kind):
         return [f'`set` makes true and `unset` makes false: write `(unset {inner})`.']
     wraps = {'query': 'k', 'plain': 'k', 'aim': 'k', 'effect': 'set', 'target': 'set',
              'sense': 'sense', 'add': 'kf', 'item': 'kf', 'start': 'kf'}
-    swaps = {('add', 'k'): 'kf', ('item', 'k'): 'kf', ('start', 'k'): 'kf',
-             ('query', 'kf'): 'k', ('plain', 'kf'): 'k', ('aim', 'kf'): 'k'}
-    if (kind, head) in swaps:
-        inner = ' '.join(p.text() for p in form.rest())
-        return [f'Here it is `({swaps[kind, head]} {inner})`: `k` asks whether something is known, '
-                '`kf` tells that it is.']
     if kind in wraps and grammar.is_literal(form):
         return [f'A literal alone stands here; write `({wraps[kind]} {form.text()})`.']
     return None
@@ -116,22 +170,41 @@ def literal_hint(form, kind):
 
 def word_hint(form, kind):
     """Where a word stands: too few parentheses, or no name."""
-    if not form.word:
+    word = form.word
+    if not word:
         return None
     own = grammar.role_of_list(form.parent)
     if own in ('literals', 'queries'):
-        inner = form.parent.text()
-        return [f'One pair of parentheses is missing: `({inner})`. Here stands '
+        return [f'One pair of parentheses is missing: `({form.parent.text()})`. Here stands '
                 f'{grammar.EXAMPLES[own]}.']
+    if word == '_':
+        return ['A wildcard stands in patterns alone: in `clear`, `sense-all` and `lcw`.']
+    if word == '-':
+        return ['Types have no `-` before them: `(?x room)`, `(cup item)`; a type with its parent '
+                'is `(room place)`, in version 2.']
     if kind == 'number':
         return ['A cost is a number in digits, not `0` and without a leading zero.']
-    if kind in ('name', 'term') and form.word[0].isdigit():
-        return [f'`{form.word}` is no name: a name begins with a letter.']
-    if kind == 'parameter':
-        return ['A parameter is `?` and a name.']
-    if kind in ('fact', 'place', 'atom') and form.parent.is_list():
-        return [f'`{form.word}` needs parentheses of its own: `({form.word})`.']
+    if kind == 'name' and own in ('predicates', 'functions') and VAR.match(word):
+        return ['Predicates and functions are declared by types alone: `(in item room)`.']
+    if kind in ('name', 'term') and word[0].isdigit():
+        return [f'`{word}` is no name: a name begins with a letter.']
+    if kind == 'parameter' and own == 'parameter':
+        return ['The parameter stands first, then its type: `(?x room)`.']
+    if kind in ('parameter', 'objects', 'predicates', 'functions'):
+        return ['Each entry stands in parentheses of its own.']
+    if kind in ('fact', 'place', 'atom', 'literal', 'pattern'):
+        return [f'`{word}` needs parentheses of its own: `({word})`, with its arguments if it has '
+                'any.']
     return None
+
+
+def list_hint(form, kind):
+    """Where a list stands that has another kind or number of parts."""
+    if kind == 'parameter' and '-' in [p.word for p in form.parts]:
+        return [f'A type has no `-` before it: `({form.parts[0].text()} {form.parts[-1].text()})`.']
+    if kind == 'name' and form.parent.head() == 'action' and form.index() == 1:
+        return ['The name of the action is missing: `(action NAME ..)`.']
+    return number(form)
 
 
 def number(form):
@@ -141,8 +214,16 @@ def number(form):
     if lacks:
         return lacks
     if head in grammar.SHAPES:
-        return [f'This list has {len(form.rest())} parts behind `{head}`; it is '
+        said = [f'This list has {count(len(form.rest()), "part")} behind `{head}`; it is '
                 f'{grammar.SHAPES[head]}.']
+        if head in ('k', 'kf', 'set', 'unset') and len(form.rest()) > 1:
+            each = ' '.join(p.text() if p.head() in WHERE else f'({head} {p.text()})'
+                            for p in form.rest())
+            said.append(f'Write one for each: `{each}`.')
+        if head in ('when', 'if') and len(form.rest()) > 2:
+            each = ' '.join(f'({head} {form.parts[1].text()} {p.text()})' for p in form.parts[2:])
+            said.append(f'Write one for each: `{each}`.')
+        return said
     if form.is_list() and not form.parts:
         return ['An empty list stands here.']
     return None
