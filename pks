@@ -31,8 +31,4 @@ build() {
 }
 
 if is_stale; then build; fi
-case $1 in
-    check | plan | exec)
-        if [ -t 0 ]; then echo "pks: the file is read from standard input, as in ./pks plan 3 < FILE" >&2; fi ;;
-esac
 exec "$program" "$@"
