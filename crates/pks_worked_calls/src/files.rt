@@ -102,7 +102,7 @@ pub const SCRAMBLED: &str = "(pks 1)
   (functions (f t t) (g t)))
 (problem
   (init (kf (= c a)) (kf (not (= (g) b))) (kf (q a)) (kf (p c)) (kf (not (p b))) (kf (p b)) (kf (p (f b))) (kf (p (f a)))
-    (kw (p c)) (kw (p c) (p b)) (kw (p b)) (kv (g)) (kv (f c)) (kv (f a)) (kv b))
+    (kw (p c)) (kw (p c) (p b)) (kw (p b)) (kv (g)) (kv (f c)) (kv (f a)))
   (goal (k (p c))))
 ";
 

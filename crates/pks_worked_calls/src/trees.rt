@@ -1,5 +1,8 @@
 //! Best trees, and their runs.
 ghost use Rattle.std.specs.Prelude.{◌≡◌, ◌≤◌, [], IfOk, IfSome};
+ghost use Rattle.pks_terms.specs.Syntax.{Literal};
+ghost use Rattle.pks_terms.specs.Closure.{Clash, Closes};
+ghost use Rattle.pks_terms.specs.Problems.{initial};
 ghost use Rattle.pks_terms.specs.Answers.{unjustified};
 ghost use Rattle.pks_terms.specs.ValidProblems.{IsValidProblem};
 ghost use Rattle.pks_terms.specs.Views.{problem_of};
@@ -15,11 +18,25 @@ use pks_plan::tree::Tree;
 use pks_query::db::Db;
 use pks_search::best::best;
 use pks_terms::problem::Problem;
-use std::alloc::Global;
+use std::alloc::{AllocError, Global};
 use std::test::Fail;
 
+/// The best tree, where the first databases don't clash.
+fn found(alloc: Global, p: &Problem<'_>, most: u8) -> Result<Option<Tree>, AllocError>
+    requires valid { IsValidProblem p.now }
+    requires justified { unjustified (problem_of p.now) ≡ [] }
+    requires begins { (l : Literal) → Closes (problem_of p.now).signature (initial (problem_of p.now)) (Clash l) → ⊥ }
+    requires few { most ≤ 16 }
+    ensures { IfOk result (λ o. IfSome o (λ t. depth (tree_of t) ≤ 16)) }
+{
+    match best(alloc, p, most)? {
+        Some(tree) => Ok(Some(tree)),
+        None => Ok(None),
+    }
+}
+
 /// The best tree.
-#[tactic(auto, using(pks_laws::proofs::Unique::closes_one))]
+#[tactic(auto, using(crate::proofs::Beginning::no_clash))]
 fn planned(alloc: Global, p: &Problem<'_>, most: u8) -> Result<Option<Tree>, Fail>
     requires valid { IsValidProblem p.now }
     requires justified { unjustified (problem_of p.now) ≡ [] }
@@ -27,7 +44,10 @@ fn planned(alloc: Global, p: &Problem<'_>, most: u8) -> Result<Option<Tree>, Fai
     ensures { IfOk result (λ o. IfSome o (λ t. depth (tree_of t) ≤ 16)) }
 {
     match Db::first(alloc, p) {
-        Ok(_) => Ok(best(alloc, p, most)?),
+        Ok(_start) => {
+            let tree = found(alloc, p, most)?;
+            Ok(tree)
+        }
         Err(_) => Err(Fail::new("the first databases clash")),
     }
 }
