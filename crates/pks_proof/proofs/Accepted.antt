@@ -14,7 +14,6 @@ use Rattle.pks_terms.specs.Typed.{IsTyped}
 use Rattle.pks_terms.specs.Problems.{Problem, IsCompatible}
 use Rattle.pks_terms.specs.Branching.{numbered, IsSo}
 use Rattle.pks_terms.specs.Settling.{effects_of}
-use Rattle.pks_terms.specs.Remembering.{present}
 use Rattle.pks_terms.proofs.ListLaws.{each_in, each_filter_map, each_from_all}
 use Rattle.pks_terms.specs.Proofs.{Fact, FactLit, FactKx, FactLcw, IsFactOf, Path, deeds, final_moment, Taking, takings, GoesAlong, world_along, IsPathOf, Reason, ByGiven, BySide, BySame, BySwap, ByOnly, ByOthers, ByRange, ByClosed, ByKeep, ByBack, ByEffect, ByMust, ByCannot, ByGrow, ByClear, Line, Proof, nth}
 use Rattle.pks_terms.specs.Judging.{Judge, fact_eq, is_literal_that, is_region_that, IsRight, fact_then, by_cited}
@@ -24,7 +23,7 @@ use Rattle.pks_proof.proofs.Judged.{fact_eq_same}
 use Rattle.pks_proof.proofs.Rewritten.{swapped_true}
 use Rattle.pks_proof.proofs.Within.{with_nth, nth_in, given_true, side_true, only_true, other_true, shut_out_true, same_true, range_true}
 use Rattle.pks_proof.proofs.Stepping.{kept_true, effect_true, grown_true, cleared_true, later_true, needed_true, failed_true}
-use Rattle.pks_proof.proofs.Along.{next_world, each_world, taken_so}
+use Rattle.pks_proof.proofs.Along.{present, next_world, each_world, taken_so}
 
 -- a fact that is a literal, or a region, that passes
 as_literal : (w : World) (q : Literal → Bool) → ((l : Literal) → q l ≡ true → true_in w l ≡ true) → (f : Fact) → is_literal_that q f ≡ true → IsFactOf w f

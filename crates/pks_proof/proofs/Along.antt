@@ -14,18 +14,23 @@ use Rattle.pks_terms.specs.Typed.{IsTyped}
 use Rattle.pks_terms.specs.Problems.{Problem, schema_of}
 use Rattle.pks_terms.specs.Branching.{IsSo}
 use Rattle.pks_terms.specs.Settling.{effects_of}
-use Rattle.pks_terms.specs.Remembering.{present}
+use Rattle.pks_terms.specs.Knowledge.{grounded, after_action, after_actions, ground_actions}
 use Rattle.pks_terms.specs.Handed.{IsStepOf}
 use Rattle.pks_terms.proofs.ListLaws.{each_weaker}
 use Rattle.pks_terms.proofs.Types.{are_objects_of, wider}
+use Rattle.pks_laws.proofs.Doing.{effects_do}
 use Rattle.pks_laws.proofs.Staying.{AreTyped, still_world}
 use Rattle.pks_terms.specs.Proofs.{Path, Went, Took, deeds, Taking, takings, GoesAlong}
+
+-- the world after the ground actions that instances are from a world on
+abbrev pub present : Problem → World → List Instance → World
+present p w is = after_actions p w (ground_actions p w is)
 
 -- the world at the next moment
 pub next_world : (p : Problem) (w : World) (is : List Instance) (m : ℕ) (i : Instance) → slice_get is m ≡ Some i → present p w (take (suc m) is) ≡ applied_to (present p w (take m is)) (effects_of p i)
 next_world p w [] m i h = absurd (none-some i h)
-next_world p w (x ∷ is) zero i h = ap (λ y. applied_to w (effects_of p y)) (same_Some x i h)
-next_world p w (x ∷ is) (suc m) i h = next_world p (applied_to w (effects_of p x)) is m i h
+next_world p w (x ∷ is) zero i h = sym (effects_do p w x) ∙ ap (λ y. applied_to w (effects_of p y)) (same_Some x i h)
+next_world p w (x ∷ is) (suc m) i h = next_world p (after_action p w (grounded w x)) is m i h
 
 -- ---- each of them is a world of the signature
 
@@ -54,16 +59,16 @@ module _ (p : Problem) (typed : IsTyped p) where
   pub each_world : (w : World) (is : List Instance) → IsWorld p.signature w → Each (IsStepOf p) is → (m : ℕ) → IsWorld p.signature (present p w (take m is))
   each_world w is iw steps zero = iw
   each_world w [] iw steps (suc m) = iw
-  each_world w (i ∷ is) iw steps (suc m) = each_world (applied_to w (effects_of p i)) is (step_world w i iw steps.0) steps.1 m
+  each_world w (i ∷ is) iw steps (suc m) = each_world (after_action p w (grounded w i)) is (subst (IsWorld p.signature) (effects_do p w i) (step_world w i iw steps.0)) steps.1 m
 
 -- ---- each side that is taken is so in the world of its moment
 
 sides_so : (p : Problem) (w : World) (path : Path) (k : ℕ) → GoesAlong p w path → Each (λ (q : Taking). (n : ℕ) × (q.moment ≡ k + n) × IsSo (present p w (take n (deeds path))) q.choice q.side) (takings k path)
 sides_so p w [] k g = tt
 sides_so p w (Went i ∷ rest) k g =
-    each_weaker (λ (q : Taking). (n : ℕ) × (q.moment ≡ suc k + n) × IsSo (present p (applied_to w (effects_of p i)) (take n (deeds rest))) q.choice q.side)
+    each_weaker (λ (q : Taking). (n : ℕ) × (q.moment ≡ suc k + n) × IsSo (present p (after_action p w (grounded w i)) (take n (deeds rest))) q.choice q.side)
     (λ (q : Taking). (n : ℕ) × (q.moment ≡ k + n) × IsSo (present p w (take n (i ∷ deeds rest))) q.choice q.side)
-    (λ q x. let e : q.moment ≡ k + suc x.0 = x.1 ∙ omega arith in (suc x.0, e, x.2)) (takings (suc k) rest) (sides_so p (applied_to w (effects_of p i)) rest (suc k) g)
+    (λ q x. let e : q.moment ≡ k + suc x.0 = x.1 ∙ omega arith in (suc x.0, e, x.2)) (takings (suc k) rest) (sides_so p (after_action p w (grounded w i)) rest (suc k) g)
 sides_so p w (Took c side ∷ rest) k g = let e : k ≡ k + 0 = omega arith in ((0, e, g.0), sides_so p w rest k g.1)
 
 pub taken_so : (p : Problem) (w : World) (path : Path) → GoesAlong p w path → Each (λ (q : Taking). IsSo (present p w (take q.moment (deeds path))) q.choice q.side) (takings 0 path)

@@ -6,12 +6,14 @@ use Rattle.pks_terms.specs.Sets.{Each}
 use Rattle.pks_terms.specs.Worlds.{World}
 use Rattle.pks_terms.specs.Databases.{Five}
 use Rattle.pks_terms.specs.Meaning.{IsTrueIn}
-use Rattle.pks_terms.specs.Actions.{Instance, applied_to}
+use Rattle.pks_terms.specs.Actions.{Instance}
 use Rattle.pks_terms.specs.Problems.{Problem}
-use Rattle.pks_terms.specs.Settling.{History, effects_of}
-use Rattle.pks_terms.specs.Remembering.{TrueAlong, deeds_of, present}
+use Rattle.pks_terms.specs.Settling.{History}
+use Rattle.pks_terms.specs.Remembering.{TrueAlong, deeds_of}
 use Rattle.pks_terms.proofs.ListLaws.{each_append, each_map}
 use Rattle.pks_terms.specs.Proofs.{FactLit, FactKx, FactLcw, IsFactOf}
+use Rattle.pks_terms.specs.Knowledge.{grounded, after_action}
+use Rattle.pks_proof.proofs.Along.{present}
 use Rattle.pks_terms.specs.Judging.{IsRight, facts_in, by_databases}
 
 facts_true : (p : Problem) (w : World) (d : Five) → IsTrueIn p.signature w d → Each (IsFactOf w) (facts_in d)
@@ -23,7 +25,7 @@ moment_true : (p : Problem) (w : World) (d : Five) (steps : List (Instance × Fi
 moment_true p w d [] t zero e h = subst (IsTrueIn p.signature w) (same_Some d e h) t
 moment_true p w d [] t (suc m) e h = absurd (none-some e h)
 moment_true p w d (step ∷ steps) t zero e h = subst (IsTrueIn p.signature w) (same_Some d e h) t.0
-moment_true p w d (step ∷ steps) t (suc m) e h = moment_true p (applied_to w (effects_of p step.0)) step.1 steps t.1 m e h
+moment_true p w d (step ∷ steps) t (suc m) e h = moment_true p (after_action p w (grounded w step.0)) step.1 steps t.1 m e h
 
 pub databases_right : (p : Problem) (w : World) (h : History) → TrueAlong p w h.start h.steps → IsRight (by_databases h) (λ m. present p w (take m (deeds_of h.steps)))
 databases_right p w h t m =

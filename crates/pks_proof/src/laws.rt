@@ -6,7 +6,8 @@ ghost use Rattle.pks_terms.specs.Worlds.{World, true_in};
 ghost use Rattle.pks_terms.specs.Problems.{Problem, IsCompatible, StartAlike};
 ghost use Rattle.pks_terms.specs.Settling.{History};
 ghost use Rattle.pks_terms.specs.Typed.{IsTyped};
-ghost use Rattle.pks_terms.specs.Remembering.{TrueAlong, deeds_of, present, SeenAlong};
+ghost use Rattle.pks_terms.specs.Knowledge.{after_actions, ground_actions};
+ghost use Rattle.pks_terms.specs.Remembering.{TrueAlong, deeds_of, SeenAlong};
 ghost use Rattle.pks_terms.specs.Proofs.{Fact, FactLit, IsFactOf, Path, deeds, final_moment, GoesAlong, world_along, IsPathOf, Reason, Line, Proof, nth};
 ghost use Rattle.pks_terms.specs.Judging.{Judge, IsMore, IsRight, by_databases};
 ghost use Rattle.pks_terms.specs.Accepting.{is_allowed_by, is_allowed_line, are_before, are_allowed, accepts};
@@ -23,12 +24,12 @@ pub fn allowed_lines_are_true()
 
 /// What an accepted proof shows is true at the end of the path, in each compatible world that takes it.
 pub fn accepted_is_true()
-    ensures { (p : Problem) (path : Path) (w : World) (proof : Proof) (l : Literal) → IsTyped p → IsPathOf p path → IsCompatible p w → GoesAlong p w path → accepts p path proof l ≡ true → true_in (present p w (deeds path)) l ≡ true }
+    ensures { (p : Problem) (path : Path) (w : World) (proof : Proof) (l : Literal) → IsTyped p → IsPathOf p path → IsCompatible p w → GoesAlong p w path → accepts p path proof l ≡ true → true_in (after_actions p w (ground_actions p w (deeds path))) l ≡ true }
 {}
 
 /// It is true in both of two worlds that begin alike, take the path and see the same after each action.
 pub fn accepted_is_true_in_both()
-    ensures { (p : Problem) (path : Path) (w w' : World) (proof : Proof) (l : Literal) → IsTyped p → IsPathOf p path → StartAlike p w w' → GoesAlong p w path → GoesAlong p w' path → SeenAlong p w w' (deeds path) → accepts p path proof l ≡ true → (true_in (present p w (deeds path)) l ≡ true) × (true_in (present p w' (deeds path)) l ≡ true) }
+    ensures { (p : Problem) (path : Path) (w w' : World) (proof : Proof) (l : Literal) → IsTyped p → IsPathOf p path → StartAlike p w w' → GoesAlong p w path → GoesAlong p w' path → SeenAlong p w w' (deeds path) → accepts p path proof l ≡ true → (true_in (after_actions p w (ground_actions p w (deeds path))) l ≡ true) × (true_in (after_actions p w' (ground_actions p w' (deeds path))) l ≡ true) }
 {}
 
 /// A literal that a reason allows is allowed where more may be relied on. A region isn't always: by `grow` it has no atom that is barred, and to cite more may bar one.
@@ -48,5 +49,5 @@ pub fn allowed_literals_have_proofs()
 
 /// What stands in the databases of a history that is true of a world is so in the worlds of its moments.
 pub fn databases_are_right()
-    ensures { (p : Problem) (w : World) (h : History) → TrueAlong p w h.start h.steps → IsRight (by_databases h) (λ m. present p w (take m (deeds_of h.steps))) }
+    ensures { (p : Problem) (w : World) (h : History) → TrueAlong p w h.start h.steps → IsRight (by_databases h) (λ m. after_actions p w (ground_actions p w (take m (deeds_of h.steps)))) }
 {}
