@@ -7,3 +7,4 @@ pub mod Onward
 pub mod Choices
 pub mod Past
 pub mod Plans
+pub mod Answered

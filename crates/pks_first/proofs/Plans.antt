@@ -106,13 +106,13 @@ module _ (p : Problem) (v : IsValid p) (f : IsFirstVersion p) where
       step : IsStepOf p i
       step = choice_of p now i now_first.typed.of chosen
 
-      acts_to : Acts p h i x → first.Acts p h i x
+      pub acts_to : Acts p h i x → first.Acts p h i x
       acts_to a = record { outcome = a.outcome; progress = progress_first S none now now_first (schema_of p i.action) (schema_text p v i.action) i step.arguments a.outcome a.progress; gives = a.gives }
 
-      acts_back : first.Acts p h i x → Acts p h i x
+      pub acts_back : first.Acts p h i x → Acts p h i x
       acts_back a = record { outcome = a.outcome; progress = progress_from_first S none now now_first (schema_of p i.action) (schema_text p v i.action) i step.arguments a.outcome a.progress; gives = a.gives }
 
-      acts_state : Acts p h i x → IsFirstState x
+      pub acts_state : Acts p h i x → IsFirstState x
       acts_state a g e = go a.outcome a.progress (sym e ∙ a.gives)
         where
           go : (o : Outcome) → Progress S now (schema_of p i.action) i o → At g ≡ after_step h i o → IsOfFirstAlong p g
@@ -137,21 +137,21 @@ module _ (p : Problem) (v : IsValid p) (f : IsFirstVersion p) where
       side_first : (d : Five) → Assumes S now c side (Next d) → IsOfFirst S d
       side_first d a = closed_first S none v.signature.values (assumed S now c side) d (assumed_first S none now now_first c side i k) a
 
-      takes_to : Takes p h c side x → first.Takes p h c side x
+      pub takes_to : Takes p h c side x → first.Takes p h c side x
       takes_to t = record { outcome = t.outcome; assumed = assumes_first S none now now_first c side t.outcome i k t.assumed; settled = go t.outcome t.assumed t.settled }
         where
           go : (o : Outcome) → Assumes S now c side o → SettlesAfter p h o x → first.SettlesAfter p h o x
           go (Next d) a s = settles_first p v none (with_last h d) x (with_last_first d (side_first d a)) s
           go (Clash l) a s = s
 
-      takes_back : first.Takes p h c side x → Takes p h c side x
+      pub takes_back : first.Takes p h c side x → Takes p h c side x
       takes_back t = let a = assumes_from_first S none now now_first c side t.outcome i k t.assumed in record { outcome = t.outcome; assumed = a; settled = go t.outcome a t.settled }
         where
           go : (o : Outcome) → Assumes S now c side o → first.SettlesAfter p h o x → SettlesAfter p h o x
           go (Next d) a s = settles_from_first p v none (with_last h d) x (with_last_first d (side_first d a)) s
           go (Clash l) a s = s
 
-      takes_state : Takes p h c side x → IsFirstState x
+      pub takes_state : Takes p h c side x → IsFirstState x
       takes_state t g e = go t.outcome t.assumed (subst (SettlesAfter p h t.outcome) e t.settled)
         where
           go : (o : Outcome) → Assumes S now c side o → SettlesAfter p h o (At g) → IsOfFirstAlong p g
@@ -161,7 +161,7 @@ module _ (p : Problem) (v : IsValid p) (f : IsFirstVersion p) where
     value_is : (t : Term) → IsIn t now.kv → T S t
     value_is t i = each_in (T S) now.kv t now_first.typed.of.values i
 
-    sides_left : (t : Term) (es : List ℕ) → es ≡ left S now t → Each (λ e. IsSideOf S (CasesOn t) (Is e)) es
+    pub sides_left : (t : Term) (es : List ℕ) → es ≡ left S now t → Each (λ e. IsSideOf S (CasesOn t) (Is e)) es
     sides_left t es q = subst (Each (λ e. IsSideOf S (CasesOn t) (Is e))) (sym q) (each_of (λ e. IsSideOf S (CasesOn t) (Is e)) (left S now t) (λ e i. left_is_side S now t e i))
 
   -- ---- derived trees
@@ -241,7 +241,7 @@ module _ (p : Problem) (v : IsValid p) (f : IsFirstVersion p) where
       let k : IsFirstState (At h) = λ g e. subst (IsOfFirstAlong p) (ap (history_or g) e) m in
       (tree_to t (At h) k, tree_back t (At h) k)
 
-  start_first : (o : Outcome) → Closes S (initial p) o → IsFirstState (start_state o)
+  pub start_first : (o : Outcome) → Closes S (initial p) o → IsFirstState (start_state o)
   start_first (Next d) c g e = subst (IsOfFirstAlong p) (ap (history_or g) e) (record { start = closed_first S none v.signature.values (initial p) d initial_first c; steps = tt })
   start_first (Clash l) c g e = absurd (true≢false (ap is_clash e))
 

@@ -1,3 +1,4 @@
+pub mod Answering
 pub mod LookingUp
 pub mod Closing
 pub mod Choosing

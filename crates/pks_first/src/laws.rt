@@ -14,6 +14,9 @@ ghost use Rattle.pks_terms.specs.Settling.{History, State, At, Settles};
 ghost use Rattle.pks_terms.specs.Aims.{met};
 ghost use Rattle.pks_terms.specs.Trees.{Tree, Derives, IsPlan, IsBest};
 ghost use Rattle.pks_terms.specs.Valid.{IsValid};
+ghost use Rattle.pks_terms.specs.Printed.{Text, Refusal};
+ghost use Rattle.pks_terms.specs.Jobs.{Job};
+ghost use Rattle.pks_terms.specs.Answers.{File, RefusesFile, IsDone, IsTalkRefused, IsUnplanned};
 ghost use Rattle.pks_terms.specs.Handed.{IsStepOf};
 ghost use Rattle.pks_terms.specs.Versions.{IsFirstVersion};
 ghost use Rattle.pks_laws.specs.OfSignature.{IsSideOf};
@@ -22,6 +25,7 @@ ghost use Rattle.pks_first.specs.Closing as closing;
 ghost use Rattle.pks_first.specs.Choosing as choosing;
 ghost use Rattle.pks_first.specs.Settling as settling;
 ghost use Rattle.pks_first.specs.Trees as trees;
+ghost use Rattle.pks_first.specs.Answering as answering;
 ghost use Rattle.pks_first.specs.OfFirst.{IsFirstLiteral, IsOfFirst, IsOfFirstAlong};
 
 // ---- the rules
@@ -85,6 +89,14 @@ pub fn plans_are_of_the_first_version()
 /// So is the best plan to a depth, and that there is none.
 pub fn best_plans_are_of_the_first_version()
     ensures { (p : Problem) (n : ℕ) (best : Option Tree) → IsValid p → IsFirstVersion p → IsBest p n best ↔ trees.IsBest p n best }
+{}
+
+/// What a job answers about a file that states such a problem is what it answers by these: the code that it is refused with, what is printed where it is done, where a dialogue is refused, and where there is no plan.
+pub fn answers_are_of_the_first_version()
+    ensures refused { (f : File) (j : Job) (r : Refusal) → IsValid f.problem → IsFirstVersion f.problem → RefusesFile j f r ↔ answering.RefusesFile j f r }
+    ensures done { (f : File) (j : Job) (input text : Text) → IsValid f.problem → IsFirstVersion f.problem → IsDone j input f text ↔ answering.IsDone j input f text }
+    ensures broken_off { (f : File) (j : Job) (input text : Text) → IsValid f.problem → IsFirstVersion f.problem → IsTalkRefused j input f text ↔ answering.IsTalkRefused j input f text }
+    ensures unplanned { (f : File) (j : Job) (text : Text) → IsValid f.problem → IsFirstVersion f.problem → IsUnplanned j f text ↔ answering.IsUnplanned j f text }
 {}
 
 // ---- what all databases of a problem of the first version are
