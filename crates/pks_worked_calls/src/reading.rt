@@ -4,7 +4,7 @@ ghost use Rattle.pks_terms.specs.Answers.{unjustified};
 ghost use Rattle.pks_terms.specs.ValidProblems.{IsValidProblem};
 ghost use Rattle.pks_terms.specs.Views.{problem_of};
 ghost use Rattle.pks_normal.specs.Fives.{five_of};
-ghost use Rattle.pks_laws.specs.OfSignature.{IsMomentOf};
+ghost use Rattle.pks_terms.specs.Moments.{IsMomentOf};
 ghost use Rattle.pks_file.specs.Views.{IsWhole};
 
 use pks_branch::choices::{Choice, choices};
