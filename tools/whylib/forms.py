@@ -133,7 +133,7 @@ class Text:
 def lost_parenthesis(text):
     """A list that should have been closed before a line, by the line's indentation.
 
-    Gives the list and the line, or None.
+    Gives the list, the line and the list that begins there, or None.
     """
     open_lists = []
     for form in text.lists:
@@ -143,7 +143,7 @@ def lost_parenthesis(text):
         open_lists = [(c, f) for c, f in open_lists if f.end is None or f.end > form.start]
         for own, outer in open_lists:
             if own >= column:
-                return outer, text.place(form.start)[0]
+                return outer, text.place(form.start)[0], form
         open_lists.append((column, form))
     return None
 

@@ -66,6 +66,9 @@ def wrong_number(form):
     return None
 
 
+TOPS = ('pks', 'domain', 'problem', 'world', 'define')
+
+
 def top(form):
     head = form.head()
     if head in grammar.SHAPES:
@@ -254,10 +257,28 @@ def pddl(heads):
     return [FOREIGN['define']] if heads == ['define'] else []
 
 
-def parentheses(text, at):
-    """What the indentation tells of a parenthesis that is missing or too many before a place."""
+def by_indentation(text):
+    """A list that by the indentation lost a parenthesis, and one that gained one; or None."""
     lost, gained = lost_parenthesis(text), gained_parenthesis(text)
+    if lost and text.begins_line(lost[0]) == 1 and lost[2].head() not in TOPS:
+        return None, None
     if lost and (not gained or lost[1] <= gained[1]):
+        return lost[:2], None
+    return None, gained
+
+
+def suspect(text):
+    """The line that by the indentation lacks a parenthesis or has one too many, or None."""
+    lost, gained = by_indentation(text)
+    if lost:
+        return previous(text, lost[1])
+    return text.place(gained[0].end - 1)[0] if gained else None
+
+
+def parentheses(text):
+    """What the indentation tells of a parenthesis that is missing or too many."""
+    lost, gained = by_indentation(text)
+    if lost:
         outer, line = lost
         start = text.place(outer.start)[0]
         return [f'By the indentation the list `{opening(text, outer)}` of line {start} lost a `)`: '
