@@ -157,7 +157,7 @@ impl<K: Ord + Drop, V: Drop> Tree<K, V> {
         ensures made { IfOk result (λ t. t ≡ (left.0 ++ pair.value ∷ right.0, max left.1 right.1 + 1)) }
         ensures raised { OnOk result (steps.new.made ≡ raised steps.old.made) }
         ensures at_most { steps.new.made ≤ steps.old.made + (if is_ok result then 1 else 0) }
-        ensures risen { (if is_ok result then raised steps.old.made else steps.old.made) ≤ steps.new.made }
+        ensures later { steps.old.made ≤ steps.new.made }
     {
         let height = left.height().max(right.height());
         let below = left.len().checked_add(right.len());
@@ -193,7 +193,7 @@ impl<K: Ord + Drop, V: Drop> Tree<K, V> {
         ensures balancing { IfOk result (IsBalancing left pair.value right steps.old.made steps.new.made) }
         ensures at_most { steps.new.made ≤ steps.old.made + (if is_ok result then 3 else 2) }
         ensures even { DifferByAtMost 1 left.1 right.1 → steps.new.made ≤ steps.old.made + 1 }
-        ensures risen { (if is_ok result then raised steps.old.made else steps.old.made) ≤ steps.new.made }
+        ensures later { steps.old.made ≤ steps.new.made }
     {
         let (l, r) = (left.height(), right.height());
         if l.saturating_sub(r) > 1 {
@@ -216,7 +216,7 @@ impl<K: Ord + Drop, V: Drop> Tree<K, V> {
         requires two_higher { left.1 ≡ right.1 + 2 }
         ensures balancing { IfOk result (IsBalancing left pair.value right steps.old.made steps.new.made) }
         ensures at_most { steps.new.made ≤ steps.old.made + (if is_ok result then 3 else 2) }
-        ensures risen { (if is_ok result then raised steps.old.made else steps.old.made) ≤ steps.new.made }
+        ensures later { steps.old.made ≤ steps.new.made }
     {
         let Link::Fork(top) = &left.link else {
             unreachable!()
@@ -253,7 +253,7 @@ impl<K: Ord + Drop, V: Drop> Tree<K, V> {
         requires two_higher { right.1 ≡ left.1 + 2 }
         ensures balancing { IfOk result (IsBalancing left pair.value right steps.old.made steps.new.made) }
         ensures at_most { steps.new.made ≤ steps.old.made + (if is_ok result then 3 else 2) }
-        ensures risen { (if is_ok result then raised steps.old.made else steps.old.made) ≤ steps.new.made }
+        ensures later { steps.old.made ≤ steps.new.made }
     {
         let Link::Fork(top) = &right.link else {
             unreachable!()
@@ -287,7 +287,8 @@ impl<K: Ord + Drop, V: Drop> Tree<K, V> {
     ) -> Result<Tree<K, V>, AllocError>
         ensures inserted { IfOk result (IsInsertion K.cmp pair.value self.now steps.old.made steps.new.made) }
         ensures at_most { steps.new.made ≤ steps.old.made + (2 * self.now.1 + 2) }
-        ensures risen { (if is_ok result then raised steps.old.made else steps.old.made) ≤ steps.new.made }
+        ensures some { OnOk result (raised steps.old.made ≤ steps.new.made) }
+        ensures later { steps.old.made ≤ steps.new.made }
         ensures full { IsFull self.now.1 (length self.now.0) }
     {
         let _height = self.height();
