@@ -32,15 +32,3 @@ full_node l e r a b f g d =
       linear = omega (arith, n, f.linear, g.linear);
       square = subst (λ m. 2 ^ (max a b + 1) ≤ m * m) n (square_grows (length l + 1) (length r + 1) a b (max a b + 1) f.square g.square d.0 d.1 (omega arith));
     }
-
--- what a removal below one side of a node makes, and then the node: l and r are the heights of the sides, m that of the new side, d that of the node
-pub few_more : (l r m d k old mid new : ℕ) → DifferByAtMost 1 l r → suc l ≤ d → suc r ≤ d → l ≤ m + 1 → m ≤ l → mid ≤ old + (2 * l + k) → new ≤ mid + 3 → (DifferByAtMost 1 m r → new ≤ mid + 1) → new ≤ old + (2 * d + k)
-few_more l r m d k old mid new near left right lower within below three even = go (Rattle.std.proofs.lemmas.Bool.cases_order r (suc m))
-  where
-    beside : r ≤ suc m → new ≤ old + (2 * d + k)
-    beside le = omega (arith, below, left, even (omega (arith, within, near.0), omega (arith, le)))
-
-    go : (r ≡ suc m) ⊎ ((r < suc m) ⊎ (suc m < r)) → new ≤ old + (2 * d + k)
-    go (inl e) = beside (omega (arith, e))
-    go (inr (inl lt)) = beside (omega (arith, lt))
-    go (inr (inr gt)) = omega (arith, below, three, right, lower, gt)

@@ -1,8 +1,7 @@
-use Rattle.std.proofs.Common.{rules, ◌≡◌, ◌≤◌, ◌+◌, ◌*◌, suc, arith, subst, Less, Equal, Greater, IfOk}
+use Rattle.std.proofs.Common.{rules, ◌≡◌, subst, Less, Equal, Greater, IfOk}
 use Rattle.std.proofs.lemmas.Result.{IfOk-weaker}
-use Rattle.pks_pmap.specs.Sides.{DifferByAtMost, IsRemoval, IsBalancing, IsGluing}
+use Rattle.pks_pmap.specs.Sides.{IsRemoval, IsBalancing, IsGluing}
 use Rattle.pks_pmap.proofs.AtFork.{at_fork}
-use Rattle.pks_pmap.proofs.Heights.{few_more}
 use Rattle.pks_pmap.proofs.Below.{remove_left_ascending, remove_middle_ascending, remove_right_ascending, remove_below_left, remove_here, remove_below_right}
 use Rattle.pks_pmap.proofs.tree.Tree.+remove.Goals as goal
 
@@ -65,33 +64,3 @@ returns-in-Equal-clause-removed g t c =
     let b : IfOk c.glue.result (IsGluing n.left n.right) =
     subst (λ m. IfOk c.glue.result (IsGluing m.left n.right)) c.deref-in-Equal.ensures (subst (λ m. IfOk c.glue.result (IsGluing c.deref-in-Equal.result.now.left m.right)) c.deref-in-Equal-2.ensures c.glue.ensures.gluing) in
     IfOk-weaker c.glue.result _ _ (λ u w. remove_here g.K.Ord.cmp g.met.K.Ord.total f c.args.key.now u q w) b
-
-pub returns-in_ok-right-in-Less-clause-at_most : goal.returns-in_ok-right-in-Less-clause-at_most
-returns-in_ok-right-in-Less-clause-at_most g t c =
-    let f = at_fork {R = g.K.Ord.cmp} c.self.view_is c.self.invariant c.in-Fork.is in
-    let n = c.in-Fork.node.value in
-    let i : IsRemoval g.K.Ord.cmp c.args.key.now n.left c.in_ok-left-in-Less.left = search rules in
-    let s : c.in_ok-right-in-Less.right ≡ n.right = search rules in
-    let before : c.remove.new.steps.made ≤ c.args.steps.now.made + (2 * n.left.1 + 1) = search rules in
-    let three : c.balance.new.steps.made ≤ c.remove.new.steps.made + 3 = grind (arith, c.balance.ensures.at_most) in
-    let even : DifferByAtMost 1 c.in_ok-left-in-Less.left.1 n.right.1 → c.balance.new.steps.made ≤ c.remove.new.steps.made + 1 = rw (← s) c.balance.ensures.even in
-    rw f.height (few_more n.left.1 n.right.1 c.in_ok-left-in-Less.left.1 n.height 1 c.args.steps.now.made c.remove.new.steps.made c.balance.new.steps.made f.node.balanced (omega (arith, f.node.is_height)) (omega (arith, f.node.is_height)) i.at_most_one_lower i.not_higher before three even)
-
-pub returns-in_ok-left-in-Greater-clause-at_most : goal.returns-in_ok-left-in-Greater-clause-at_most
-returns-in_ok-left-in-Greater-clause-at_most g t c =
-    let f = at_fork {R = g.K.Ord.cmp} c.self.view_is c.self.invariant c.in-Fork.is in
-    let n = c.in-Fork.node.value in
-    let i : IsRemoval g.K.Ord.cmp c.args.key.now n.right c.in_ok-right-in-Greater.right = search rules in
-    let s : c.in_ok-left-in-Greater.left ≡ n.left = search rules in
-    let before : c.remove-in-Greater.new.steps.made ≤ c.args.steps.now.made + (2 * n.right.1 + 1) = search rules in
-    let three : c.balance-in-Greater.new.steps.made ≤ c.remove-in-Greater.new.steps.made + 3 = grind (arith, c.balance-in-Greater.ensures.at_most) in
-    let even : DifferByAtMost 1 c.in_ok-right-in-Greater.right.1 n.left.1 → c.balance-in-Greater.new.steps.made ≤ c.remove-in-Greater.new.steps.made + 1 = λ d. subst (λ u. DifferByAtMost 1 u.1 c.in_ok-right-in-Greater.right.1 → c.balance-in-Greater.new.steps.made ≤ c.remove-in-Greater.new.steps.made + 1) s c.balance-in-Greater.ensures.even (d.1, d.0) in
-    rw f.height (few_more n.right.1 n.left.1 c.in_ok-right-in-Greater.right.1 n.height 1 c.args.steps.now.made c.remove-in-Greater.new.steps.made c.balance-in-Greater.new.steps.made (f.node.balanced.1, f.node.balanced.0) (omega (arith, f.node.is_height)) (omega (arith, f.node.is_height)) i.at_most_one_lower i.not_higher before three even)
-
-pub returns-in-Equal-clause-at_most : goal.returns-in-Equal-clause-at_most
-returns-in-Equal-clause-at_most g t c =
-    let f = at_fork {R = g.K.Ord.cmp} c.self.view_is c.self.invariant c.in-Fork.is in
-    let n = c.in-Fork.node.value in
-    let few : DifferByAtMost 1 n.left.1 n.right.1 → c.glue.new.steps.made ≤ c.args.steps.now.made + (2 * n.right.1 + 3) =
-    subst (λ m. DifferByAtMost 1 m.left.1 n.right.1 → c.glue.new.steps.made ≤ c.args.steps.now.made + (2 * n.right.1 + 3)) c.deref-in-Equal.ensures (subst (λ m. DifferByAtMost 1 c.deref-in-Equal.result.now.left.1 m.right.1 → c.glue.new.steps.made ≤ c.args.steps.now.made + (2 * m.right.1 + 3)) c.deref-in-Equal-2.ensures c.glue.ensures.near) in
-    omega (arith, few f.node.balanced, f.node.is_height, f.height)
