@@ -6,7 +6,7 @@ ghost use Rattle.pks_pmap.specs.Entries.{IsAscending, get, first_from, insert, r
 ghost use Rattle.pks_pmap.specs.Sides.{IsGreatestHeight, raised, raised_by};
 ghost use Rattle.pks_pmap.specs.Keeping.{TakesKeys, AnswersKey, Keeps};
 
-use crate::steps::Steps;
+use crate::counting::Steps;
 use crate::tree::Tree;
 use std::alloc::{AllocError, Global};
 use std::marker::Model;

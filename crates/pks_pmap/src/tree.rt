@@ -5,7 +5,7 @@ ghost use Rattle.std.specs.Option.{option_map};
 ghost use Rattle.pks_pmap.specs.Sides.{DifferByAtMost, IsFull, IsBalancing, IsInsertion, IsRemoval, IsTakingFirst, IsGluing, IsJoining, IsBuilt, raised};
 ghost use Rattle.pks_pmap.specs.Keeping.{TakesKeys, AnswersKey, IsKeeping};
 
-use crate::steps::Steps;
+use crate::counting::Steps;
 use std::alloc::{AllocError, Global};
 use std::cmp::Ordering;
 use std::marker::Model;
