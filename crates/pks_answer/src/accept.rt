@@ -13,7 +13,7 @@ use crate::line::Place;
 use pks_closing::closing::CloseEnd;
 use pks_exec::compatible::compatible;
 use pks_justify::{Unjustified, justify};
-use pks_query::db::Db;
+use pks_query::databases::Db;
 use pks_terms::ids::ItemNo;
 use pks_terms::problem::Problem;
 use pks_words::Job;

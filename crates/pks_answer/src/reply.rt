@@ -16,7 +16,7 @@ use crate::line::{objection_line, placed};
 use crate::plans::{bench, plan, plan_and_run};
 use pks_facts::WorldEnd;
 use pks_file::{InputFile, place, stated_world};
-use pks_query::db::Db;
+use pks_query::databases::Db;
 use pks_words::Job;
 use pks_world::world::World;
 use std::alloc::{AllocError, Global};

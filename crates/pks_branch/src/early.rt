@@ -5,7 +5,7 @@ ghost use Rattle.pks_terms.specs.Views.{inner_of, term_of, literal_of, literals_
 ghost use Rattle.pks_normal.specs.Fives.{five_of};
 ghost use Rattle.pks_branch.specs.Early.{inner_is_early, term_is_early, literal_is_early, plain_is_early, is_barred_by, is_barred};
 
-use pks_query::db::Db;
+use pks_query::databases::Db;
 use pks_terms::literal::Literal;
 use pks_terms::problem::Signature;
 use pks_terms::schema::{Instance, Query};

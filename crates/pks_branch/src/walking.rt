@@ -10,9 +10,9 @@ ghost use Rattle.pks_branch.specs.ChoiceViews.{choices_of};
 ghost use Rattle.pks_branch.specs.Walks.{walked, allowed_at};
 
 use crate::candidates::{InnerList, candidate_lists};
-use crate::choices::Choice;
+use crate::choosing::Choice;
 use crate::early::is_barred;
-use pks_query::db::Db;
+use pks_query::databases::Db;
 use pks_terms::ids::ActId;
 use pks_terms::problem::Signature;
 use pks_terms::schema::{Instance, Query, Schema};

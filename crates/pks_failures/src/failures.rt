@@ -6,7 +6,7 @@ ghost use Rattle.pks_failures.specs.Failing.{HasNoTree, IsRight, AreRight};
 
 use crate::mark::mark_of;
 use lru::LruCache;
-use pks_history::history::History;
+use pks_history::histories::History;
 use std::alloc::{AllocError, Global};
 use std::num::NonZeroUsize;
 

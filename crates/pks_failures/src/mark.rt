@@ -1,7 +1,7 @@
 //! Marks of histories: numbers made of all that is known at each moment and of the instances between, so that equal
 //! histories have equal marks.
 
-use pks_history::history::History;
+use pks_history::histories::History;
 use pks_normal::five::Five;
 use pks_terms::ids::ObjId;
 use pks_terms::literal::{Atom, Conj, Literal};

@@ -3,10 +3,10 @@ ghost use Rattle.pks_terms.specs.ValidProblems.{IsValidProblem};
 
 use crate::reading::{action, first, read};
 use pks_closing::closing::CloseEnd;
-use pks_history::history::History;
+use pks_history::histories::History;
 use pks_initial::initial::initial;
 use pks_plan::text::{print_conj, print_instance, print_literal, print_pattern, print_term};
-use pks_query::db::Db;
+use pks_query::databases::Db;
 use pks_terms::problem::{Init, Problem};
 use pks_terms::schema::Sense;
 use std::alloc::Global;

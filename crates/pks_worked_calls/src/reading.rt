@@ -7,10 +7,10 @@ ghost use Rattle.pks_normal.specs.Fives.{five_of};
 ghost use Rattle.pks_terms.specs.Moments.{IsMomentOf};
 ghost use Rattle.pks_file.specs.Views.{IsWhole};
 
-use pks_branch::choices::{Choice, choices};
+use pks_branch::choosing::{Choice, choices};
 use pks_file::{InputFile, read_file};
 use pks_justify::justify;
-use pks_query::db::Db;
+use pks_query::databases::Db;
 use pks_terms::problem::Problem;
 use pks_terms::schema::Instance;
 use std::alloc::Global;

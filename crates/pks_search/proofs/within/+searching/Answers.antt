@@ -13,7 +13,7 @@ use Rattle.pks_normal.specs.Fives.{five_of}
 use Rattle.pks_query.specs.Steps.{outcome_of}
 use Rattle.pks_postdict.specs.Ends.{state_of, IfAt}
 use Rattle.pks_plan.specs.TreeViews.{tree_of, chain_of}
-use Rattle.pks_branch.specs.declared.choices.Choice.TheVariants as choice_is
+use Rattle.pks_branch.specs.declared.choosing.Choice.TheVariants as choice_is
 use Rattle.pks_branch.specs.ChoiceOrder.{choice_cmp}
 use Rattle.pks_branch.specs.ChoiceViews.{choice_of, side_of}
 use Rattle.pks_search.specs.Ready.{IsReady}
