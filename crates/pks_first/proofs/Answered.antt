@@ -59,14 +59,13 @@ module _ (p : Problem) (v : IsValid p) (f : IsFirstVersion p) where
 
     each_to : (k : Chain) (h : History) (n : IsOfFirstAlong p h) (t : Term) → IsIn t (last_moment h).kv → Each (λ e. IsSideOf S (CasesOn t) (Is e)) (objects_in k) → DerivesEach p h t k → (xs : List State) → AreLeavesOfEach p h t k xs → first.AreLeavesOfEach p h t k xs
     each_to End h n t i a d xs l = l
-    each_to (More e u k) h n t i a d xs l =
-        (
-          l.0,
-          l.1,
-          (l.2.0, takes_to p v f h n (CasesOn t) (Is e) i a.0 l.2.0 l.2.1, leaves_to u l.2.0 (takes_state p v f h n (CasesOn t) (Is e) i a.0 l.2.0 l.2.1) (after_side h (CasesOn t) (Is e) d.0.0 l.2.0 u d.0.1 l.2.1 d.0.2) l.0 l.2.2),
-          each_to k h n t i a.1 d.1 l.1 l.3,
-          l.4,
-        )
+    each_to (More e u k) h n t i a d xs l = (
+      l.0,
+      l.1,
+      (l.2.0, takes_to p v f h n (CasesOn t) (Is e) i a.0 l.2.0 l.2.1, leaves_to u l.2.0 (takes_state p v f h n (CasesOn t) (Is e) i a.0 l.2.0 l.2.1) (after_side h (CasesOn t) (Is e) d.0.0 l.2.0 u d.0.1 l.2.1 d.0.2) l.0 l.2.2),
+      each_to k h n t i a.1 d.1 l.1 l.3,
+      l.4,
+    )
 
   mutual
     leaves_back : (t : Tree) (x : State) → G x → Derives p x t → (xs : List State) → first.AreLeaves p x t xs → AreLeaves p x t xs

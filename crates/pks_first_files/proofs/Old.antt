@@ -1,8 +1,6 @@
 -- Codes, limits and problems of files of the first version.
-use Rattle.std.proofs.Common.{◌≡◌, ◌||◌, ◌==◌, ◌≤◌, ◌+◌, ℕ, Bool, true, false, cond, List, [], ◌∷◌, length, Option, Some, None, refl, sym, ap, ◌∙◌, subst, inl, inr, ⊎_elim, true≢false, codes, arith}
+use Rattle.std.proofs.Common.{◌≡◌, ◌||◌, ◌==◌, ◌≤◌, ℕ, Bool, true, false, cond, List, [], ◌∷◌, length, Option, Some, None, refl, sym, ap, ◌∙◌, subst, ⊎_elim, true≢false, codes, arith}
 use Rattle.std.proofs.lemmas.Bool.{eqb-true, or_cases}
-use Rattle.pks_terms.specs.Sets.{Each}
-use Rattle.pks_terms.specs.Signatures.{fits_type}
 use Rattle.pks_terms.specs.Problems.{Problem}
 use Rattle.pks_terms.specs.Valid.{IsValid}
 use Rattle.pks_terms.specs.Versions.{IsFirstVersion}
@@ -10,7 +8,7 @@ use Rattle.pks_terms.proofs.Types.{fits_alone, fits_itself, both_ways}
 use Rattle.pks_text.specs.Forms.{Form, Forms, place_of}
 use Rattle.pks_grammar.specs.declared.grammar.Version.{Version}
 use Rattle.pks_grammar.specs.declared.grammar.Version.TheVariants.{First, Second}
-use Rattle.pks_grammar.specs.Files.{Fault, version_of, number_of}
+use Rattle.pks_grammar.specs.Files.{version_of, number_of}
 use Rattle.pks_meaning.specs.Tables as tables
 use Rattle.pks_meaning.specs.Tables.{Table, entries_of}
 use Rattle.pks_meaning.specs.Scopes.{Scope, signature_in, fits, type_of}
@@ -19,13 +17,12 @@ use Rattle.pks_meaning.specs.Terms as terms
 use Rattle.pks_meaning.specs.Declarations as declarations
 use Rattle.pks_meaning.specs.Declarations.{Types, objects_from, most_objects}
 use Rattle.pks_meaning.specs.Meaning.{scope_of}
-use Rattle.pks_domain.specs.FirstFault.{meaning_fault}
 use Rattle.pks_stated.specs.Stated.{Named, problem_in, problem_by}
 use Rattle.pks_facts.specs.Facts as facts
 use Rattle.pks_accepted.proofs.Whole.{first_version, valid_problem}
 use Rattle.pks_accepted.proofs.Tabled.{objects_length, entries_length}
 use Rattle.pks_reader.specs.Files.{IsFileOf, faults_by_section, FormsState}
-use Rattle.pks_reader.proofs.Firsts.{first_fault, faultless, meaning_first}
+use Rattle.pks_reader.proofs.Firsts.{faultless, meaning_first}
 use Rattle.pks_reader.proofs.Parted.{of_version}
 use Rattle.pks_first_files.specs.Codes as old
 use Rattle.pks_first_files.specs.Codes.{HasNoParents}
@@ -78,7 +75,7 @@ first_states fs p n s v =
     let same : s.version ≡ First = sym s.file.version ∙ v in
     let is = of_version fs s.version s.domain s.problem s.file in
     let valid = valid_problem s.version s.domain s.problem is.0 is.1
-        (meaning_first (number_of s.version) (behind_head s.domain) (behind_head s.problem) ∙ faultless (faults_by_section (number_of s.version) (behind_head s.domain) (behind_head s.problem)) s.faultless) in (
+    (meaning_first (number_of s.version) (behind_head s.domain) (behind_head s.problem) ∙ faultless (faults_by_section (number_of s.version) (behind_head s.domain) (behind_head s.problem)) s.faultless) in (
       subst IsValid (sym s.says) valid,
       subst IsFirstVersion (sym s.says) (by_version s.version same is.0 is.1),
     )

@@ -1,6 +1,5 @@
 -- The grammar of the first version: a type is a name alone, an action has no cost, and an aim is a plain query.
 use Rattle.std.specs.Prelude.{◌≡◌, ℕ, true, List, [], ◌∷◌, codes}
-use Rattle.pks_terms.specs.Sets.{IsIn}
 use Rattle.pks_text.specs.Forms.{Form, Word, Listing, Forms, no_forms, form}
 use Rattle.pks_grammar.specs.declared.grammar.Sort.{Sort}
 use Rattle.pks_grammar.specs.declared.grammar.Sort.TheVariants.{Domain, Types, Kind, Objects, Predicates, Functions, Entry, Function, Action, Cost, Params, Param, Pre, Effects, Effect, Condition, Target, Senses, Sense, Knows, Add, Given, Item, Query, Plain, Problem, Init, Start, Goal, Aim, Literal, Positive, Atom, Pattern, Slot, Place, Term, World, True, Values, Value, Fact, Nothing, Head, Name, Variable, Number}
