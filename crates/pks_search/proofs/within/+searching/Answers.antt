@@ -191,7 +191,7 @@ best_of_choices-best_by_choice-requires t c =
     (less, (c.requires.ready, (subst (IsIn (choice_of here)) same (in_map choice_of all here (in_list all c.loop-c.c-index (choice_is.Act (record { act = record { 0 = 0 }; n = 0; args = [] })) within)), c.loop-c.invariant.1)))
 
 pub best_of_choices-loop-c-init : goal.best_of_choices-loop-c-init
-best_of_choices-loop-c-init t c = found_first (problem_of c.args.p.now) c.args.h.now (c.args.n + 1) c.args.limit c.requires.unmet
+best_of_choices-loop-c-init t c = (found_first (problem_of c.args.p.now) c.args.h.now (c.args.n + 1) c.args.limit c.requires.unmet, c.requires.right)
 
 pub best_of_choices-loop-c-preserved : goal.best_of_choices-loop-c-preserved
 best_of_choices-loop-c-preserved t c =
@@ -217,7 +217,7 @@ best_of_choices-loop-c-preserved t c =
           (subst (λ o. IsFoundAmong p c.args.h.now (c.args.n + 1) c.args.limit (done ++ choice_of here ∷ []) (option_map tree_of o) c.loop-c.below) (sym w.best-is)
           (found_none p c.args.h.now (c.args.n + 1) c.args.limit c.requires.unmet done (choice_of here) (option_map tree_of c.loop-c.best) c.loop-c.below before c.loop-c.invariant.0 found))
     ] in
-    subst (λ cs. IsFoundAmong p c.args.h.now (c.args.n + 1) c.args.limit cs (option_map tree_of c.match-branch-3.best) c.match-branch-3.below) (sym (taken_more choice_of all c.loop-c.c-index none within)) next
+    (subst (λ cs. IsFoundAmong p c.args.h.now (c.args.n + 1) c.args.limit cs (option_map tree_of c.match-branch-3.best) c.match-branch-3.below) (sym (taken_more choice_of all c.loop-c.c-index none within)) next, c.in_ok-t.ensures.right)
 
 pub best_of_choices-cost-below-requires-clause-costs : goal.best_of_choices-cost-below-requires-clause-costs
 best_of_choices-cost-below-requires-clause-costs t c = costs_at_most (problem_of c.args.p.now) c.requires.ready.valid.says
@@ -285,3 +285,6 @@ best_within-returns-then-n-eq0-clause-best t c =
       | best_within-then-n-eq0-via-then-n-eq0 w ↦ subst (λ n. IsBestWithin p (At c.args.h.now) n c.args.limit None) (sym w.if-n-eq0.true) (none_at_depth p c.args.h.now c.args.limit unmet)
       | best_within-then-n-eq0-via-else-n-eq0+then-limit-eq0 w ↦ subst (λ l. IsBestWithin p (At c.args.h.now) c.args.n l None) (sym w.if-limit-eq0.true) (none_at_cost p c.requires.valid.says c.args.h.now c.args.n unmet)
     ]
+
+pub best_unmet-returns-then-tells-clause-best : goal.best_unmet-returns-then-tells-clause-best
+best_unmet-returns-then-tells-clause-best t c = c.tells.ensures.told c.if-tells.true (problem_of c.args.p.now) c.requires.ready.valid.says c.requires.right
