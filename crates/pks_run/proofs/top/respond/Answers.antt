@@ -1,4 +1,4 @@
-use Rattle.std.proofs.Common.{map, string_bytes, subst}
+use Rattle.std.proofs.Common.{Err, map, string_bytes, ap, subst}
 use Rattle.std.proofs.lemmas.Result.{IfOk-weaker}
 use Rattle.pks_words.specs.JobViews.{job_of}
 use Rattle.pks_terms.specs.Jobs.{Job}
@@ -10,6 +10,11 @@ pub returns-in-Ok-clause-responds : goal.returns-in-Ok-clause-responds
 returns-in-Ok-clause-responds g c =
     IfOk-weaker c.answer_job.result _ _
     (λ a replies. replies_respond (map string_bytes c.args.words.now) (job_of c.in-Ok.job) (g.S.Source.left c.args.source.now) a.0 a.1.items c.in-Ok.ensures.ok replies) c.answer_job.ensures.replies
+
+pub returns-in_ok-text-in-Err-Refused-clause-responds : goal.returns-in_ok-text-in-Err-Refused-clause-responds
+returns-in_ok-text-in-Err-Refused-clause-responds g c =
+    usage_responds (map string_bytes c.args.words.now) (c.in-Err-Refused.ensures.refused (ap (λ t. Err t) c.in-Err-Refused.field-0-is)) c.in_ok-text-in-Err-Refused.text.items
+    c.in_ok-text-in-Err-Refused.ensures (g.S.Source.left c.args.source.now)
 
 pub returns-in-Ok-clause-unasked : goal.returns-in-Ok-clause-unasked
 returns-in-Ok-clause-unasked g c = λ nothing. absurd (nothing (job_of c.in-Ok.job) c.in-Ok.ensures.ok.0)
