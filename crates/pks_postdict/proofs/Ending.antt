@@ -14,6 +14,7 @@ use Rattle.pks_terms.proofs.ListLaws.{each_unmapped}
 use Rattle.pks_laws.proofs.BelongingHistories.{settled_closed}
 use Rattle.pks_laws.proofs.Histories.{deeds_with_last, deeds_settled, settled_history}
 use Rattle.pks_laws.proofs.LeastFamily.{settled_least}
+use Rattle.pks_laws.proofs.SettledEnd.{rounds_have_start, end_closed}
 use Rattle.pks_postdict.specs.Ends.{IsLeastOver}
 use Rattle.pks_postdict.specs.Lasting.{IsLastFamily}
 
@@ -40,10 +41,12 @@ module _ (p : Problem) (h f g : History) (same : f ≡ h) (end : IsLastFamily p 
       each_unmapped (λ (step : Instance × Five). IsClosed p.signature step.1) (λ (step : Instance × Five). (step.0, tidied step.1)) g.steps
       (settled_closed p h (tidied_history g) (settles_at none)).1
 
-  pub least_over : HasValues p.signature → (k : History) → k ≡ tidied_history g → IsLeastOver p h k
-  least_over inhabited k says = record {
+  pub least_over : HasValues p.signature → clashes p.signature g ≡ false → (k : History) → k ≡ tidied_history g → IsLeastOver p h k
+  least_over inhabited none k says = record {
     family = settle_rounds p end.count h;
     says = says ∙ ap tidied_history reached_from;
+    whole = rounds_have_start p h end.count;
+    closed = end_closed p (settle_rounds p end.count h) (settles_at none).last (ap (clashes p.signature) (sym reached_from) ∙ none);
     least = λ big within closed. settled_least p inhabited end.count h big within closed;
   }
 

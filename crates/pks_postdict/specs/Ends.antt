@@ -21,8 +21,10 @@ abbrev pub IsAtWith : (History → Type 0) → State → Type 0
 IsAtWith P (At h) = P h
 IsAtWith P Stopped = ⊥
 
--- g is what a family says in normal form that lies within each family without a clash that has all of h and is closed under the rules
+-- g is what a family without a clash says in normal form that has all of h and is closed under the rules, and that lies within each other such family
 pub record IsLeastOver (p : Problem) (h g : History) : Type 0 where
   pub family : History
   pub says : g ≡ tidied_history family
+  pub whole : WithinAlong h.start h.steps family.start family.steps
+  pub closed : ClosedAlong p family.start family.steps
   pub least : (big : History) → WithinAlong h.start h.steps big.start big.steps → ClosedAlong p big.start big.steps → WithinAlong family.start family.steps big.start big.steps

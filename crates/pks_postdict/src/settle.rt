@@ -9,7 +9,7 @@ ghost use Rattle.pks_terms.specs.Settling.{clashes, tidied_history, with_last, S
 ghost use Rattle.pks_terms.specs.Remembering.{IsTrueHistory};
 ghost use Rattle.pks_terms.specs.ValidProblems.{IsValidProblem};
 ghost use Rattle.pks_terms.specs.Views.{problem_of, signature_of};
-ghost use Rattle.pks_laws.specs.OfSignature.{IsMomentOf, AreMomentsOf};
+ghost use Rattle.pks_terms.specs.Moments.{IsMomentOf, AreMomentsOf};
 ghost use Rattle.pks_normal.specs.Fives.{five_of};
 ghost use Rattle.pks_postdict.specs.Ends.{state_of, IfAt, IsAtWith, IsLeastOver};
 ghost use Rattle.pks_postdict.specs.Families.{held_of, links_of, family_of};

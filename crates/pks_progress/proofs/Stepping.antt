@@ -7,15 +7,15 @@ use Rattle.pks_terms.specs.Worlds.{World}
 use Rattle.pks_terms.specs.Databases.{Entry, entry_cmp, Five}
 use Rattle.pks_terms.specs.Meaning.{IsTrueOf}
 use Rattle.pks_terms.specs.Closure.{Outcome, Next, Clash, Closes}
-use Rattle.pks_terms.specs.Actions.{Instance, applied_to}
+use Rattle.pks_terms.specs.Actions.{Instance}
 use Rattle.pks_terms.specs.Problems.{Problem, schema_of}
 use Rattle.pks_terms.specs.Valid.{IsValid}
 use Rattle.pks_terms.specs.Typed.{AreJustified}
 use Rattle.pks_terms.specs.Branching.{instances}
 use Rattle.pks_terms.specs.Settling.{effects_of}
-use Rattle.pks_terms.specs.Knowledge.{grounded, observations}
+use Rattle.pks_terms.specs.Knowledge.{grounded, after_action, observations}
 use Rattle.pks_terms.specs.Progress.{progressed, Progress}
-use Rattle.pks_laws.specs.OfSignature.{IsMomentOf}
+use Rattle.pks_terms.specs.Moments.{IsMomentOf}
 use Rattle.pks_laws.proofs.BelongingSteps.{choice_of}
 use Rattle.pks_laws.proofs.SearchStates.{action_moment}
 use Rattle.pks_laws.proofs.StepLaws.{action_true}
@@ -68,8 +68,8 @@ pub step_true : (p : Problem) (d : Five) (i : Instance) (o : Outcome)
     → Progress p.signature d (schema_of p i.action) i o
     → (w w' : World)
     → IsTrueOf p.signature w w' d
-    → observations p (applied_to w (effects_of p i)) (grounded w i) ≡ observations p (applied_to w' (effects_of p i)) (grounded w' i)
-    → IsNextWith (IsTrueOf p.signature (applied_to w (effects_of p i)) (applied_to w' (effects_of p i))) o
+    → observations p (after_action p w (grounded w i)) (grounded w i) ≡ observations p (after_action p w' (grounded w' i)) (grounded w' i)
+    → IsNextWith (IsTrueOf p.signature (after_action p w (grounded w i)) (after_action p w' (grounded w' i))) o
 step_true p d i o v chosen justified progress w w' m seen =
     let r = action_true p w w' d i o (valid_typed p v) m chosen justified seen progress in
-    subst (IsNextWith (IsTrueOf p.signature (applied_to w (effects_of p i)) (applied_to w' (effects_of p i)))) (sym r.1) r.2
+    subst (IsNextWith (IsTrueOf p.signature (after_action p w (grounded w i)) (after_action p w' (grounded w' i)))) (sym r.1) r.2

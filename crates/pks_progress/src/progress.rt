@@ -1,22 +1,20 @@
 //! The databases after an action. `docs/RULES.md` has the rule.
 ghost use Rattle.std.specs.Prelude.{◌≡◌, ◌≤◌, length, IfOk};
-ghost use Rattle.pks_terms.specs.Sets.{IsIn, added};
+ghost use Rattle.pks_terms.specs.Sets.{Each, IsIn, added};
 ghost use Rattle.pks_terms.specs.Databases.{entry_cmp};
 ghost use Rattle.pks_terms.specs.Orders.{conj_cmp, literal_cmp, term_cmp};
 ghost use Rattle.pks_terms.specs.Closure.{Closes};
 ghost use Rattle.pks_terms.specs.Signatures.{HasValues};
-ghost use Rattle.pks_terms.specs.Worlds.{World};
+ghost use Rattle.pks_terms.specs.Worlds.{World, inner_value};
 ghost use Rattle.pks_terms.specs.Meaning.{IsTrueOf};
-ghost use Rattle.pks_terms.specs.Actions.{applied_to};
 ghost use Rattle.pks_terms.specs.Progress.{Progress, progressed};
 ghost use Rattle.pks_terms.specs.Problems.{schema_of};
 ghost use Rattle.pks_terms.specs.Typed.{AreJustified};
 ghost use Rattle.pks_terms.specs.Branching.{instances};
-ghost use Rattle.pks_terms.specs.Settling.{effects_of};
-ghost use Rattle.pks_terms.specs.Knowledge.{grounded, observations};
+ghost use Rattle.pks_terms.specs.Knowledge.{grounded, after_action, observations};
 ghost use Rattle.pks_terms.specs.ValidProblems.{IsValidProblem};
 ghost use Rattle.pks_terms.specs.Views.{instance_of, problem_of, signature_of, terms_of};
-ghost use Rattle.pks_laws.specs.OfSignature.{IsMomentOf};
+ghost use Rattle.pks_terms.specs.Moments.{IsMomentOf};
 ghost use Rattle.pks_kf.specs.Known.{literals_of};
 ghost use Rattle.pks_kw.specs.Formulas.{formulas_of};
 ghost use Rattle.pks_kx.specs.Groups.{groups_of};
@@ -84,8 +82,9 @@ fn closed(alloc: Global, s: &Signature, five: Five) -> Result<Step, AllocError>
 
 /// The closed databases after the instance, or the least literal that is derived false (`docs/RULES.md`, "Progression"). It
 /// asks for a valid problem, for closed databases of its signature, for an instance that is a choice there, and that every
-/// add of its action is justified. Where the databases are true of two worlds in which the same is observed after the
-/// instance, there is no clash, and the next databases are true of the two new worlds. The error is want of memory.
+/// add of its action is justified. Where the databases are true of two worlds, the arguments have the same values in both;
+/// and where the same is observed after the ground action that the instance is then, there is no clash, and the next
+/// databases are true of the two new worlds. The error is want of memory.
 pub fn progress(alloc: Global, p: &Problem<'_>, d: &Db, i: &Instance) -> Result<Step, AllocError>
     requires valid { IsValidProblem p.now }
     requires moment { IsMomentOf (problem_of p.now).signature (five_of d.now) }
@@ -93,9 +92,10 @@ pub fn progress(alloc: Global, p: &Problem<'_>, d: &Db, i: &Instance) -> Result<
     requires justified { AreJustified (schema_of (problem_of p.now) (instance_of i.now).action) }
     ensures progress { IfOk result (λ o. Progress (problem_of p.now).signature (five_of d.now) (schema_of (problem_of p.now) (instance_of i.now).action) (instance_of i.now) (outcome_of o)) }
     ensures moment { IfOk result (λ o. IfNext (IsMomentOf (problem_of p.now).signature) (outcome_of o)) }
-    ensures keeps_truth { (w w' : World) → IsTrueOf (problem_of p.now).signature w w' (five_of d.now)
-        → observations (problem_of p.now) (applied_to w (effects_of (problem_of p.now) (instance_of i.now))) (grounded w (instance_of i.now)) ≡ observations (problem_of p.now) (applied_to w' (effects_of (problem_of p.now) (instance_of i.now))) (grounded w' (instance_of i.now))
-        → IfOk result (λ o. IsNextWith (IsTrueOf (problem_of p.now).signature (applied_to w (effects_of (problem_of p.now) (instance_of i.now))) (applied_to w' (effects_of (problem_of p.now) (instance_of i.now)))) (outcome_of o)) }
+    ensures arguments_agree { (w w' : World) → IsTrueOf (problem_of p.now).signature w w' (five_of d.now) → Each (λ t. inner_value w t ≡ inner_value w' t) (instance_of i.now).arguments }
+    ensures keeps_truth { (w w' : World) → let q = problem_of p.now in let g = grounded w (instance_of i.now) in let g' = grounded w' (instance_of i.now) in
+        let v = after_action q w g in let v' = after_action q w' g' in
+        IsTrueOf q.signature w w' (five_of d.now) → observations q v g ≡ observations q v' g' → IfOk result (λ o. IsNextWith (IsTrueOf q.signature v v') (outcome_of o)) }
 {
     let five = progressed(alloc, p, d, i)?;
     let step = closed(alloc, &p.signature, five)?;

@@ -75,4 +75,5 @@ returns-clause-least c =
     let h = with_last c.args.h.now (five_of c.args.d) in
     let f = family_of c.in_ok-family.family in
     let g = family_of c.in_ok-last.last in
-    least_over p h f g c.in_ok-family.ensures.moments c.in_ok-last.ensures c.requires.valid.says.signature.values c.in_ok-all.all c.in_ok-all.ensures
+    let none : clashes p.signature g ≡ false = cc (c.clashes.ensures) in
+    least_over p h f g c.in_ok-family.ensures.moments c.in_ok-last.ensures c.requires.valid.says.signature.values none c.in_ok-all.all c.in_ok-all.ensures
