@@ -1,8 +1,14 @@
 #!/bin/sh
 # Runs the planner: words, standard input, standard output and the status go through untouched.
 # Where the program isn't built, or a source is newer, this proves and builds it first.
+# `pks try WORDS` proves nothing: it compiles the sources and runs them as they stand.
 top=$(dirname "$(readlink -f "$0")")
-program=$top/crates/pks/out/pks
+crate=$top/crates/pks
+program=$crate/out/pks
+
+say() {
+    echo "pks: $1" >&2
+}
 
 is_stale() {
     [ -x "$program" ] || return 0
@@ -11,24 +17,57 @@ is_stale() {
     [ -n "$newer" ]
 }
 
+need_rt() {
+    command -v rt >/dev/null 2>&1 && return
+    say "the program must be built first, and rt, the toolchain's command, isn't on the PATH."
+    say "install the Rattle kit that README.md names, or put its bin folder on the PATH."
+    exit 127
+}
+
+tell_of_input() {
+    case $1 in
+        check | plan | exec) [ -t 0 ] && say "the file is read from standard input: ./pks $* < FILE" ;;
+    esac
+}
+
+fail() {
+    say "the program could not be built."
+    exit 125
+}
+
 build() {
-    if ! command -v rt >/dev/null 2>&1; then
-        echo "pks: the program must be proved and built first, and rt, the toolchain's command, isn't on the PATH." >&2
-        echo "pks: install the Rattle kit that README.md names, or put its bin folder on the PATH." >&2
-        exit 127
-    fi
-    echo "pks: proving and building the program. From nothing this takes up to an hour on four cores; later calls run it at once." >&2
-    log=$(mktemp) || exit 125
+    say "proving and building the program: up to half an hour from nothing on four cores. Later calls run it at once."
+    say "./pks try WORDS < FILE runs it unproved, in about a minute."
+    rm -f "$program"
+    python3 "$top/tools/prove.py" "$crate" </dev/null || fail
+    say "building the program"
     # The run that ends the build is the stored example.
-    if (cd "$top/crates/pks" && rm -f out/pks && rt run -- plan 0 <stdin) >"$log" 2>&1; then
-        rm -f "$log"
-    else
-        cat "$log" >&2
-        rm -f "$log"
-        echo "pks: the program could not be built." >&2
-        exit 125
+    if ! said=$(cd "$crate" && rt run -- plan 0 <stdin 2>&1); then
+        echo "$said" >&2
+        fail
     fi
 }
 
-if is_stale; then build; fi
+# Standard output has what the program writes alone. The toolchain is heard where the program didn't run to its end.
+try_unproved() {
+    say "nothing is proved: the sources are compiled and run as they stand, which takes about a minute."
+    { said=$(cd "$crate" && rt try -- "$@" 2>&1 >&3); status=$?; } 3>&1
+    case $said in
+        *"run=ended status="*) ;;
+        *) echo "$said" >&2 ;;
+    esac
+    exit "$status"
+}
+
+if [ "$1" = try ]; then
+    shift
+    need_rt
+    tell_of_input "$@"
+    try_unproved "$@"
+fi
+if is_stale; then
+    need_rt
+    build
+fi
+tell_of_input "$@"
 exec "$program" "$@"

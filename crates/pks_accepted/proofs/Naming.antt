@@ -17,8 +17,8 @@ use Rattle.pks_grammar.specs.Files.{Fault, number_of}
 use Rattle.pks_grammar.specs.Language.{IsOf, Matches}
 use Rattle.pks_meaning.specs.Tables.{Table, entry_of, declare, too_long, twice}
 use Rattle.pks_meaning.specs.Scopes.{Scope, name_in}
-use Rattle.pks_meaning.specs.Parts.{text_of, behind, behind_head, section, first_forms, each, past}
-use Rattle.pks_meaning.specs.Declarations.{name_of, name_faults, entries_faults, past_names, first_in, second_in, most_objects, type_faults, predicate_in, predicate_faults, predicates_section, function_in, within, action_faults, nothing, actions_among, actions_section}
+use Rattle.pks_meaning.specs.Parts.{text_of, behind, behind_head, section, first_forms, each}
+use Rattle.pks_meaning.specs.Declarations.{name_of, name_faults, entries_faults, past_names, first_in, second_in, most_objects, section_table, section_faults, predicate_in, barred_faults, predicate_faults, predicates_section, function_in, within, action_faults, nothing, actions_among, actions_section}
 use Rattle.pks_meaning.specs.Meaning.{scope_of}
 use Rattle.pks_domain.specs.FirstFault.{meaning_fault}
 use Rattle.pks_stated.specs.Stated.{all, schema_in, stated_in, problem_in, problem_by, named_in, named_by}
@@ -131,11 +131,12 @@ module _ {X : Type 0} where
 
 -- ---- all names
 
-not_not : (f : Form) (types : Table (Option ℕ)) → predicate_faults types f ≡ [] → bytes_eq (name_of (first_in f)) (codes "not") ≡ false
-unfolding predicate_faults
-not_not f types e =
-    when (place_of (first_in f), 201) (bytes_eq (name_of (first_in f)) (codes "not"))
-    (nil_parts (cond (bytes_eq (name_of (first_in f)) (codes "not")) ((place_of (first_in f), 201) ∷ []) []) (each (type_faults types) (behind_head f) ++ past 3 (behind_head f)) e).0
+not_not : (f : Form) → barred_faults f ≡ [] → bytes_eq (name_of (first_in f)) (codes "not") ≡ false
+not_not f e = when (place_of (first_in f), 201) (bytes_eq (name_of (first_in f)) (codes "not")) e
+
+none_not : (fs : Forms) → each barred_faults fs ≡ [] → EachForm (λ f. bytes_eq (name_of (first_in f)) (codes "not") ≡ false) fs
+none_not no_forms e = tt
+none_not (form f fs) e = let both = nil_parts (barred_faults f) (each barred_faults fs) e in (not_not f both.0, none_not fs both.1)
 
 same_names : (v : Version) (fs : Forms) → EachForm (IsOf v sort.Action) fs → all (λ f. name_of (second_in f)) fs ≡ all (λ f. text_of (second_in f)) fs
 same_names v no_forms a = refl
@@ -168,8 +169,8 @@ problem_named v d p is e =
     let functions = section (codes "functions") domain in
     let actions = actions_among domain in
     let are = actions_are v domain m in
-    let ended = nil_parts (entries_faults second_in nothing (λ f. action_faults s (behind_head f)) [] (first_forms 64 actions)) (past_names second_in 64 actions) no.actions in
-    let whole = first_all second_in 64 actions ended.1 in
+    let ended = nil_parts (entries_faults second_in nothing (λ f. action_faults s (behind_head f)) [] (first_forms 64 actions)) (past_names (section_table second_in 64 nothing actions) second_in 64 actions) no.actions in
+    let whole = first_all (section_table second_in 64 nothing actions) second_in 64 actions ended.1 in
     let apart = (entries_different second_in nothing (λ f. action_faults s (behind_head f)) [] (first_forms 64 actions) ended.0).0 in
     let named = each_forms (IsOf v sort.Entry) (IsOf v sort.Entry) (λ f. EachForm (λ g. is_name (name_of (first_in g)) ≡ true) (behind_head f))
     (λ f is also. each_forms (IsOf v sort.Name) (IsOf v sort.Name) (λ g. is_name (name_of (first_in g)) ≡ true) (λ g is also. object_name v g is) (behind_head f) (entry_names v f is).1 (entry_names v f is).1)
@@ -194,8 +195,8 @@ problem_named v d p is e =
       };
       none_is_not = λ i.
           let each_not = each_key_tabled (λ n. bytes_eq n (codes "not") ≡ false) first_in (predicate_in s.types) [] (first_forms 32 predicates) tt
-          (each_forms (λ f. predicate_faults s.types f ≡ []) (λ f. predicate_faults s.types f ≡ []) (λ f. bytes_eq (name_of (first_in f)) (codes "not") ≡ false) (λ f e also. not_not f s.types e) (first_forms 32 predicates)
-          (section_faultless first_in 32 (predicate_in s.types) (predicate_faults s.types) predicates no.predicates) (section_faultless first_in 32 (predicate_in s.types) (predicate_faults s.types) predicates no.predicates)) in
+          (each_of_first (λ f. bytes_eq (name_of (first_in f)) (codes "not") ≡ false) 32 predicates
+          (none_not predicates (nil_parts (each barred_faults predicates) (section_faults first_in 32 (predicate_in s.types) (predicate_faults s.types) predicates) no.predicates).0)) in
           true≢false (each_in (λ n. bytes_eq n (codes "not") ≡ false) (keys_of s.predicates) (codes "not") each_not i);
       functions = record {
         counted = keys_length s.functions ∙ sym (entries_length s.functions);

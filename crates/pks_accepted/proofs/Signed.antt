@@ -19,7 +19,7 @@ use Rattle.pks_grammar.specs.Language.{IsOf, Matches}
 use Rattle.pks_meaning.specs.Tables.{number_of, entries_of, too_long, unknown}
 use Rattle.pks_meaning.specs.Scopes.{Scope, signature_in, fits}
 use Rattle.pks_meaning.specs.Parts.{text_of, behind, behind_head, section, first_forms, all_but_last, last_of, each, past}
-use Rattle.pks_meaning.specs.Declarations.{Types, name_of, type_faults, types_named, first_in, types_in, most_objects, objects_section, predicate_in, predicate_faults, predicates_section, result_named, function_in, has_object, empty_faults, function_faults, functions_section, parameter_in, within}
+use Rattle.pks_meaning.specs.Declarations.{Types, name_of, type_faults, types_named, first_in, types_in, most_objects, objects_section, section_faults, predicate_in, barred_faults, predicate_faults, predicates_section, result_named, function_in, has_object, empty_faults, function_faults, functions_section, parameter_in, within}
 use Rattle.pks_meaning.specs.Meaning.{scope_of}
 use Rattle.pks_stated.specs.Sizes.{IsSmall}
 use Rattle.pks_accepted.specs.Facts.{EachForm, HasShapes}
@@ -60,8 +60,7 @@ IsFunction s x = (Each (λ a. a < s.types) x.arguments × (length x.arguments �
 pub predicate_valid : (types : Types) (f : Form) → predicate_faults types f ≡ [] → IsPredicate (length types) (predicate_in types f)
 unfolding predicate_faults predicate_in
 predicate_valid types f e =
-    let named = nil_parts (cond (bytes_eq (name_of (first_in f)) (codes "not")) ((place_of (first_in f), 201) ∷ []) []) (each (type_faults types) (behind_head f) ++ past 3 (behind_head f)) e in
-    let rest = nil_parts (each (type_faults types) (behind_head f)) (past 3 (behind_head f)) named.1 in
+    let rest = nil_parts (each (type_faults types) (behind_head f)) (past 3 (behind_head f)) e in
     (types_within types 3 (behind_head f) (each_faultless (type_faults types) (behind_head f) rest.0), types_length types 3 (behind_head f))
 
 -- a function has a result
@@ -153,11 +152,12 @@ signature_valid v version domain are no_object no_predicate no_function =
     let functions = each_tabled (IsFunction (signature_in s)) first_in (function_in s.types) [] (first_forms 32 few) tt
     (each_forms (IsOf v sort.Function) (λ f. function_faults (before s) f ≡ []) (λ f. IsFunction (signature_in s) (function_in s.types f)) (λ f is e. function_valid s f (has_result v f is) e)
     (first_forms 32 few) (each_of_first (IsOf v sort.Function) 32 few are) (section_faultless first_in 32 (function_in s.types) (function_faults (before s)) few no_function)) in
-    let predicates = each_tabled (IsPredicate (length s.types)) first_in (predicate_in s.types) [] (first_forms 32 (section (codes "predicates") domain)) tt
+    let named = section (codes "predicates") domain in
+    let own = (nil_parts (each barred_faults named) (section_faults first_in 32 (predicate_in s.types) (predicate_faults s.types) named) no_predicate).1 in
+    let predicates = each_tabled (IsPredicate (length s.types)) first_in (predicate_in s.types) [] (first_forms 32 named) tt
     (each_forms (λ f. predicate_faults s.types f ≡ []) (λ f. predicate_faults s.types f ≡ []) (λ f. IsPredicate (length s.types) (predicate_in s.types f)) (λ f e also. predicate_valid s.types f e)
-    (first_forms 32 (section (codes "predicates") domain))
-    (section_faultless first_in 32 (predicate_in s.types) (predicate_faults s.types) (section (codes "predicates") domain) no_predicate)
-    (section_faultless first_in 32 (predicate_in s.types) (predicate_faults s.types) (section (codes "predicates") domain) no_predicate)) in
+    (first_forms 32 named)
+    (section_faultless first_in 32 (predicate_in s.types) (predicate_faults s.types) named own) (section_faultless first_in 32 (predicate_in s.types) (predicate_faults s.types) named own)) in
     record {
       counted = entries_length s.types;
       parents = λ n up e. let r : up < 0 + n = earlier_types [] (first_forms 16 (section (codes "types") domain)) (λ n up e. absurd (none-some (Some up) e)) n up e in omega (arith, r);

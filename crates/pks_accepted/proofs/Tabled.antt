@@ -11,7 +11,7 @@ use Rattle.pks_grammar.specs.Walk.{count}
 use Rattle.pks_grammar.specs.Files.{Fault}
 use Rattle.pks_meaning.specs.Tables.{Table, number_of, entries_of, declare, too_long, unknown}
 use Rattle.pks_meaning.specs.Parts.{text_of, behind_head, first_forms, all_but_last, last_of}
-use Rattle.pks_meaning.specs.Declarations.{name_of, name_faults, table_from, entries_faults, past_names, section_faults, section_table, Types, type_faults, type_named, types_named, parent_named, types_from, first_in, no_faults, objects_from, objects_faults, objects_faults_in}
+use Rattle.pks_meaning.specs.Declarations.{name_of, name_faults, table_from, entries_faults, past_names, section_faults, section_table, Types, type_faults, type_named, types_named, parent_named, types_from, first_in, no_faults, objects_with, objects_from, objects_faults, objects_faults_in}
 use Rattle.pks_accepted.specs.Facts.{EachForm}
 use Rattle.pks_accepted.proofs.Numbers.{nil_parts, cons_nil, known, within_table}
 
@@ -32,11 +32,11 @@ first_count (suc n) no_forms = (omega arith, omega arith)
 first_count (suc n) (form f fs) = let r = first_count n fs in let a = r.0 in let b = r.1 in (omega (arith, a), omega (arith, b))
 
 -- nothing is past a number of them
-pub first_all : (named : Form → Form) (n : ℕ) (fs : Forms) → past_names named n fs ≡ [] → first_forms n fs ≡ fs
-first_all named zero no_forms e = refl
-first_all named (suc n) no_forms e = refl
-first_all named zero (form f fs) e = absurd (cons_nil e)
-first_all named (suc n) (form f fs) e = ap (λ (gs : Forms). form f gs) (first_all named n fs e)
+pub first_all : {X : Type 0} (table : Table X) (named : Form → Form) (n : ℕ) (fs : Forms) → past_names table named n fs ≡ [] → first_forms n fs ≡ fs
+first_all table named zero no_forms e = refl
+first_all table named (suc n) no_forms e = refl
+first_all table named zero (form f fs) e = absurd (cons_nil (nil_parts (name_faults table (named f)) ((place_of (named f), 208) ∷ []) e).1)
+first_all table named (suc n) (form f fs) e = ap (λ (gs : Forms). form f gs) (first_all table named n fs e)
 
 pub each_but_last : (P : Form → Type 0) (fs : Forms) → EachForm P fs → EachForm P (all_but_last fs)
 each_but_last P no_forms a = tt
@@ -79,7 +79,7 @@ module _ {X : Type 0} where
       ((nil_parts (name_faults t (named f)) (faults f) both.0).1, entries_faultless named said faults (declare t (name_of (named f)) (said f)) fs both.1)
 
   pub section_faultless : (named : Form → Form) (n : ℕ) (said : Form → X) (faults : Form → List Fault) (fs : Forms) → section_faults named n said faults fs ≡ [] → EachForm (λ f. faults f ≡ []) (first_forms n fs)
-  section_faultless named n said faults fs e = entries_faultless named said faults [] (first_forms n fs) (nil_parts (entries_faults named said faults [] (first_forms n fs)) (past_names named n fs) e).0
+  section_faultless named n said faults fs e = entries_faultless named said faults [] (first_forms n fs) (nil_parts (entries_faults named said faults [] (first_forms n fs)) (past_names (section_table named n said fs) named n fs) e).0
 
   pub section_length : (named : Form → Form) (n : ℕ) (said : Form → X) (fs : Forms) → length (section_table named n said fs) ≤ n
   section_length named n said fs = let a = tabled_length named said [] (first_forms n fs) in let b = (first_count n fs).0 in omega (arith, a, b)
@@ -210,7 +210,7 @@ objects_within types n t no_forms a e = a
 objects_within types n t (form f fs) a e =
     let table = table_from first_in (λ g. type_named types (first_in f)) t (first_forms n (behind_head f)) in
     let both = nil_parts (objects_faults_in types n t f) (objects_faults types (n - count (behind_head f)) table fs) e in
-    let own = nil_parts (type_faults types (first_in f)) (entries_faults first_in (λ g. type_named types (first_in f)) no_faults t (first_forms n (behind_head f)) ++ past_names first_in n (behind_head f)) both.0 in
+    let own = nil_parts (type_faults types (first_in f)) (entries_faults first_in (λ g. type_named types (first_in f)) no_faults t (first_forms n (behind_head f)) ++ past_names (objects_with types n t f) first_in n (behind_head f)) both.0 in
     objects_within types (n - count (behind_head f)) table fs
     (each_tabled (λ a. a < length types) first_in (λ g. type_named types (first_in f)) t (first_forms n (behind_head f)) a (every_form (λ g. type_named types (first_in f) < length types) (λ g. type_within types (first_in f) own.0) (first_forms n (behind_head f))))
     both.1

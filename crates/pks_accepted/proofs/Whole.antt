@@ -20,7 +20,7 @@ use Rattle.pks_grammar.specs.Language.{IsOf, Matches}
 use Rattle.pks_meaning.specs.Scopes.{Scope, signature_in}
 use Rattle.pks_meaning.specs.Parts.{behind, behind_head, section, first_forms, each, only}
 use Rattle.pks_meaning.specs.Sentences.{query_faults, effect_faults, sense_faults, add_faults, parts_faults, start_faults, aim_faults, problem_faults}
-use Rattle.pks_meaning.specs.Declarations.{Types, type_faults, parent_named, first_in, second_in, parameter_in, parameters_section, within, cost_faults, parts_section, action_faults, actions_among, actions_section, nothing, entries_faults, past_names, types_section, objects_section, predicates_section, functions_section}
+use Rattle.pks_meaning.specs.Declarations.{Types, type_faults, parent_named, first_in, second_in, parameter_in, parameters_section, within, cost_faults, parts_section, action_faults, actions_among, actions_section, nothing, entries_faults, section_table, past_names, types_section, objects_section, predicates_section, functions_section}
 use Rattle.pks_meaning.specs.Meaning.{scope_of, least}
 use Rattle.pks_meaning.proofs.Least.{least_none}
 use Rattle.pks_domain.specs.FirstFault.{declarations_fault, meaning_fault}
@@ -140,8 +140,9 @@ pub schemas_text : (v : Version) (s : Scope) → HasShapes s → (domain : Forms
 unfolding actions_section
 schemas_text v s shapes domain m e =
     let fs = actions_among domain in
-    let both = nil_parts (entries_faults second_in nothing (λ f. action_faults s (behind_head f)) [] (first_forms 64 fs)) (past_names second_in 64 fs) e in
-    let same : first_forms 64 fs ≡ fs = first_all second_in 64 fs both.1 in
+    let table = section_table second_in 64 nothing fs in
+    let both = nil_parts (entries_faults second_in nothing (λ f. action_faults s (behind_head f)) [] (first_forms 64 fs)) (past_names table second_in 64 fs) e in
+    let same : first_forms 64 fs ≡ fs = first_all table second_in 64 fs both.1 in
     let faultless : EachForm (λ f. action_faults s (behind_head f) ≡ []) fs =
     subst (λ (gs : Forms). EachForm (λ f. action_faults s (behind_head f) ≡ []) gs) same (section_faultless second_in 64 nothing (λ f. action_faults s (behind_head f)) fs e) in
     let few : count (first_forms 64 fs) ≤ 64 = (first_count 64 fs).0 in

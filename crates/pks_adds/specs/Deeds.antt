@@ -13,6 +13,7 @@ use Rattle.pks_normal.specs.Fives.{five_of}
 use Rattle.pks_justify.specs.Places.{AssignToPlaces}
 use Rattle.pks_adds.specs.declared.deed.Deed.{Deed}
 
+-- the signature that it is done under
 abbrev pub signature_in : Deed → Signature
 signature_in x = signature_of x.signature.now
 
@@ -28,7 +29,7 @@ schema_in x = schema_of x.schema.now
 abbrev pub chosen_in : Deed → List Inner
 chosen_in x = given_of x.chosen.now
 
--- and in normal form
+-- the arguments in normal form
 abbrev pub normals_in : Deed → List Inner
 normals_in x = given_of x.normal.now
 
@@ -50,19 +51,23 @@ with_normal_arguments kf (Object d) = Object d
 with_normal_arguments kf (Parameter i) = Parameter i
 with_normal_arguments kf (Apply f ts) = Apply f (map (inner_normal kf) ts)
 
--- what one add gives, where it is applied
+-- the add is applied: its own queries are answered
 abbrev pub is_applied : Deed → Add → Bool
 is_applied x = is_applied_in (signature_in x) (five_in x) (chosen_in x)
 
+-- the known literals that an add gives, if it is applied
 abbrev pub literals_from : Deed → Add → List Literal
 literals_from x a = literals_added (signature_in x) (five_in x) (effects_in x) (chosen_in x) (schema_in x) a a.item
 
+-- the formulas that an add gives, if it is applied
 abbrev pub formulas_from : Deed → Add → List (List Literal)
 formulas_from x a = formulas_added (signature_in x) (five_in x) (effects_in x) (chosen_in x) (normals_in x) (case_of (schema_in x) a) a.item
 
+-- the terms with a known value that an add gives, if it is applied
 abbrev pub values_from : Deed → Add → List Term
 values_from x a = values_added (signature_in x) (five_in x) (effects_in x) (chosen_in x) (normals_in x) (case_of (schema_in x) a) a.item
 
+-- the closed regions that an add gives, if it is applied
 abbrev pub regions_from : Deed → Add → List Entry
 regions_from x a = regions_added (signature_in x) (five_in x) (effects_in x) (chosen_in x) a.item
 

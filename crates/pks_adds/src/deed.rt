@@ -12,7 +12,7 @@ ghost use Rattle.pks_spoiling.specs.EffectViews.{effects_in as effects_written};
 ghost use Rattle.pks_adds.specs.Deeds.{signature_in, five_in, chosen_in, effects_in, is_applied};
 
 use pks_normal::normals::Normals;
-use pks_query::db::Db;
+use pks_query::databases::Db;
 use pks_spoiling::effects::Effects;
 use pks_spoiling::spoiled::{are_stable, is_stable};
 use pks_terms::problem::Signature;

@@ -11,7 +11,7 @@ ghost use Rattle.pks_adds.specs.Gains.{literals_by, formulas_by, values_by, regi
 
 use crate::deed::{Deed, normal_instance};
 use crate::gained::{Gains, gains_of};
-use pks_query::db::Db;
+use pks_query::databases::Db;
 use pks_terms::ids::ActId;
 use pks_terms::problem::{Problem, Signature};
 use pks_terms::schema::{Instance, Schema};

@@ -8,6 +8,4 @@ pub mod gained;
 pub mod gains;
 mod literals;
 mod regions;
-#[cfg(test)]
-mod tests;
 mod values;

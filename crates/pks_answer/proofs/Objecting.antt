@@ -4,12 +4,12 @@ use Rattle.pks_terms.specs.Databases.{Five}
 use Rattle.pks_terms.specs.Syntax.{Literal}
 use Rattle.pks_terms.specs.Closure.{Next, Clash}
 use Rattle.pks_terms.specs.Problems.{Problem, initial}
-use Rattle.pks_terms.specs.Jobs.{Job, Check, Plan, Exec, Bench}
+use Rattle.pks_terms.specs.Jobs.{Job, Check, Plan, Exec, Bench, Recall, Agent, Explain, Derive, Shared}
 use Rattle.pks_terms.specs.Answers.{Stated, NoWorld, BadWorld, GivenWorld, File, refusal, unjustified, RefusesAdd, RefusesStart, RefusesWorld, RefusesRun, RefusesFor, NoneApplies, RefusesFile}
 use Rattle.pks_laws.proofs.Unique.{closes_one}
 use Rattle.pks_answer.specs.declared.accept.Objection.{Objection}
 use Rattle.pks_answer.specs.declared.accept.Objection.TheVariants as why_is
-use Rattle.pks_answer.specs.Objections.{place_of, IsAdd, IsClash, IsFault, IsBroken, Breaks, IsFaultless, IsWhole, IsFit, Begins, IsObjection, Accepts, refusal_for}
+use Rattle.pks_answer.specs.Objections.{place_of, IsAdd, IsClash, IsFault, IsBroken, Breaks, IsFaultless, IsUnbroken, IsFit, Begins, IsObjection, Accepts, refusal_for}
 
 -- ---- what doesn't apply
 
@@ -30,12 +30,12 @@ no_fault f NoWorld fits r a = a
 no_fault f (BadWorld at code) fits r a = fits
 no_fault f (GivenWorld w) fits r a = a
 
-no_break : (f : File) (w : Stated) → IsWhole f.problem w → NoneApplies (RefusesRun f w)
+no_break : (f : File) (w : Stated) → IsUnbroken f.problem w → NoneApplies (RefusesRun f w)
 no_break f NoWorld fits r a = fits
 no_break f (BadWorld at code) fits r a = fits
 no_break f (GivenWorld w) fits r a = fits a.0 a.1
 
-whole_faultless : (p : Problem) (w : Stated) → IsWhole p w → IsFaultless w
+whole_faultless : (p : Problem) (w : Stated) → IsUnbroken p w → IsFaultless w
 whole_faultless p NoWorld fits = tt
 whole_faultless p (BadWorld at code) fits = fits
 whole_faultless p (GivenWorld w) fits = tt
@@ -46,6 +46,11 @@ no_other (Plan n) f fits r a = no_fault f f.world fits r a
 no_other (Exec n) f fits r (inl a) = no_fault f f.world (whole_faultless f.problem f.world fits) r a
 no_other (Exec n) f fits r (inr a) = no_break f f.world fits r a
 no_other (Bench n) f fits r a = a
+no_other (Recall n) f fits r a = no_fault f f.world fits r a
+no_other (Agent n) f fits r a = no_fault f f.world fits r a
+no_other (Explain n) f fits r a = no_fault f f.world fits r a
+no_other Derive f fits r a = no_fault f f.world fits r a
+no_other (Shared n) f fits r a = no_fault f f.world fits r a
 
 pub none_applies : (j : Job) (f : File) (d : Five) → Accepts j f.problem f.world d → NoneApplies (RefusesFile j f)
 none_applies j f d accepts r (inl a) = no_add f accepts.begins.justified r a
@@ -80,6 +85,11 @@ refuses_for (Plan n) f x a = refuses_world f x a
 refuses_for (Exec n) f x (inl a) = inl (refuses_world f x a)
 refuses_for (Exec n) f x (inr a) = inr (refuses_run f x a)
 refuses_for (Bench n) f x a = absurd a
+refuses_for (Recall n) f x a = refuses_world f x a
+refuses_for (Agent n) f x a = refuses_world f x a
+refuses_for (Explain n) f x a = refuses_world f x a
+refuses_for Derive f x a = refuses_world f x a
+refuses_for (Shared n) f x a = refuses_world f x a
 
 refuses_this : (j : Job) (f : File) (x : Objection) → IsObjection j f.problem f.world x → RefusesFile j f (refusal_for f x)
 refuses_this j f x (inl (inl a)) = refuses_add j f x a

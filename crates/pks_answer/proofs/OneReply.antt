@@ -1,20 +1,20 @@
 -- A job about a file has one reply, and what is done is good.
-use Rattle.std.proofs.Common.{◌≡◌, ◌≤◌, ℕ, List, [], ◌∷◌, ◌++◌, Option, Some, None, inl, inr, ◌⊎◌, refl, sym, ◌∙◌, ap, subst, codes, decimal}
+use Rattle.std.proofs.Common.{◌≡◌, ◌≤◌, ℕ, true, false, List, [], ◌∷◌, ◌++◌, Option, Some, None, inl, inr, ◌⊎◌, refl, sym, ◌∙◌, ap, subst, codes, decimal}
 use Rattle.std.proofs.lemmas.Option.{none-some, same_Some}
 use Rattle.pks_terms.specs.Worlds.{World}
 use Rattle.pks_terms.specs.Problems.{Problem}
 use Rattle.pks_terms.specs.Valid.{IsValid}
 use Rattle.pks_terms.specs.Trees.{Tree, depth, IsPlan, IsBest}
 use Rattle.pks_terms.specs.Knowledge.{run_of}
-use Rattle.pks_terms.specs.Jobs.{Job, Check, Plan, Exec, Bench, depth_for}
+use Rattle.pks_terms.specs.Jobs.{Job, Check, Plan, Exec, Bench, Recall, Agent, Explain, Derive, Shared, depth_for}
 use Rattle.pks_terms.specs.Printed.{Text, Refusal, name_in, none_text, refusal_text, tree_text, run_text, bench_text}
 use Rattle.pks_terms.specs.Answers.{Stated, NoWorld, BadWorld, GivenWorld, File, refusal, unjustified, RefusesAdd, RefusesStart, RefusesWorld, RefusesRun, RefusesFor, NoneApplies, RefusesFile, IsDone}
 use Rattle.pks_laws.proofs.BestTree.{best_one}
 use Rattle.pks_exec.proofs.Breaking.{one_broken}
-use Rattle.pks_file.specs.Inputs.{Reads}
+use Rattle.pks_words.specs.JobViews.{IsBuilt}
 use Rattle.pks_answer.specs.declared.reply.Verdict.{Verdict}
 use Rattle.pks_answer.specs.declared.reply.Verdict.TheVariants.{Done, NoPlan, Refused}
-use Rattle.pks_answer.specs.Goodness.{PrintsGoodPlan}
+use Rattle.pks_answer.specs.Goodness.{HasGoodPlan}
 use Rattle.pks_answer.specs.Replies.{IsReply}
 use Rattle.pks_answer.proofs.Lasting.{best_is_good}
 
@@ -54,6 +54,11 @@ one_for (Exec n) f r q (inl a) (inr b) = absurd (world_or_run f f.world r q a b)
 one_for (Exec n) f r q (inr a) (inl b) = absurd (world_or_run f f.world q r b a)
 one_for (Exec n) f r q (inr a) (inr b) = one_run f f.world r q a b
 one_for (Bench n) f r q a b = absurd a
+one_for (Recall n) f r q a b = one_world f f.world r q a b
+one_for (Agent n) f r q a b = one_world f f.world r q a b
+one_for (Explain n) f r q a b = one_world f f.world r q a b
+one_for Derive f r q a b = one_world f f.world r q a b
+one_for (Shared n) f r q a b = one_world f f.world r q a b
 
 abbrev RefusesLater : Job → File → Refusal → Type 0
 RefusesLater j f r = RefusesStart f r ⊎ (NoneApplies (RefusesStart f) × RefusesFor j f r)
@@ -81,34 +86,48 @@ one_tree p n t u a b = same_Some t u (one_best p n (Some t) (Some u) a b)
 none_or_tree : (p : Problem) (n m : ℕ) (t : Tree) → Some m ≡ Some n → IsBest p n None → IsBest p m (Some t) → ⊥
 none_or_tree p n m t e a b = none-some t (one_best p n None (Some t) a (subst (λ k. IsBest p k (Some t)) (same_Some m n e) b))
 
-none_or_done : (j : Job) (f : File) (n : ℕ) (y : Text) → depth_for j ≡ Some n → IsBest f.problem n None → IsDone Reads j f y → ⊥
-none_or_done Check f n y e a b = none-some n e
-none_or_done (Plan m) f n y e a b = none_or_tree f.problem n m b.0 e a b.1
-none_or_done (Exec m) f n y e a b = none_or_tree f.problem n m b.0 e a b.1
-none_or_done (Bench m) f n y e a b = none_or_tree f.problem n 2 b.0 e a b.1
+none_or_done : (j : Job) (f : File) (n : ℕ) (x y : Text) → depth_for j ≡ Some n → IsBest f.problem n None → IsDone j x f y → ⊥
+none_or_done Check f n x y e a b = none-some n e
+none_or_done (Plan m) f n x y e a b = none_or_tree f.problem n m b.0 e a b.1
+none_or_done (Exec m) f n x y e a b = none_or_tree f.problem n m b.0 e a b.1
+none_or_done (Bench m) f n x y e a b = none_or_tree f.problem n 2 b.0 e a b.1
+none_or_done (Recall m) f n x y e a b = none_or_tree f.problem n m b.0 e a b.1
+none_or_done (Agent m) f n x y e a b = none_or_tree f.problem n m b.0 e a b.1
+none_or_done (Explain m) f n x y e a b = none_or_tree f.problem n m b.0 e a b.1
+none_or_done Derive f n x y e a b = none-some n e
+none_or_done (Shared m) f n x y e a b = none_or_tree f.problem n m b.0 e a b.1
 
 same_world : (w v : World) → GivenWorld w ≡ GivenWorld v → w ≡ v
 same_world w v e = cc
 
-one_done : (j : Job) (f : File) (x y : Text) → IsDone Reads j f x → IsDone Reads j f y → x ≡ y
-one_done Check f x y a b = a ∙ sym b
-one_done (Plan n) f x y a b = a.2 ∙ ap (tree_text f.names) (one_tree f.problem n a.0 b.0 a.1 b.1) ∙ sym b.2
-one_done (Exec n) f x y a b =
+-- a mode that the program doesn't have
+unbuilt : {A : Type 0} → false ≡ true → A
+unbuilt e = absurd cc
+
+one_done : (j : Job) (f : File) (i x y : Text) → IsBuilt j → IsDone j i f x → IsDone j i f y → x ≡ y
+one_done Check f i x y built a b = a ∙ sym b
+one_done (Plan n) f i x y built a b = a.2 ∙ ap (tree_text f.names) (one_tree f.problem n a.0 b.0 a.1 b.1) ∙ sym b.2
+one_done (Exec n) f i x y built a b =
     let trees : a.0 ≡ b.0 = one_tree f.problem n a.0 b.0 a.1 b.1 in
     let worlds : a.2.0 ≡ b.2.0 = same_world a.2.0 b.2.0 (sym a.2.1 ∙ b.2.1) in
     a.2.2 ∙ (λ i. run_text f.names (run_of f.problem (trees i) (worlds i))) ∙ sym b.2.2
-one_done (Bench n) f x y a b = a.2 ∙ ap (bench_text n) (one_tree f.problem 2 a.0 b.0 a.1 b.1) ∙ sym b.2
+one_done (Bench n) f i x y built a b = a.2 ∙ ap (bench_text n) (one_tree f.problem 2 a.0 b.0 a.1 b.1) ∙ sym b.2
+one_done (Recall n) f i x y built a b = unbuilt built
+one_done (Agent n) f i x y built a b = unbuilt built
+one_done (Explain n) f i x y built a b = unbuilt built
+one_done Derive f i x y built a b = unbuilt built
+one_done (Shared n) f i x y built a b = unbuilt built
 
-pub one_reply : (j : Job) (f : File) (v u : Verdict) (x y : Text) → IsReply j f v x → IsReply j f u y → (v ≡ u) × (x ≡ y)
-one_reply j f Refused Refused x y a b = (refl, a.2 ∙ ap refusal_text (one_refusal j f a.0 b.0 a.1 b.1) ∙ sym b.2)
-one_reply j f Refused NoPlan x y a b = absurd (b.0 a.0 a.1)
-one_reply j f Refused Done x y a b = absurd (b.0 a.0 a.1)
-one_reply j f NoPlan Refused x y a b = absurd (a.0 b.0 b.1)
-one_reply j f NoPlan NoPlan x y a b = (refl, a.1.3 ∙ ap none_text (same_Some a.1.0 b.1.0 (sym a.1.1 ∙ b.1.1)) ∙ sym b.1.3)
-one_reply j f NoPlan Done x y a b = absurd (none_or_done j f a.1.0 y a.1.1 a.1.2 b.1)
-one_reply j f Done Refused x y a b = absurd (a.0 b.0 b.1)
-one_reply j f Done NoPlan x y a b = absurd (none_or_done j f b.1.0 x b.1.1 b.1.2 a.1)
-one_reply j f Done Done x y a b = (refl, one_done j f x y a.1 b.1)
+pub one_reply : (j : Job) (f : File) (v u : Verdict) (x y : Text) → IsBuilt j → IsReply j f v x → IsReply j f u y → (v ≡ u) × (x ≡ y)
+one_reply j f Refused Refused x y built a b = (refl, a.2 ∙ ap refusal_text (one_refusal j f a.0 b.0 a.1 b.1) ∙ sym b.2)
+one_reply j f Refused NoPlan x y built a b = absurd (b.0 a.0 a.1)
+one_reply j f Refused Done x y built a b = absurd (b.0 a.0 a.1)
+one_reply j f NoPlan Refused x y built a b = absurd (a.0 b.0 b.1)
+one_reply j f NoPlan NoPlan x y built a b = (refl, a.1.3 ∙ ap none_text (same_Some a.1.0 b.1.0 (sym a.1.1 ∙ b.1.1)) ∙ sym b.1.3)
+one_reply j f NoPlan Done x y built a b = absurd (none_or_done j f a.1.0 [] y a.1.1 a.1.2 (b.1 []))
+one_reply j f Done Refused x y built a b = absurd (a.0 b.0 b.1)
+one_reply j f Done NoPlan x y built a b = absurd (none_or_done j f b.1.0 [] x b.1.1 b.1.2 (a.1 []))
+one_reply j f Done Done x y built a b = (refl, one_done j f [] x y built (a.1 []) (b.1 []))
 
 -- ---- good plans
 
@@ -119,8 +138,5 @@ no_first (x ∷ xs) h = absurd (h x xs refl)
 all_justified : (j : Job) (f : File) → NoneApplies (RefusesFile j f) → unjustified f.problem ≡ []
 all_justified j f none = no_first (unjustified f.problem) (λ x rest e. none (add_refusal f x) (inl (x.0, x.1, rest, e, refl)))
 
-pub good_reply : (j : Job) (f : File) (x : Text) → IsValid f.problem → IsReply j f Done x → PrintsGoodPlan j f x
-good_reply Check f x valid a = tt
-good_reply (Plan n) f x valid a = (a.1.0, a.1.1, a.1.2, best_is_good f.problem n a.1.0 (all_justified (Plan n) f a.0) valid a.1.1)
-good_reply (Exec n) f x valid a = (a.1.0, a.1.1, a.1.2, best_is_good f.problem n a.1.0 (all_justified (Exec n) f a.0) valid a.1.1)
-good_reply (Bench n) f x valid a = (a.1.0, a.1.1, a.1.2, best_is_good f.problem 2 a.1.0 (all_justified (Bench n) f a.0) valid a.1.1)
+pub good_reply : (j : Job) (f : File) (x : Text) → IsValid f.problem → IsReply j f Done x → HasGoodPlan j f
+good_reply j f x valid a = λ n t depth best. best_is_good f.problem n t (all_justified j f a.0) valid best

@@ -10,7 +10,7 @@ use Rattle.pks_terms.specs.Answers.{Stated, NoWorld, BadWorld, GivenWorld, File,
 use Rattle.pks_bench.proofs.Sizes.{plans_small}
 use Rattle.pks_answer.specs.declared.reply.Verdict.{Verdict}
 use Rattle.pks_answer.specs.declared.reply.Verdict.TheVariants.{Done, NoPlan, Refused}
-use Rattle.pks_answer.specs.Objections.{IsWhole, IsGiven}
+use Rattle.pks_answer.specs.Objections.{IsUnbroken, IsGiven}
 use Rattle.pks_answer.specs.Replies.{Plans, IsReply}
 
 pub best_depth : (p : Problem) (n : ℕ) (t : Tree) → IsBest p n (Some t) → depth t ≤ n
@@ -22,22 +22,22 @@ best_nodes p t best =
     let small : nodes_of t ≤ 273 = plans_small p (start_state best.0.0.outcome) t best.0.0.derives best.0.1 in
     omega (arith, small)
 
-pub whole_given : (p : Problem) (w : Stated) → IsWhole p w → IsGiven w
-whole_given p NoWorld whole = whole
-whole_given p (BadWorld at code) whole = whole
-whole_given p (GivenWorld w) whole = tt
+pub unbroken_given : (p : Problem) (w : Stated) → IsUnbroken p w → IsGiven w
+unbroken_given p NoWorld whole = whole
+unbroken_given p (BadWorld at code) whole = whole
+unbroken_given p (GivenWorld w) whole = tt
 
 pub plan_reply : (n : ℕ) (f : File) (v : Verdict) (x : Text) → NoneApplies (RefusesFile (Plan n) f) → Plans f.problem n (tree_text f.names) v x → IsReply (Plan n) f v x
-plan_reply n f Done x none plans = (none, plans)
+plan_reply n f Done x none plans = (none, λ input. plans)
 plan_reply n f NoPlan x none plans = (none, (n, refl, plans.0, plans.1))
 plan_reply n f Refused x none plans = absurd plans
 
 pub run_reply : (n : ℕ) (f : File) (w : World) (v : Verdict) (x : Text) → f.world ≡ GivenWorld w → NoneApplies (RefusesFile (Exec n) f) → Plans f.problem n (λ t. run_text f.names (run_of f.problem t w)) v x → IsReply (Exec n) f v x
-run_reply n f w Done x given none plans = (none, (plans.0, plans.1, (w, given, plans.2)))
+run_reply n f w Done x given none plans = (none, λ input. (plans.0, plans.1, (w, given, plans.2)))
 run_reply n f w NoPlan x given none plans = (none, (n, refl, plans.0, plans.1))
 run_reply n f w Refused x given none plans = absurd plans
 
 pub bench_reply : (n : ℕ) (f : File) (v : Verdict) (x : Text) → NoneApplies (RefusesFile (Bench n) f) → Plans f.problem 2 (bench_text n) v x → IsReply (Bench n) f v x
-bench_reply n f Done x none plans = (none, plans)
+bench_reply n f Done x none plans = (none, λ input. plans)
 bench_reply n f NoPlan x none plans = (none, (2, refl, plans.0, plans.1))
 bench_reply n f Refused x none plans = absurd plans

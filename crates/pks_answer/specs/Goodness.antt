@@ -1,12 +1,12 @@
 -- What is promised of a plan that is printed or run.
-use Rattle.std.specs.Prelude.{◌≡◌, Some}
+use Rattle.std.specs.Prelude.{◌≡◌, ℕ, Some}
 use Rattle.pks_terms.specs.Worlds.{World}
 use Rattle.pks_terms.specs.Problems.{Problem, IsCompatible}
 use Rattle.pks_terms.specs.Trees.{Tree, IsBest}
-use Rattle.pks_terms.specs.Knowledge.{Good, run_of}
-use Rattle.pks_terms.specs.Jobs.{Job, Check, Plan, Exec, Bench}
-use Rattle.pks_terms.specs.Printed.{Text, tree_text, run_text, bench_text}
-use Rattle.pks_terms.specs.Answers.{File, GivenWorld}
+use Rattle.pks_terms.specs.Knowledge.{Good}
+use Rattle.pks_terms.specs.Jobs.{Job, depth_for}
+use Rattle.pks_terms.specs.Printed.{Text}
+use Rattle.pks_terms.specs.Answers.{File, IsDone}
 use Rattle.pks_terms.specs.Remembering.{RemembersPast}
 
 -- a plan that can be carried out wherever the file's items hold
@@ -16,9 +16,11 @@ pub record IsGood (p : Problem) (t : Tree) : Type 0 where
   -- and what its histories know of earlier moments was so then
   pub past : RemembersPast p t
 
--- the text is that of the job's best plan, which is good
-abbrev pub PrintsGoodPlan : Job → File → Text → Type 0
-PrintsGoodPlan Check f text = Unit {0}
-PrintsGoodPlan (Plan n) f text = (t : Tree) × IsBest f.problem n (Some t) × (text ≡ tree_text f.names t) × IsGood f.problem t
-PrintsGoodPlan (Exec n) f text = (t : Tree) × IsBest f.problem n (Some t) × ((w : World) × (f.world ≡ GivenWorld w) × (text ≡ run_text f.names (run_of f.problem t w))) × IsGood f.problem t
-PrintsGoodPlan (Bench n) f text = (t : Tree) × IsBest f.problem 2 (Some t) × (text ≡ bench_text n t) × IsGood f.problem t
+-- the best plan to the depth of the job is good
+abbrev pub HasGoodPlan : Job → File → Type 0
+HasGoodPlan j f = (n : ℕ) (t : Tree) → depth_for j ≡ Some n → IsBest f.problem n (Some t) → IsGood f.problem t
+
+-- the text is that of the job that is done, and the plan that it is made of is good
+pub record PrintsGoodPlan (j : Job) (input : Text) (f : File) (text : Text) : Type 0 where
+  pub done : IsDone j input f text
+  pub good : HasGoodPlan j f

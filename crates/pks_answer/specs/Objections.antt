@@ -7,7 +7,7 @@ use Rattle.pks_terms.specs.Meaning.{IsWorld}
 use Rattle.pks_terms.specs.Signatures.{Signature}
 use Rattle.pks_terms.specs.Closure.{Next, Clash, Closes}
 use Rattle.pks_terms.specs.Problems.{Problem, initial}
-use Rattle.pks_terms.specs.Jobs.{Job, Check, Plan, Exec, Bench}
+use Rattle.pks_terms.specs.Jobs.{Job, Exec, Bench}
 use Rattle.pks_terms.specs.Printed.{Text, Names, Refusal, name_in}
 use Rattle.pks_terms.specs.Answers.{Place, Stated, NoWorld, BadWorld, GivenWorld, File, refusal, unjustified, IsFirstBroken}
 use Rattle.pks_justify.specs.Cases.{unjustified_view}
@@ -69,10 +69,9 @@ IsBroken p w _ = ⊥
 
 -- why the job can't have the world
 abbrev pub Breaks : Job → Problem → Stated → Objection → Type 0
-Breaks Check p w x = IsFault w x
-Breaks (Plan n) p w x = IsFault w x
 Breaks (Exec n) p w x = IsFault w x ⊎ IsBroken p w x
 Breaks (Bench n) p w x = ⊥
+Breaks j p w x = IsFault w x
 
 -- an add has no case, or the first databases clash
 abbrev pub IsFalseStart : Problem → Objection → Type 0
@@ -101,17 +100,16 @@ IsFaultless (BadWorld at code) = ⊥
 IsFaultless (GivenWorld w) = Unit {0}
 
 -- there is a world, and it breaks no initial item
-abbrev pub IsWhole : Problem → Stated → Type 0
-IsWhole p NoWorld = ⊥
-IsWhole p (BadWorld at code) = ⊥
-IsWhole p (GivenWorld w) = (n : ℕ) → IsFirstBroken p w p.init 1 n → ⊥
+abbrev pub IsUnbroken : Problem → Stated → Type 0
+IsUnbroken p NoWorld = ⊥
+IsUnbroken p (BadWorld at code) = ⊥
+IsUnbroken p (GivenWorld w) = (n : ℕ) → IsFirstBroken p w p.init 1 n → ⊥
 
 -- the job can have the world
 abbrev pub IsFit : Job → Problem → Stated → Type 0
-IsFit Check p w = IsFaultless w
-IsFit (Plan n) p w = IsFaultless w
-IsFit (Exec n) p w = IsWhole p w
+IsFit (Exec n) p w = IsUnbroken p w
 IsFit (Bench n) p w = Unit {0}
+IsFit j p w = IsFaultless w
 
 -- no refusal applies, and these are the first databases
 pub record Accepts (j : Job) (p : Problem) (w : Stated) (d : Five) : Type 0 where

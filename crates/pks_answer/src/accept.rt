@@ -7,13 +7,13 @@ ghost use Rattle.pks_terms.specs.Views.{problem_of, signature_of};
 ghost use Rattle.pks_terms.specs.Answers.{GivenWorld};
 ghost use Rattle.pks_normal.specs.Fives.{five_of};
 ghost use Rattle.pks_words.specs.JobViews.{job_of};
-ghost use Rattle.pks_answer.specs.Objections.{stated_of, IsStatedIn, IsFault, IsBroken, Breaks, IsFaultless, IsWhole, IsFit, Begins, IsFalseStart, IsObjection, Accepts, IfRefused};
+ghost use Rattle.pks_answer.specs.Objections.{stated_of, IsStatedIn, IsFault, IsBroken, Breaks, IsFaultless, IsUnbroken, IsFit, Begins, IsFalseStart, IsObjection, Accepts, IfRefused};
 
 use crate::line::Place;
 use pks_closing::closing::CloseEnd;
 use pks_exec::compatible::compatible;
 use pks_justify::{Unjustified, justify};
-use pks_query::db::Db;
+use pks_query::databases::Db;
 use pks_terms::ids::ItemNo;
 use pks_terms::problem::Problem;
 use pks_words::Job;
@@ -69,7 +69,7 @@ fn fault_of(world: &Stated) -> Option<Objection>
 fn broken_by(p: &Problem<'_>, w: &World) -> Option<Objection>
     requires valid { IsValidProblem p.now }
     requires world { IsWorld (signature_of p.now.signature) (world_of w.now) }
-    ensures { MatchOption result (IsWhole (problem_of p.now) (GivenWorld (world_of w.now))) (IsBroken (problem_of p.now) (GivenWorld (world_of w.now))) }
+    ensures { MatchOption result (IsUnbroken (problem_of p.now) (GivenWorld (world_of w.now))) (IsBroken (problem_of p.now) (GivenWorld (world_of w.now))) }
 {
     match compatible(p, w) {
         Some(item) => Some(Objection::Broken(item)),
@@ -81,7 +81,7 @@ fn broken_by(p: &Problem<'_>, w: &World) -> Option<Objection>
 fn run_fault(p: &Problem<'_>, world: &Stated) -> Option<Objection>
     requires valid { IsValidProblem p.now }
     requires world { IsStatedIn (signature_of p.now.signature) (stated_of world.now) }
-    ensures { MatchOption result (IsWhole (problem_of p.now) (stated_of world.now)) (λ x. IsFault (stated_of world.now) x ⊎ IsBroken (problem_of p.now) (stated_of world.now) x) }
+    ensures { MatchOption result (IsUnbroken (problem_of p.now) (stated_of world.now)) (λ x. IsFault (stated_of world.now) x ⊎ IsBroken (problem_of p.now) (stated_of world.now) x) }
 {
     match world {
         Stated::Missing => Some(Objection::NoWorld),

@@ -3,17 +3,17 @@ ghost use Rattle.std.specs.Prelude.{◌≡◌, ℕ, List};
 ghost use Rattle.pks_terms.specs.Jobs.{Job};
 ghost use Rattle.pks_terms.specs.Valid.{IsValid};
 ghost use Rattle.pks_terms.specs.Answers.{File};
-ghost use Rattle.pks_answer.specs.Goodness.{PrintsGoodPlan};
+ghost use Rattle.pks_words.specs.JobViews.{IsBuilt};
+ghost use Rattle.pks_answer.specs.Goodness.{HasGoodPlan};
 ghost use Rattle.pks_answer.specs.Replies.{IsReply};
 ghost use Rattle.pks_answer.specs.declared.reply.Verdict.{Verdict};
 
-/// A job about a file has one reply.
+/// A job about a file has one reply, if its mode is one that the program has.
 pub fn there_is_one_reply()
-    ensures { (j : Job) (f : File) (v u : Verdict) (text other : List ℕ) → IsReply j f v text → IsReply j f u other → (v ≡ u) × (text ≡ other) }
+    ensures { (j : Job) (f : File) (v u : Verdict) (text other : List ℕ) → IsBuilt j → IsReply j f v text → IsReply j f u other → (v ≡ u) × (text ≡ other) }
 {}
 
-/// Where the job is done about a file of a valid problem, the plan that is printed or run is good in every compatible
-/// world.
+/// Where a job is done about a file of a valid problem, the best plan to its depth is good in every compatible world.
 pub fn done_plans_are_good()
-    ensures { (j : Job) (f : File) (text : List ℕ) → IsValid f.problem → IsReply j f Verdict.Done text → PrintsGoodPlan j f text }
+    ensures { (j : Job) (f : File) (text : List ℕ) → IsValid f.problem → IsReply j f Verdict.Done text → HasGoodPlan j f }
 {}

@@ -6,5 +6,3 @@ pub mod laws;
 pub mod line;
 mod plans;
 pub mod reply;
-#[cfg(test)]
-mod tests;

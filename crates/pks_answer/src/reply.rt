@@ -1,23 +1,22 @@
 //! The reply to a job about a file that was read. `docs/FORMAT.md` has all texts.
-ghost use Rattle.std.specs.Prelude.{◌≡◌, ℕ, List, IfOk};
+ghost use Rattle.std.specs.Prelude.{◌≡◌, IfOk};
 ghost use Rattle.pks_terms.specs.Views.{signature_of, problem_of};
 ghost use Rattle.pks_terms.specs.Printed.{accepted_text};
+ghost use Rattle.pks_terms.specs.Jobs.{IsInBounds};
 ghost use Rattle.pks_terms.specs.Answers.{GivenWorld};
 ghost use Rattle.pks_world.specs.Contents.{world_of};
 ghost use Rattle.pks_normal.specs.Fives.{five_of};
 ghost use Rattle.pks_words.specs.JobViews.{job_of};
 ghost use Rattle.pks_file.specs.Views.{file_of, IsWhole};
 ghost use Rattle.pks_answer.specs.Objections.{stated_of, IsStatedIn, IsGiven, Accepts};
-ghost use Rattle.pks_answer.specs.Goodness.{PrintsGoodPlan};
-ghost use Rattle.pks_answer.specs.Replies.{IsReply, IsInBounds, IsAbout};
-ghost use Rattle.pks_answer.specs.declared.reply.Verdict.{Verdict};
+ghost use Rattle.pks_answer.specs.Replies.{IsReply, IsAbout, RepliesTo};
 
 use crate::accept::{AcceptEnd, Stated, accept};
 use crate::line::{objection_line, placed};
 use crate::plans::{bench, plan, plan_and_run};
 use pks_facts::WorldEnd;
 use pks_file::{InputFile, place, stated_world};
-use pks_query::db::Db;
+use pks_query::databases::Db;
 use pks_words::Job;
 use pks_world::world::World;
 use std::alloc::{AllocError, Global};
@@ -125,9 +124,7 @@ pub fn reply_about(
     requires whole { IsWhole f.now }
     requires bounds { IsInBounds (job_of job) }
     requires about { IsAbout (job_of job) f.now.source.now }
-    ensures reply { IfOk result (λ a. IsReply (job_of job) (file_of f.now) a.0 a.1.items) }
-    ensures only { IfOk result (λ a. (v : Verdict) (text : List ℕ) → IsReply (job_of job) (file_of f.now) v text → (v ≡ a.0) × (text ≡ a.1.items)) }
-    ensures good { IfOk result (λ a. a.0 ≡ Verdict.Done → PrintsGoodPlan (job_of job) (file_of f.now) a.1.items) }
+    ensures { IfOk result (λ a. RepliesTo (job_of job) (file_of f.now) a.0 a.1.items) }
 {
     let world = stated(alloc, f)?;
     let answer = replied(alloc, job, f, &world)?;

@@ -11,6 +11,3 @@ mod size;
 pub use file::generate;
 pub use line::bench_line;
 pub use size::nodes;
-
-#[cfg(test)]
-mod tests;

@@ -1,5 +1,5 @@
 pub mod Lists
+pub mod Barring
 pub mod WalkLaws
 pub mod ChoicesRise
 pub mod Parameters
-pub mod Digits

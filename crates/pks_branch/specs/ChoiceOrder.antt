@@ -14,17 +14,19 @@ choice_kind (Act i) = 0
 choice_kind (BranchOn c) = 1
 choice_kind (CasesOn t) = 2
 
--- what a choice says, of each kind
+-- the instance that a choice does, where it is an action
 abbrev pub choice_step : Choice → Instance
 choice_step (Act i) = i
 choice_step (BranchOn c) = record { action = 0; arguments = [] }
 choice_step (CasesOn t) = record { action = 0; arguments = [] }
 
+-- the formula that a choice asks, where it is a branch
 abbrev pub choice_test : Choice → List Literal
 choice_test (Act i) = []
 choice_test (BranchOn c) = c
 choice_test (CasesOn t) = []
 
+-- the term whose value a choice asks, where it is cases
 abbrev pub choice_term : Choice → Term
 choice_term (Act i) = object 0
 choice_term (BranchOn c) = object 0

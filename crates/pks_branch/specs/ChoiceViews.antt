@@ -2,8 +2,8 @@
 use Rattle.std.specs.Prelude.{List, map}
 use Rattle.pks_terms.specs.Branching.{Choice, Act, BranchOn, CasesOn, Side, AsTrue, AsFalse, Is}
 use Rattle.pks_terms.specs.Views.{term_of, conj_of, instance_of}
-use Rattle.pks_branch.specs.declared.choices.Choice.{Choice as DChoice}
-use Rattle.pks_branch.specs.declared.choices.Choice.TheVariants as choice_is
+use Rattle.pks_branch.specs.declared.choosing.Choice.{Choice as DChoice}
+use Rattle.pks_branch.specs.declared.choosing.Choice.TheVariants as choice_is
 use Rattle.pks_branch.specs.declared.assuming.Side.{Side as DSide}
 use Rattle.pks_branch.specs.declared.assuming.Side.TheVariants as side_is
 

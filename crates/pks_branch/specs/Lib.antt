@@ -1,3 +1,4 @@
 pub mod ChoiceViews
 pub mod ChoiceOrder
 pub mod Walks
+pub mod Early

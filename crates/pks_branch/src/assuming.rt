@@ -16,12 +16,12 @@ ghost use Rattle.pks_normal.specs.Fives.{five_of};
 ghost use Rattle.pks_query.specs.Steps.{outcome_of, IfNext, IsNextWith};
 ghost use Rattle.pks_branch.specs.ChoiceViews.{choice_of, side_of};
 
-use crate::choices::Choice;
+use crate::choosing::Choice;
 use pks_closing::closing::CloseEnd;
 use pks_kv::Kv;
 use pks_kw::Kw;
 use pks_normal::five::Five;
-use pks_query::db::{Db, Step};
+use pks_query::databases::{Db, Step};
 use pks_terms::ids::ObjId;
 use pks_terms::literal::{Conj, Literal, equation};
 use pks_terms::problem::{Problem, Signature};

@@ -10,7 +10,7 @@ ghost use Rattle.pks_terms.specs.Views.{object_of, term_of, signature_of, proble
 ghost use Rattle.pks_normal.specs.Fives.{five_of};
 
 use pks_derived::ranges::range_of;
-use pks_query::db::Db;
+use pks_query::databases::Db;
 use pks_terms::ids::{ObjId, ObjList};
 use pks_terms::literal::equation;
 use pks_terms::problem::{Problem, Signature};

@@ -3,8 +3,11 @@
 
 pub mod assuming;
 mod candidates;
-pub mod choices;
+pub mod choosing;
+mod early;
 pub mod leaving;
-#[cfg(test)]
-mod tests;
 mod walking;
+
+pub use assuming::{Side, assume};
+pub use choosing::{Choice, ChoiceList, choices};
+pub use leaving::left;

@@ -10,8 +10,9 @@ ghost use Rattle.pks_branch.specs.ChoiceViews.{choices_of};
 ghost use Rattle.pks_branch.specs.Walks.{walked, allowed_at};
 
 use crate::candidates::{InnerList, candidate_lists};
-use crate::choices::Choice;
-use pks_query::db::Db;
+use crate::choosing::Choice;
+use crate::early::is_barred;
+use pks_query::databases::Db;
 use pks_terms::ids::ActId;
 use pks_terms::problem::Signature;
 use pks_terms::schema::{Instance, Query, Schema};
@@ -85,7 +86,8 @@ fn push_allowed(
     Ok(())
 }
 
-/// Appends the allowed instances that have the arguments so far and then one of each list.
+/// Appends the allowed instances that have the arguments so far and then one of each list. A precondition is asked as soon as
+/// its parameters have arguments.
 #[cycle(walks)]
 fn walk(
     s: &Signature,
@@ -100,7 +102,7 @@ fn walk(
 {
     match lists {
         [] => push_allowed(s, d, pre, given, to)?,
-        [list, rest @ ..] => walk_each(s, d, pre, list.as_slice(), rest, given, to)?,
+        [list, rest @ ..] => walk_unless_barred(s, d, pre, list.as_slice(), rest, given, to)?,
     }
     Ok(())
 }
@@ -122,6 +124,27 @@ fn walk_each(
     for t in list {
         walk(s, d, pre, rest, &with(given, t), to)?;
     }
+    Ok(())
+}
+
+/// Appends the same, where no precondition that can be asked already shuts all of them out.
+#[cycle(walks)]
+fn walk_unless_barred(
+    s: &Signature,
+    d: &Db,
+    pre: &[Query],
+    list: &[Inner],
+    rest: &[InnerList],
+    given: &Instance,
+    to: &mut Vec<Choice>,
+) -> Result<(), AllocError>
+    requires { given.now.n + 1 + length rest.now ≤ 4 }
+    ensures { OnOk result (choices_of to.new.items ≡ choices_of to.old.items ++ map Act (walked (allowed_at (signature_of s.now) (five_of d.now) (map query_of pre.now) given.now.act.0) (given_of given.now) (map inner_of list.now ∷ map (map inner_of) rest.now))) }
+{
+    if is_barred(s, d, pre, given) {
+        return Ok(());
+    }
+    walk_each(s, d, pre, list, rest, given, to)?;
     Ok(())
 }
 

@@ -7,6 +7,4 @@ pub mod groups;
 pub mod ranges;
 pub mod rounds;
 pub mod steps;
-#[cfg(test)]
-mod tests;
 pub mod tidied;

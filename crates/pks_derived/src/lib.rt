@@ -4,5 +4,3 @@
 pub mod derived;
 mod forms;
 pub mod ranges;
-#[cfg(test)]
-mod tests;

@@ -69,7 +69,7 @@ pub fn parameters<'s>(
 {
     let mut table = IndexMap::new(alloc);
     parameter_entries(report, types, &mut table, first_forms(4, forms))?;
-    past_first_names(report, 4, forms);
+    past_first_names(report, &table, 4, forms);
     Ok(table)
 }
 
@@ -198,6 +198,6 @@ pub fn actions<'s>(
     let mut table = IndexMap::new(alloc);
     let among = actions_among(forms);
     action_entries(alloc, report, scope, &mut table, first_forms(64, among))?;
-    past_second_names(report, 64, among);
+    past_second_names(report, &table, 64, among);
     Ok(table)
 }

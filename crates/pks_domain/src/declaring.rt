@@ -5,8 +5,8 @@ ghost use Rattle.pks_text.specs.Forms.{place_of};
 ghost use Rattle.pks_text.specs.FormViews.{form_view, forms_view};
 ghost use Rattle.pks_meaning.specs.Tables.{declare, number_of};
 ghost use Rattle.pks_meaning.specs.Parts.{each, only, past, all_but_last};
-ghost use Rattle.pks_meaning.specs.Declarations.{first_or, first_in, second_in, name_of, name_faults, past_names, type_faults, type_named, parent_named, types_named};
-ghost use Rattle.pks_meaning.specs.Meaning.{noted, all_noted};
+ghost use Rattle.pks_meaning.specs.Declarations.{first_or, first_in, second_in, name_of, name_faults, surplus_faults, past_names, type_faults, type_named, parent_named, types_named};
+ghost use Rattle.pks_meaning.specs.Meaning.{all_noted};
 ghost use Rattle.pks_meaning.specs.Views.{found_of, names_of, seen};
 
 use indexmap::IndexMap;
@@ -111,27 +111,53 @@ pub fn check_shape_name(report: &mut Report, table: &IndexMap<&str, Shape>, word
     check_name(report, table, word);
 }
 
-fn first_past(report: &mut Report, word: &Form<'_>)
-    ensures { found_of report.new ≡ noted (found_of report.old) (place_of (form_view word.now), 208) }
+// A name that is one too many.
+#[tactic(auto, using(pks_meaning::proofs::Noting::noted_both))]
+fn surplus<X>(report: &mut Report, declared: &IndexMap<&str, X>, word: &Form<'_>)
+    ensures { found_of report.new ≡ all_noted (found_of report.old) (surplus_faults (names_of declared.now) (form_view word.now)) }
 {
+    check_name(report, declared, word);
     report.note(place_of(word), 208);
 }
 
 /// The first past n names, that are words or lists with the name as first part.
-pub fn past_first_names(report: &mut Report, n: usize, forms: &[Form<'_>])
-    ensures { found_of report.new ≡ all_noted (found_of report.old) (past_names first_in n (forms_view forms.now)) }
+pub fn past_first_names<X>(
+    report: &mut Report,
+    table: &IndexMap<&str, X>,
+    n: usize,
+    forms: &[Form<'_>],
+)
+    ensures { found_of report.new ≡ all_noted (found_of report.old) (past_names (names_of table.now) first_in n (forms_view forms.now)) }
 {
     if n < forms.len() {
-        first_past(report, first_in(&forms[n]));
+        surplus(report, table, first_in(&forms[n]));
     }
 }
 
+/// The same of a table of shapes.
+#[tactic(auto, using(pks_meaning::proofs::Entries::past_seen))]
+pub fn past_shape_names(
+    report: &mut Report,
+    table: &IndexMap<&str, Shape>,
+    n: usize,
+    forms: &[Form<'_>],
+)
+    ensures { found_of report.new ≡ all_noted (found_of report.old) (past_names (seen shape_of (names_of table.now)) first_in n (forms_view forms.now)) }
+{
+    past_first_names(report, table, n, forms);
+}
+
 /// The first past n names, that are second parts.
-pub fn past_second_names(report: &mut Report, n: usize, forms: &[Form<'_>])
-    ensures { found_of report.new ≡ all_noted (found_of report.old) (past_names second_in n (forms_view forms.now)) }
+pub fn past_second_names<X>(
+    report: &mut Report,
+    table: &IndexMap<&str, X>,
+    n: usize,
+    forms: &[Form<'_>],
+)
+    ensures { found_of report.new ≡ all_noted (found_of report.old) (past_names (names_of table.now) second_in n (forms_view forms.now)) }
 {
     if n < forms.len() {
-        first_past(report, second_in(&forms[n]));
+        surplus(report, table, second_in(&forms[n]));
     }
 }
 

@@ -11,7 +11,7 @@ ghost use Rattle.pks_meaning.specs.Meaning.{all_noted};
 ghost use Rattle.pks_meaning.specs.Views.{found_of, names_of, seen, scope_view};
 
 use crate::declaring::{
-    Memory, Types, check_shape_name, declare_shape, each_type, first_in, name_of, past_first_names,
+    Memory, Types, check_shape_name, declare_shape, each_type, first_in, name_of, past_shape_names,
     small_number, two_types, type_named,
 };
 use indexmap::IndexMap;
@@ -193,6 +193,6 @@ pub fn functions<'s>(
 {
     let mut table = IndexMap::new(alloc);
     function_entries(report, scope, &mut table, first_forms(32, forms))?;
-    past_first_names(report, 32, forms);
+    past_shape_names(report, &table, 32, forms);
     Ok(table)
 }

@@ -10,6 +10,3 @@ mod sections;
 pub use actions::{actions_among, parameters};
 pub use declaring::{Memory, first_in, name_of, second_in};
 pub use domain::{Domain, declarations, meaning};
-
-#[cfg(test)]
-mod tests;

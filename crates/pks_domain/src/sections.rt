@@ -5,14 +5,14 @@ ghost use Rattle.pks_text.specs.Forms.{place_of};
 ghost use Rattle.pks_text.specs.FormViews.{form_view, forms_view};
 ghost use Rattle.pks_meaning.specs.Tables.{declare, entries_of, number_of};
 ghost use Rattle.pks_meaning.specs.Parts.{each, only, past, all_but_last, last_of, behind_head, first_forms};
-ghost use Rattle.pks_meaning.specs.Declarations.{first_in, second_in, name_of, name_faults, table_from, entries_faults, past_names, section_faults, section_table, no_faults, type_faults, type_named, parent_named, types_from, types_faults, types_in, types_section, objects_from, objects_faults_in, objects_faults, predicate_in, predicate_faults, predicates_in, predicates_section, result_named, function_in, has_object, empty_faults, function_faults, functions_in, functions_section, parameter_in, parameters_in, parameters_section};
+ghost use Rattle.pks_meaning.specs.Declarations.{first_in, second_in, name_of, name_faults, table_from, entries_faults, past_names, section_faults, section_table, no_faults, type_faults, type_named, parent_named, types_from, types_faults, types_in, types_section, objects_with, objects_from, objects_faults_in, objects_faults, predicate_in, barred_faults, predicate_faults, predicates_in, predicates_section, result_named, function_in, has_object, empty_faults, function_faults, functions_in, functions_section, parameter_in, parameters_in, parameters_section};
 ghost use Rattle.pks_meaning.specs.Meaning.{all_noted};
 ghost use Rattle.pks_meaning.specs.Views.{found_of, names_of, seen, scope_view};
 
 use crate::declaring::{
     Memory, Types, check_name, check_shape_name, declare, declare_shape, each_type, first_in,
-    name_of, only_type, parent_named, past_first_names, second_in, three_types, two_types,
-    type_named, type_word,
+    name_of, only_type, parent_named, past_first_names, past_shape_names, second_in, three_types,
+    two_types, type_named, type_word,
 };
 use indexmap::IndexMap;
 use pks_meaning::parts::{behind_head, first_forms, text_of};
@@ -69,7 +69,7 @@ pub fn types<'s>(
 {
     let mut types = IndexMap::new(alloc);
     type_entries(report, &mut types, first_forms(16, forms))?;
-    past_first_names(report, 16, forms);
+    past_first_names(report, &types, 16, forms);
     Ok(types)
 }
 
@@ -117,13 +117,13 @@ fn object_entry<'s>(
 ) -> Result<(), Memory>
     requires { length (names_of types.now) ≤ 16 }
     ensures faults { OnOk result (found_of report.new ≡ all_noted (found_of report.old) (objects_faults_in (names_of types.now) n (names_of objects.old) (form_view form.now))) }
-    ensures table { OnOk result (names_of objects.new ≡ table_from first_in (λ f. type_named (names_of types.now) (first_in (form_view form.now))) (names_of objects.old) (first_forms n (behind_head (form_view form.now)))) }
+    ensures table { OnOk result (names_of objects.new ≡ objects_with (names_of types.now) n (names_of objects.old) (form_view form.now)) }
 {
     type_word(report, types, first_in(form));
     let own = type_named(types, first_in(form));
     let names = behind_head(form);
     object_names(report, objects, own, first_forms(n, names))?;
-    past_first_names(report, n, names);
+    past_first_names(report, objects, n, names);
     Ok(())
 }
 
@@ -170,20 +170,29 @@ fn predicate_in(types: &Types<'_>, form: &Form<'_>) -> Shape
     predicate_shape(three_types(types, behind_head(form)))
 }
 
-fn barred(report: &mut Report, word: &Form<'_>)
-    ensures { found_of report.new ≡ all_noted (found_of report.old) (if bytes_eq (name_of (form_view word.now)) (codes "not") then (place_of (form_view word.now), 201) ∷ [] else []) }
+// The name `not`.
+fn barred(report: &mut Report, form: &Form<'_>)
+    ensures { found_of report.new ≡ all_noted (found_of report.old) (barred_faults (form_view form.now)) }
 {
+    let word = first_in(form);
     if name_of(word) == "not" {
         report.note(place_of(word), 201);
     }
 }
 
-// The name `not`, and the argument types.
+fn barred_names(report: &mut Report, forms: &[Form<'_>])
+    ensures { found_of report.new ≡ all_noted (found_of report.old) (each barred_faults (forms_view forms.now)) }
+{
+    for form in forms {
+        barred(report, form);
+    }
+}
+
+// The argument types.
 #[tactic(auto, using(pks_meaning::proofs::Noting::noted_both), unfolding(pks_meaning::specs::Declarations::predicate_faults))]
 fn predicate_faults(report: &mut Report, types: &Types<'_>, form: &Form<'_>)
     ensures { found_of report.new ≡ all_noted (found_of report.old) (predicate_faults (names_of types.now) (form_view form.now)) }
 {
-    barred(report, first_in(form));
     each_type(report, types, behind_head(form));
     past(report, 3, behind_head(form));
 }
@@ -234,8 +243,9 @@ pub fn predicates<'s>(
     ensures faults { OnOk result (found_of report.new ≡ all_noted (found_of report.old) (predicates_section (names_of types.now) (forms_view forms.now))) }
     ensures table { IfOk result (λ table. seen shape_of (names_of table) ≡ predicates_in (names_of types.now) (forms_view forms.now)) }
 {
+    barred_names(report, forms);
     let mut table = IndexMap::new(alloc);
     predicate_entries(report, types, &mut table, first_forms(32, forms))?;
-    past_first_names(report, 32, forms);
+    past_shape_names(report, &table, 32, forms);
     Ok(table)
 }

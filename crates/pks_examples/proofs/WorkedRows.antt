@@ -1,5 +1,5 @@
 -- What the definitions say of the worked problems, computed.
-use Rattle.std.proofs.Common.{◌≡◌, true, false, List, [], ◌∷◌, Less, refl, sym, ap, ◌∙◌, inl, inr}
+use Rattle.std.proofs.Common.{◌≡◌, true, false, List, [], ◌∷◌, ◌++◌, Less, refl, sym, ap, ◌∙◌, inl, inr}
 use Rattle.pks_terms.specs.Sets.{IsIn}
 use Rattle.pks_terms.specs.Syntax.{Object, Apply, Literal, negated}
 use Rattle.pks_terms.specs.Orders.{term_cmp, term_eq, literal_cmp, literal_eq, literal}
@@ -9,17 +9,24 @@ use Rattle.pks_terms.specs.Closure.{term_steps, by_value, by_group, by_range, ad
 use Rattle.pks_terms.specs.Queries.{is_member, is_decided, known_whether}
 use Rattle.pks_terms.specs.Actions.{literal_at}
 use Rattle.pks_terms.specs.Spoiling.{may_fire, may_be_changed, is_stable, spoils}
-use Rattle.pks_terms.specs.Justified.{case_of}
+use Rattle.pks_terms.specs.Justified.{is_given, is_given_whether, is_made_so, case_of}
 use Rattle.pks_terms.specs.Progress.{progressed}
 use Rattle.pks_terms.specs.Problems.{StartKf, initial}
 use Rattle.pks_terms.specs.Branching.{candidates, left, instances, is_undecided, BranchOn, AsTrue, AsFalse, assumed}
 use Rattle.pks_terms.specs.Settling.{settle_round, At, Stopped}
 use Rattle.pks_terms.specs.Aims.{met}
 use Rattle.pks_terms.specs.Trees.{Goal, Impossible, Do, Branch, cost, root_cmp, tree_cmp, Acts, Takes, IsPlan}
-use Rattle.pks_terms.specs.Printed.{literal_text, conj_text, instance_text, body_text}
+use Rattle.pks_terms.specs.Knowledge.{AtGoal}
+use Rattle.pks_terms.specs.Printed.{term_text, literal_text, conj_text, instance_text, add_text, body_text, refusal_text}
+use Rattle.pks_terms.specs.Jobs.{Checking, Planning, Running, Benching, all_modes, usage_text}
+use Rattle.pks_terms.specs.Recalled.{IsRecalled, recall_text}
+use Rattle.pks_terms.specs.Talk.{Over, Unfit, Missing, file_text, answers_in, stop_line, talk, talked_text, answer_refusal}
+use Rattle.pks_terms.specs.Shapes.{shapes, derived_adds, derived_text, derive_text}
+use Rattle.pks_terms.specs.Nodes.{GoalNode, BranchNode, DoNode, first_ends, IsShared, shared_text}
 use Rattle.std.specs.Prelude.{codes}
+use Rattle.std.specs.Fmt.{digits}
 use Rattle.pks_terms.specs.Valid.{is_literal, term_fits}
-use Rattle.pks_examples.specs.Worked.{fact, fact_of, equal, unequal, knowing, alive, pour, look, lawn, lawn_at_first, lawn_poured, lawn_looked, lawn_dead, lawn_living, lawn_plan, key_in_hall, done, sweep, alias_open, alias_elsewhere, places_known, r, groups, groups_start, groups_denied, p, q, pair, one_moment, first_tub, second_tub, empty_all, splash, tubs, tubs_start, tubs_emptied, tubs_splashed, tubs_emptied_again, action, spot, crate_signature, crate_known, tolls, lawn_names, boxes, wrong_value}
+use Rattle.pks_examples.specs.Worked.{fact, fact_of, equal, unequal, knowing, alive, pour, look, lawn, lawn_at_first, lawn_poured, lawn_looked, lawn_dead, lawn_living, lawn_plan, key_in_hall, done, sweep, alias_open, alias_elsewhere, places_known, r, groups, groups_start, groups_denied, p, q, pair, one_moment, first_tub, second_tub, empty_all, splash, tubs, tubs_start, tubs_emptied, tubs_splashed, tubs_emptied_again, action, spot, crate_signature, crate_known, tolls, lawn_names, lawn_leaves, lawn_nodes, six_lines, safe_signature, safe_names, safe_plan, dial, boxes, wrong_value}
 
 pub lawn_acts_pour : Acts lawn lawn_at_first pour (At lawn_poured)
 unfolding round additions tidied initial progressed holds is_plain is_known literal_eq literal_cmp term_cmp normal_literal normal literal spoils is_stable may_be_changed may_fire case_of literal_at by_value first_clash
@@ -238,3 +245,88 @@ cheaper = (refl, refl)
 pub lawn_printed : body_text lawn_names [] lawn_plan ≡ codes "(pour)\n(look)\nbranch (alive)\ntrue\n  goal\nfalse\n  goal\n"
 unfolding instance_text conj_text literal_text
 lawn_printed = refl
+
+pub lawn_recalls : IsRecalled lawn lawn_plan lawn_leaves
+unfolding round additions tidied initial progressed holds is_plain is_known literal_eq literal_cmp term_cmp normal_literal normal literal spoils is_stable may_be_changed may_fire case_of literal_at by_value first_clash
+lawn_recalls = record {
+  outcome = Next (knowing (alive ∷ []) []);
+  closes = record { count = 0; last = refl; gives = refl };
+  leaves = (At lawn_poured, lawn_acts_pour, (At lawn_looked, lawn_acts_look, (At lawn_living ∷ [], At lawn_dead ∷ [], (At lawn_living, lawn_takes_living, refl), (At lawn_dead, lawn_takes_dead, refl), refl)));
+}
+
+pub lawn_recall_printed : recall_text lawn_names lawn_leaves ≡ codes "leaf 1\nmoment 0\n(alive)\n(not (poison))\nmoment 1\n(alive)\n(not (poison))\nmoment 2\n(alive)\n(not (poison))\nleaf 2\nmoment 0\n(alive)\n(poison)\nmoment 1\n(not (alive))\n(poison)\nmoment 2\n(not (alive))\n(poison)\n"
+unfolding recall_text literal_text digits
+lawn_recall_printed = refl
+
+-- ---- dialogues
+
+pub stop_cuts : (file_text (codes "a\n..\n.\nb\n\nc") ≡ codes "a\n..\n") × (answers_in (codes "a\n..\n.\nb\n\nc") ≡ codes "b" ∷ [] ∷ codes "c" ∷ []) × (stop_line (codes "a\n..\n.\nb\n\nc") ≡ 3)
+unfolding file_text answers_in stop_line
+stop_cuts = (refl, refl, refl)
+
+pub no_stop_cuts_nothing : (file_text (codes "a\n.\r\nb") ≡ codes "a\n.\r\nb") × (answers_in (codes "a\n.\r\nb") ≡ []) × (stop_line (codes "a\n.\r\nb") ≡ 3)
+unfolding file_text answers_in stop_line
+no_stop_cuts_nothing = (refl, refl, refl)
+
+pub lawn_talk : (talked_text (talk lawn.signature lawn_names lawn_plan (codes "false" ∷ [])) ≡ codes "do (pour)\ndo (look)\ntest (alive)\ngoal\n") × ((talk lawn.signature lawn_names lawn_plan (codes "false" ∷ [])).end ≡ Over AtGoal)
+unfolding talk instance_text conj_text literal_text
+lawn_talk = (refl, refl)
+
+pub lawn_unfit : (talked_text (talk lawn.signature lawn_names lawn_plan (codes "maybe" ∷ [])) ≡ codes "do (pour)\ndo (look)\ntest (alive)\n") × ((talk lawn.signature lawn_names lawn_plan (codes "maybe" ∷ [])).end ≡ Unfit 1)
+    × (refusal_text (answer_refusal (six_lines ++ codes ".\nmaybe\n") 1 320) ≡ codes "refused 8:1 320\n")
+unfolding talk instance_text conj_text literal_text stop_line digits
+lawn_unfit = (refl, refl, refl)
+
+pub lawn_silent : (talked_text (talk lawn.signature lawn_names lawn_plan []) ≡ codes "do (pour)\ndo (look)\ntest (alive)\n") × ((talk lawn.signature lawn_names lawn_plan []).end ≡ Missing 1)
+    × (refusal_text (answer_refusal (six_lines ++ codes ".\n") 1 321) ≡ codes "refused 8:1 321\n")
+unfolding talk instance_text conj_text literal_text stop_line digits
+lawn_silent = (refl, refl, refl)
+
+pub safe_talk : (talked_text (talk safe_signature safe_names safe_plan (codes "c3" ∷ [])) ≡ codes "do (read)\nvalue (combo)\ndo (dial c3)\ngoal\n") × ((talk safe_signature safe_names safe_plan (codes "c6" ∷ [])).end ≡ Unfit 1)
+unfolding talk instance_text term_text objects_of fits_type
+safe_talk = (refl, refl)
+
+-- ---- derived adds
+
+pub lawn_derives : derive_text lawn_names ([] ∷ [] ∷ []) lawn ≡ codes "action pour\n(if ((k (poison))) (kf (not (alive))))\n(if ((kw (poison)) (kw (alive))) (kw (alive)))\naction look\n(kw (alive))\n"
+unfolding derive_text derived_adds shapes add_text case_of is_made_so is_given is_given_whether literal_eq literal_cmp term_cmp literal
+lawn_derives = refl
+
+pub dial_derives : derived_text safe_names ([] ∷ (codes "x" ∷ []) ∷ []) (1, dial) ≡ codes "action dial\n(if ((k (= (combo) ?x))) (kf (open)))\n(if ((kw (= (combo) ?x)) (kw (open))) (kw (open)))\n"
+unfolding derived_adds shapes add_text case_of is_made_so is_given is_given_whether literal_eq literal_cmp term_cmp literal
+dial_derives = refl
+
+-- ---- nodes
+
+no_goal_later : IsIn GoalNode (BranchNode (alive ∷ []) 1 1 ∷ DoNode look 2 ∷ DoNode pour 3 ∷ []) → ⊥
+no_goal_later (inl e) = cc
+no_goal_later (inr (inl e)) = cc
+no_goal_later (inr (inr (inl e))) = cc
+no_goal_later (inr (inr (inr e))) = e
+
+no_branch_later : IsIn (BranchNode (alive ∷ []) 1 1) (DoNode look 2 ∷ DoNode pour 3 ∷ []) → ⊥
+no_branch_later (inl e) = cc
+no_branch_later (inr (inl e)) = cc
+no_branch_later (inr (inr e)) = e
+
+no_look_later : IsIn (DoNode look 2) (DoNode pour 3 ∷ []) → ⊥
+no_look_later (inl e) = cc
+no_look_later (inr e) = e
+
+pub lawn_shares : IsShared lawn_plan lawn_nodes
+unfolding first_ends root_cmp literal_cmp term_cmp
+lawn_shares = record {
+  distinct = (no_goal_later, (no_branch_later, (no_look_later, ((λ e. e), tt))));
+  order = (refl, ((1, 1, refl, refl, refl), ((2, refl, (1, 1, refl, refl, refl)), ((3, refl, (2, refl, (1, 1, refl, refl, refl))), tt))));
+  whole = (3, refl, (2, refl, (1, 1, refl, refl, refl)));
+}
+
+pub lawn_shared_printed : shared_text lawn_names lawn_nodes ≡ codes "plan depth 3 nodes 4\n1 goal\n2 branch (alive) true 1 false 1\n3 (look) then 2\n4 (pour) then 3\n"
+unfolding shared_text instance_text conj_text literal_text digits
+lawn_shared_printed = refl
+
+-- ---- modes
+
+pub usage_lines : (usage_text (Benching ∷ Checking ∷ Planning ∷ Running ∷ []) ≡ codes "usage: pks check | plan DEPTH | exec DEPTH | bench N\n")
+    × (usage_text all_modes ≡ codes "usage: pks check | plan DEPTH | exec DEPTH | bench N | recall DEPTH | agent DEPTH | explain DEPTH | derive | shared DEPTH\n")
+usage_lines = (refl, refl)

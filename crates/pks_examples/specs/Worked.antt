@@ -1,14 +1,15 @@
 -- Worked problems: what they state, and the databases and histories that come about in them.
 use Rattle.std.specs.Prelude.{ℕ, true, false, List, [], ◌∷◌, Some, None, codes}
-use Rattle.pks_terms.specs.Syntax.{Object, Apply, Term, Named, Equality, Literal, Pattern, negated}
+use Rattle.pks_terms.specs.Syntax.{Object, Parameter, Apply, Inner, Term, Named, Equality, Literal, Pattern, negated}
 use Rattle.pks_terms.specs.Signatures.{Shape, Signature}
 use Rattle.pks_terms.specs.Databases.{Five}
 use Rattle.pks_terms.specs.Queries.{Know, KnowWhether, Query}
 use Rattle.pks_terms.specs.Actions.{Set, Unset, Clear, SenseWhether, ItemKf, ItemKw, ItemLcw, Add, Schema, Instance}
 use Rattle.pks_terms.specs.Problems.{Start, StartKf, StartKw, StartKx, Now, Problem}
-use Rattle.pks_terms.specs.Settling.{History}
+use Rattle.pks_terms.specs.Settling.{History, State, At}
 use Rattle.pks_terms.specs.Trees.{Tree, Goal, Do, Branch}
-use Rattle.pks_terms.specs.Printed.{Names}
+use Rattle.pks_terms.specs.Nodes.{Node, GoalNode, DoNode, BranchNode}
+use Rattle.pks_terms.specs.Printed.{Text, Names}
 
 -- a predicate without arguments as a literal
 abbrev pub fact : ℕ → Literal
@@ -18,10 +19,11 @@ fact p = record { relation = Named p; arguments = []; positive = true }
 abbrev pub fact_of : ℕ → Term → Literal
 fact_of p t = record { relation = Named p; arguments = t ∷ []; positive = true }
 
--- an equation, and its negation
+-- an equation
 abbrev pub equal : Term → Term → Literal
 equal t u = record { relation = Equality; arguments = t ∷ u ∷ []; positive = true }
 
+-- the negation of an equation
 abbrev pub unequal : Term → Term → Literal
 unequal t u = record { relation = Equality; arguments = t ∷ u ∷ []; positive = false }
 
@@ -55,18 +57,23 @@ action n = record { action = n; arguments = [] }
 
 -- ---- the lawn: it is alive; poison, of which nothing is known, would kill it where one pours; looking tells whether it is alive; is the can poisoned?
 
+-- the lawn is alive
 abbrev pub alive : Literal
 alive = fact 0
 
+-- there is poison
 abbrev pub poison : Literal
 poison = fact 1
 
+-- the action of pouring
 abbrev pub pour : Instance
 pour = action 0
 
+-- the action of looking
 abbrev pub look : Instance
 look = action 1
 
+-- the problem of the lawn
 abbrev pub lawn : Problem
 lawn = record {
   version = 1;
@@ -78,20 +85,23 @@ lawn = record {
   goal = Now (known_either_way (poison ∷ [])) ∷ [];
 }
 
--- after nothing, after pouring, after looking too
+-- the lawn before anything is done
 abbrev pub lawn_at_first : History
 lawn_at_first = record { start = knowing (alive ∷ []) []; steps = [] }
 
+-- the lawn after pouring
 abbrev pub lawn_poured : History
 lawn_poured = record { start = knowing (alive ∷ []) []; steps = (pour, knowing [] []) ∷ [] }
 
+-- the lawn after pouring and looking
 abbrev pub lawn_looked : History
 lawn_looked = record { start = knowing (alive ∷ []) []; steps = (pour, knowing [] []) ∷ (look, knowing [] ((alive ∷ []) ∷ [])) ∷ [] }
 
--- where it was seen dead there was poison at every moment, and where it was seen alive there never was
+-- where it was seen dead there was poison at every moment
 abbrev pub lawn_dead : History
 lawn_dead = record { start = knowing (alive ∷ poison ∷ []) []; steps = (pour, knowing (negated alive ∷ poison ∷ []) []) ∷ (look, knowing (negated alive ∷ poison ∷ []) []) ∷ [] }
 
+-- where it was seen alive there never was poison
 abbrev pub lawn_living : History
 lawn_living = record { start = knowing (alive ∷ negated poison ∷ []) []; steps = (pour, knowing (alive ∷ negated poison ∷ []) []) ∷ (look, knowing (alive ∷ negated poison ∷ []) []) ∷ [] }
 
@@ -101,12 +111,15 @@ lawn_plan = Do pour (Do look (Branch (alive ∷ []) Goal Goal))
 
 -- ---- the alias: the key is in the hall; sweeping takes it from a place that may be the hall. The places are hall and den
 
+-- the hall
 abbrev pub hall : Term
 hall = Object 0
 
+-- the den
 abbrev pub den : Term
 den = Object 1
 
+-- the key
 abbrev pub key : Term
 key = Object 2
 
@@ -114,15 +127,19 @@ key = Object 2
 abbrev pub place_swept : Term
 place_swept = Apply 0 []
 
+-- the key is in the hall
 abbrev pub key_in_hall : Literal
 key_in_hall = record { relation = Named 0; arguments = key ∷ hall ∷ []; positive = true }
 
+-- the sweeping is done
 abbrev pub done : Literal
 done = fact 1
 
+-- the action of sweeping
 abbrev pub sweep : Instance
 sweep = action 0
 
+-- the problem of the alias, with these initial items
 abbrev pub alias : List Start → Problem
 alias init = record {
   version = 1;
@@ -154,9 +171,11 @@ places_known = unequal den hall ∷ equal den den ∷ unequal place_swept hall �
 
 -- ---- the groups: exactly one of r, x, u is true, one of r, y, v, and one of x, y; is r true?
 
+-- r is true
 abbrev pub r : Literal
 r = fact 0
 
+-- the problem of the groups
 abbrev pub groups : Problem
 groups = record {
   version = 1;
@@ -166,20 +185,25 @@ groups = record {
   goal = Now (known (negated r)) ∷ [];
 }
 
+-- the groups before anything is assumed
 abbrev pub groups_start : Five
 groups_start = record { kf = []; kw = (r ∷ []) ∷ []; kv = []; kx = (r ∷ fact 1 ∷ fact 2 ∷ []) ∷ (r ∷ fact 3 ∷ fact 4 ∷ []) ∷ (fact 1 ∷ fact 3 ∷ []) ∷ []; lcw = [] }
 
+-- the groups where r is assumed to be false
 abbrev pub groups_denied : Five
 groups_denied = record { kf = negated r ∷ []; kw = []; kv = []; kx = (r ∷ fact 1 ∷ fact 2 ∷ []) ∷ (r ∷ fact 3 ∷ fact 4 ∷ []) ∷ (fact 1 ∷ fact 3 ∷ []) ∷ []; lcw = [] }
 
 -- ---- the pair: it is known whether both p and q are true; is q true?
 
+-- p is true
 abbrev pub p : Literal
 p = fact 0
 
+-- q is true
 abbrev pub q : Literal
 q = fact 1
 
+-- the problem of the pair, with more initial items
 abbrev pub pair : List Start → Problem
 pair more = record {
   version = 1;
@@ -195,24 +219,31 @@ one_moment kf kw = record { start = knowing kf kw; steps = [] }
 
 -- ---- the tubs: all may be emptied; splashing, where the second isn't full, fills the first if it is wet
 
+-- the tub is full
 abbrev pub full : Term → Literal
 full = fact_of 0
 
+-- the first tub
 abbrev pub first_tub : Term
 first_tub = Object 0
 
+-- the second tub
 abbrev pub second_tub : Term
 second_tub = Object 1
 
+-- the floor is wet
 abbrev pub wet : Literal
 wet = fact 1
 
+-- a splash is done
 abbrev pub splashed : Literal
 splashed = fact 2
 
+-- the action of emptying all tubs
 abbrev pub empty_all : Instance
 empty_all = action 0
 
+-- the action of splashing
 abbrev pub splash : Instance
 splash = action 1
 
@@ -239,21 +270,25 @@ tubs wanted = record {
   goal = Now (known splashed) ∷ Now (known (negated (full wanted))) ∷ [];
 }
 
--- nothing is known; no tub is full; none but the first may be
+-- nothing is known
 abbrev pub tubs_start : Five
 tubs_start = knowing [] []
 
+-- no tub is full
 abbrev pub tubs_emptied : Five
 tubs_emptied = record { kf = []; kw = []; kv = []; kx = []; lcw = record { pattern = any_full; listed = [] } ∷ [] }
 
+-- no tub but the first may be full
 abbrev pub tubs_splashed : Five
 tubs_splashed = record { kf = splashed ∷ []; kw = []; kv = []; kx = []; lcw = record { pattern = any_full; listed = record { predicate = 0; arguments = first_tub ∷ [] } ∷ [] } ∷ [] }
 
+-- no tub is full, after a splash
 abbrev pub tubs_emptied_again : Five
 tubs_emptied_again = record { kf = splashed ∷ []; kw = []; kv = []; kx = []; lcw = record { pattern = any_full; listed = [] } ∷ record { pattern = any_full; listed = record { predicate = 0; arguments = first_tub ∷ [] } ∷ [] } ∷ [] }
 
 -- ---- the thing in a box: a value that isn't of the function's result type
 
+-- the box in which the thing is
 abbrev pub box_in : Term
 box_in = Apply 0 []
 
@@ -267,24 +302,80 @@ wrong_value = knowing (fact_of 0 box_in ∷ equal box_in (Object 0) ∷ []) []
 
 -- ---- the crate: thing is 0, box and bag are below it; 0 and 1 are boxes and 2 is a bag; the spot is a box whose value is known
 
+-- the spot
 abbrev pub spot : Term
 spot = Apply 0 []
 
+-- the signature of the crate
 abbrev pub crate_signature : Signature
 crate_signature = record { types = 3; parents = None ∷ Some 0 ∷ Some 0 ∷ []; objects = 1 ∷ 1 ∷ 2 ∷ []; predicates = shape (0 ∷ []) ∷ []; functions = record { arguments = []; result = 1 } ∷ [] }
 
+-- the value of the spot is known, and nothing else
 abbrev pub crate_known : Five
 crate_known = record { kf = []; kw = []; kv = spot ∷ []; kx = []; lcw = [] }
 
 -- ---- the tolls: the actions cost 9, 2 and 1
 
+-- an action that does nothing and costs so much
 abbrev pub bare_action : ℕ → Schema
 bare_action cost = record { cost = cost; parameters = []; pre = []; effects = []; senses = []; adds = [] }
 
+-- the problem of the tolls
 abbrev pub tolls : Problem
 tolls = record { version = 2; signature = facts_alone []; schemas = bare_action 9 ∷ bare_action 2 ∷ bare_action 1 ∷ []; init = []; goal = [] }
 
 -- ---- the lawn's names
 
+-- the names of the lawn
 abbrev pub lawn_names : Names
 lawn_names = record { objects = []; predicates = codes "alive" ∷ codes "poison" ∷ []; functions = []; actions = codes "pour" ∷ codes "look" ∷ [] }
+
+-- ---- the lawn's plan at its ends, and with its equal parts once
+
+-- the lawn's histories at the ends of its plan
+abbrev pub lawn_leaves : List State
+lawn_leaves = At lawn_living ∷ At lawn_dead ∷ []
+
+-- the nodes of the lawn's plan
+abbrev pub lawn_nodes : List Node
+lawn_nodes = GoalNode ∷ BranchNode (alive ∷ []) 1 1 ∷ DoNode look 2 ∷ DoNode pour 3 ∷ []
+
+-- an input whose file has six lines, as the lawn's has
+abbrev pub six_lines : Text
+six_lines = codes "1\n2\n3\n4\n5\n6\n"
+
+-- ---- the safe: reading tells its combination, one of five numbers, and dialling it opens the safe
+
+-- the combination
+abbrev pub combo : Inner
+combo = Apply 0 []
+
+-- the signature of the safe
+abbrev pub safe_signature : Signature
+safe_signature = record { types = 1; parents = None ∷ []; objects = 0 ∷ 0 ∷ 0 ∷ 0 ∷ 0 ∷ []; predicates = shape [] ∷ []; functions = shape [] ∷ [] }
+
+-- the names of the safe
+abbrev pub safe_names : Names
+safe_names = record {
+  objects = codes "c1" ∷ codes "c2" ∷ codes "c3" ∷ codes "c4" ∷ codes "c5" ∷ [];
+  predicates = codes "open" ∷ [];
+  functions = codes "combo" ∷ [];
+  actions = codes "read" ∷ codes "dial" ∷ [];
+}
+
+-- read, and dial what was read
+abbrev pub safe_plan : Tree
+safe_plan = Do (action 0) (Do (record { action = 1; arguments = combo ∷ [] }) Goal)
+
+-- dialling a number opens the safe where it is the combination
+abbrev pub dial : Schema
+dial =
+    let right : Literal = equal (Apply 0 []) (Parameter 0) in
+    record {
+      cost = 1;
+      parameters = 0 ∷ [];
+      pre = [];
+      effects = record { condition = right ∷ []; target = Set (record { predicate = 0; arguments = [] }) } ∷ [];
+      senses = [];
+      adds = record { given = known right ∷ []; item = ItemKf (fact 0) } ∷ [];
+    }

@@ -1,6 +1,6 @@
 //! Worked problems: what the definitions say of them, each computed and the clause of a function that does nothing.
 
-ghost use Rattle.std.specs.Prelude.{◌≡◌, true, false, [], ◌∷◌, codes};
+ghost use Rattle.std.specs.Prelude.{◌≡◌, true, false, [], ◌∷◌, ◌++◌, codes};
 ghost use Rattle.std.specs.declared.cmp.Ordering.TheVariants.{Less};
 ghost use Rattle.pks_terms.specs.Sets.{IsIn};
 ghost use Rattle.pks_terms.specs.Syntax.{Object, Apply, negated};
@@ -12,8 +12,14 @@ ghost use Rattle.pks_terms.specs.Settling.{At, Stopped};
 ghost use Rattle.pks_terms.specs.Aims.{met};
 ghost use Rattle.pks_terms.specs.Trees.{Goal, Impossible, Do, Branch, cost, tree_cmp, Acts, Takes, IsPlan};
 ghost use Rattle.pks_terms.specs.Valid.{is_literal, AreOf};
-ghost use Rattle.pks_terms.specs.Printed.{body_text};
-ghost use Rattle.pks_examples.specs.Worked.{fact_of, equal, unequal, knowing, action, alive, pour, look, lawn, lawn_at_first, lawn_poured, lawn_looked, lawn_dead, lawn_living, lawn_plan, lawn_names, key_in_hall, done, sweep, alias_open, alias_elsewhere, places_known, r, groups, groups_start, groups_denied, p, q, pair, one_moment, first_tub, second_tub, empty_all, splash, tubs, tubs_start, tubs_emptied, tubs_splashed, tubs_emptied_again, boxes, wrong_value, spot, crate_signature, crate_known, tolls};
+ghost use Rattle.pks_terms.specs.Knowledge.{AtGoal};
+ghost use Rattle.pks_terms.specs.Printed.{body_text, refusal_text};
+ghost use Rattle.pks_terms.specs.Jobs.{Checking, Planning, Running, Benching, all_modes, usage_text};
+ghost use Rattle.pks_terms.specs.Recalled.{IsRecalled, recall_text};
+ghost use Rattle.pks_terms.specs.Talk.{Over, Unfit, Missing, file_text, answers_in, stop_line, talk, talked_text, answer_refusal};
+ghost use Rattle.pks_terms.specs.Shapes.{derived_text, derive_text};
+ghost use Rattle.pks_terms.specs.Nodes.{IsShared, shared_text};
+ghost use Rattle.pks_examples.specs.Worked.{fact_of, equal, unequal, knowing, action, alive, pour, look, lawn, lawn_at_first, lawn_poured, lawn_looked, lawn_dead, lawn_living, lawn_plan, lawn_names, lawn_leaves, lawn_nodes, six_lines, safe_signature, safe_names, safe_plan, dial, key_in_hall, done, sweep, alias_open, alias_elsewhere, places_known, r, groups, groups_start, groups_denied, p, q, pair, one_moment, first_tub, second_tub, empty_all, splash, tubs, tubs_start, tubs_emptied, tubs_splashed, tubs_emptied_again, boxes, wrong_value, spot, crate_signature, crate_known, tolls};
 
 /// After pouring from a can that may be poisoned it isn't known any more that the lawn is alive.
 pub fn pouring_may_kill_the_lawn()
@@ -128,4 +134,72 @@ pub fn spot_that_is_not_one_box_is_the_other()
 /// Two steps that cost 2 and 1 are better than one that costs 9.
 pub fn two_cheap_steps_beat_a_dear_one()
     ensures { (cost tolls (Do (action 1) (Do (action 2) Goal)) ≡ 3) × (tree_cmp (cost tolls) (Do (action 1) (Do (action 2) Goal)) (Do (action 0) Goal) ≡ Less) }
+{}
+
+/// At the ends of the plan for the lawn it is known of every moment whether it was alive and whether there was poison.
+pub fn lawn_is_recalled()
+    ensures { IsRecalled lawn lawn_plan lawn_leaves }
+{}
+
+/// This as text.
+pub fn lawn_recall_as_printed()
+    ensures { recall_text lawn_names lawn_leaves ≡ codes "leaf 1\nmoment 0\n(alive)\n(not (poison))\nmoment 1\n(alive)\n(not (poison))\nmoment 2\n(alive)\n(not (poison))\nleaf 2\nmoment 0\n(alive)\n(poison)\nmoment 1\n(not (alive))\n(poison)\nmoment 2\n(not (alive))\n(poison)\n" }
+{}
+
+/// A file stands before the line that is a full stop alone, and the answers behind it, an empty one too.
+pub fn answers_stand_behind_the_stop()
+    ensures { (file_text (codes "a\n..\n.\nb\n\nc") ≡ codes "a\n..\n") × (answers_in (codes "a\n..\n.\nb\n\nc") ≡ codes "b" ∷ [] ∷ codes "c" ∷ []) × (stop_line (codes "a\n..\n.\nb\n\nc") ≡ 3) }
+{}
+
+/// Without such a line all of the input is the file, its last line as it is, and there are no answers.
+pub fn without_a_stop_there_are_no_answers()
+    ensures { (file_text (codes "a\n.\r\nb") ≡ codes "a\n.\r\nb") × (answers_in (codes "a\n.\r\nb") ≡ []) × (stop_line (codes "a\n.\r\nb") ≡ 3) }
+{}
+
+/// The dialogue about the lawn, where it is answered that it isn't alive.
+pub fn lawn_is_talked_about()
+    ensures { (talked_text (talk lawn.signature lawn_names lawn_plan (codes "false" ∷ [])) ≡ codes "do (pour)\ndo (look)\ntest (alive)\ngoal\n") × ((talk lawn.signature lawn_names lawn_plan (codes "false" ∷ [])).end ≡ Over AtGoal) }
+{}
+
+/// An answer that is neither of the two isn't fit, and where the file has six lines it stands on line 8.
+pub fn unfit_answer_ends_the_dialogue()
+    ensures { (talked_text (talk lawn.signature lawn_names lawn_plan (codes "maybe" ∷ [])) ≡ codes "do (pour)\ndo (look)\ntest (alive)\n") × ((talk lawn.signature lawn_names lawn_plan (codes "maybe" ∷ [])).end ≡ Unfit 1)
+        × (refusal_text (answer_refusal (six_lines ++ codes ".\nmaybe\n") 1 320) ≡ codes "refused 8:1 320\n") }
+{}
+
+/// So does a missing one, which would stand there.
+pub fn missing_answer_ends_the_dialogue()
+    ensures { (talked_text (talk lawn.signature lawn_names lawn_plan []) ≡ codes "do (pour)\ndo (look)\ntest (alive)\n") × ((talk lawn.signature lawn_names lawn_plan []).end ≡ Missing 1)
+        × (refusal_text (answer_refusal (six_lines ++ codes ".\n") 1 321) ≡ codes "refused 8:1 321\n") }
+{}
+
+/// The dialogue about the safe, whose combination is asked for before it is dialled.
+pub fn safe_is_talked_about()
+    ensures { (talked_text (talk safe_signature safe_names safe_plan (codes "c3" ∷ [])) ≡ codes "do (read)\nvalue (combo)\ndo (dial c3)\ngoal\n") × ((talk safe_signature safe_names safe_plan (codes "c6" ∷ [])).end ≡ Unfit 1) }
+{}
+
+/// What follows from the text of the lawn's actions.
+pub fn lawn_is_derived()
+    ensures { derive_text lawn_names ([] ∷ [] ∷ []) lawn ≡ codes "action pour\n(if ((k (poison))) (kf (not (alive))))\n(if ((kw (poison)) (kw (alive))) (kw (alive)))\naction look\n(kw (alive))\n" }
+{}
+
+/// What follows from dialling, with the name of its parameter.
+pub fn dialling_is_derived()
+    ensures { derived_text safe_names ([] ∷ (codes "x" ∷ []) ∷ []) (1, dial) ≡ codes "action dial\n(if ((k (= (combo) ?x))) (kf (open)))\n(if ((kw (= (combo) ?x)) (kw (open))) (kw (open)))\n" }
+{}
+
+/// The plan for the lawn has the goal on both sides, which is one node.
+pub fn lawn_is_shared()
+    ensures { IsShared lawn_plan lawn_nodes }
+{}
+
+/// This as text.
+pub fn lawn_nodes_as_printed()
+    ensures { shared_text lawn_names lawn_nodes ≡ codes "plan depth 3 nodes 4\n1 goal\n2 branch (alive) true 1 false 1\n3 (look) then 2\n4 (pour) then 3\n" }
+{}
+
+/// The usage line has the modes that a program has, in one order.
+pub fn usage_has_the_modes()
+    ensures { (usage_text (Benching ∷ Checking ∷ Planning ∷ Running ∷ []) ≡ codes "usage: pks check | plan DEPTH | exec DEPTH | bench N\n")
+        × (usage_text all_modes ≡ codes "usage: pks check | plan DEPTH | exec DEPTH | bench N | recall DEPTH | agent DEPTH | explain DEPTH | derive | shared DEPTH\n") }
 {}

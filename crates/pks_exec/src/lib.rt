@@ -6,5 +6,3 @@ pub mod compatible;
 pub mod exec;
 pub mod print;
 pub mod run;
-#[cfg(test)]
-mod tests;

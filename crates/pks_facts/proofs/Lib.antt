@@ -1,5 +1,4 @@
 mod Covering
-mod Files
 mod Giving
 mod Sizes
 mod Steps

@@ -7,7 +7,5 @@ pub mod laws;
 mod naming;
 mod places;
 mod read;
-#[cfg(test)]
-mod tests;
 
 pub use read::{WorldEnd, read_world};

@@ -71,7 +71,7 @@ fn top_at<'f, 's>(top: &'f [Form<'s>], i: usize) -> Option<&'f Form<'s>>
 }
 
 // The parts behind its head.
-pub(crate) fn parts_at<'f, 's>(top: &'f [Form<'s>], i: usize) -> &'f [Form<'s>]
+fn parts_at<'f, 's>(top: &'f [Form<'s>], i: usize) -> &'f [Form<'s>]
     ensures { forms_view result.now ≡ parts_at (map form_view top.now) i }
 {
     if top.len() <= i {

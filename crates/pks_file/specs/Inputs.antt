@@ -39,6 +39,7 @@ abbrev pub file_in : Text → List Form → Problem → Named → File
 file_in text fs p n = record {
   problem = p;
   names = record { objects = n.objects; predicates = n.predicates; functions = n.functions; actions = n.actions };
+  parameters = n.parameters;
   world = world_stated text fs (slice_get fs 3) (world_fault fs);
   add_at = λ action number. line_and_column text (add_begins n.adds action number);
   init_at = line_and_column text n.init.0;

@@ -4,8 +4,6 @@
 mod input;
 pub mod laws;
 mod places;
-#[cfg(test)]
-mod tests;
 mod world;
 
 pub use input::{InputFile, read_file};

@@ -16,10 +16,12 @@ abbrev pub or_else : {X : Type 0} → Option X → Option X → Option X
 or_else None later = later
 or_else (Some x) later = Some x
 
+-- a form that is this word
 abbrev pub is_word : List ℕ → Form → Bool
 is_word wanted (Word text at) = bytes_eq text wanted
 is_word wanted (Listing parts at end) = false
 
+-- forms that are these words in order
 abbrev pub are_words : List (List ℕ) → Forms → Bool
 are_words [] no_forms = true
 are_words [] (form f fs) = false

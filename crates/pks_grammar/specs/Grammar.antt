@@ -32,9 +32,11 @@ pub record Lists : Type 0 where
   pub other : Option (List Part)
   pub barred : List (List ℕ)
 
+-- lists with these heads, and no others
 abbrev pub only : List (List ℕ × List Part) → Lists
 only fixed = record { fixed = fixed; other = None; barred = [] }
 
+-- a list of these parts, without a fixed head
 abbrev pub plain : List Part → Lists
 plain parts = record { fixed = []; other = Some parts; barred = [] }
 
@@ -46,9 +48,11 @@ applied argument = One Name ∷ Many argument ∷ []
 abbrev pub atom_or : List (List ℕ × List Part) → Lists
 atom_or fixed = record { fixed = fixed; other = Some (applied Term); barred = codes "not" ∷ [] }
 
+-- two terms that are equal
 abbrev pub equation : List ℕ × List Part
 equation = headed (codes "=") (One Term ∷ One Term ∷ [])
 
+-- what an effect does to the world
 abbrev pub targets : List (List ℕ × List Part)
 targets =
     headed (codes "set") (One Atom ∷ []) ∷
@@ -56,6 +60,7 @@ targets =
     headed (codes "clear") (One Pattern ∷ []) ∷
     headed (codes "assign") (One Place ∷ One Term ∷ []) ∷ []
 
+-- what may be known
 abbrev pub items : List (List ℕ × List Part)
 items =
     headed (codes "kf") (One Literal ∷ []) ∷
@@ -63,6 +68,7 @@ items =
     headed (codes "kv") (One Place ∷ []) ∷
     headed (codes "lcw") (One Pattern ∷ []) ∷ []
 
+-- what may be asked of what is known
 abbrev pub queries : List (List ℕ × List Part)
 queries =
     headed (codes "k") (One Literal ∷ []) ∷
@@ -91,6 +97,7 @@ earlier Second =
 
 -- ---- the table
 
+-- the lists of each sort; a sort of words has none
 unfoldable pub lists : Version → Sort → Lists
 lists v Domain = only (headed (codes "domain") (Maybe Types ∷ Maybe Objects ∷ Maybe Predicates ∷ Maybe Functions ∷ Many Action ∷ []) ∷ [])
 lists v Types = only (headed (codes "types") (Many Kind ∷ []) ∷ [])
@@ -142,6 +149,7 @@ lists v Number = only []
 
 -- ---- one list
 
+-- the head is one of these
 abbrev pub is_among : List ℕ → List (List ℕ) → Bool
 is_among head [] = false
 is_among head (h ∷ hs) = bytes_eq head h || is_among head hs

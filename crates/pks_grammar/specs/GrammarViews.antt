@@ -5,9 +5,11 @@ use Rattle.pks_grammar.specs.declared.grammar.Part.{Part}
 use Rattle.pks_grammar.specs.declared.table.Headed.{Headed}
 use Rattle.pks_grammar.specs.declared.table.Lists as code
 
+-- a head with its parts
 abbrev pub headed_view : Headed → List ℕ × List Part
 headed_view h = (h.head.now, h.parts.now)
 
+-- the lists of a sort
 abbrev pub lists_view : code.Lists → Lists
 lists_view ls = record {
   fixed = map headed_view ls.fixed.now;

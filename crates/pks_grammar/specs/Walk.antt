@@ -61,6 +61,7 @@ count (form f fs) = count fs + 1
 abbrev pub is_miscounted : Version → List Part → Forms → Bool
 is_miscounted v ps fs = lacks v ps fs || (is_fixed ps && nat_lt (length ps) (count fs))
 
+-- the first place, or else the later
 abbrev pub first_of : Option ℕ → Option ℕ → Option ℕ
 first_of None later = later
 first_of (Some at) later = Some at

@@ -6,7 +6,5 @@ pub mod grammar;
 pub mod report;
 pub mod shape;
 mod table;
-#[cfg(test)]
-mod tests;
 pub mod walk;
 pub mod words;

@@ -7,7 +7,7 @@ use Rattle.pks_terms.specs.Databases.{Five}
 use Rattle.pks_terms.specs.Actions.{Instance}
 use Rattle.pks_terms.specs.Views.{instance_of}
 use Rattle.pks_normal.specs.Fives.{five_of}
-use Rattle.pks_history.specs.declared.history.Moment.{Moment}
+use Rattle.pks_history.specs.declared.histories.Moment.{Moment}
 use Rattle.pks_history.specs.Moments.{moment_of, moments_of}
 
 -- the databases of a later moment

@@ -6,7 +6,7 @@ use Rattle.pks_terms.specs.Settling.{History}
 use Rattle.pks_terms.specs.Aims.{moments}
 use Rattle.pks_terms.specs.Views.{instance_of}
 use Rattle.pks_normal.specs.Fives.{five_of}
-use Rattle.pks_history.specs.declared.history.Moment.{Moment}
+use Rattle.pks_history.specs.declared.histories.Moment.{Moment}
 
 -- a later moment: the instance that led to it, and its databases
 abbrev pub moment_of : Moment → Instance × Five

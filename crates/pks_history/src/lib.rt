@@ -1,7 +1,7 @@
 //! Histories: the databases of each moment, with the instance between each two.
 #![tactic(auto)]
 
-pub mod history;
+pub mod histories;
 pub mod same;
-#[cfg(test)]
-mod tests;
+
+pub use histories::History;

@@ -3,7 +3,7 @@ ghost use Rattle.std.specs.Prelude.{◌≡◌, ◌↔◌, IsTrue};
 ghost use Rattle.pks_terms.specs.Views.{instance_of};
 ghost use Rattle.pks_history.specs.Moments.{moments_of};
 
-use crate::history::{History, Moment};
+use crate::histories::{History, Moment};
 use pks_terms::schema::Instance;
 use pks_terms::term::front;
 

@@ -5,8 +5,6 @@ mod cases;
 mod deciding;
 mod fitting;
 mod given;
-#[cfg(test)]
-mod tests;
 mod undoing;
 
 pub use cases::{Case, Unjustified, case_in, case_of, case_with, justify};

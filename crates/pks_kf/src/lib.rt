@@ -11,9 +11,6 @@ ghost use Rattle.pks_terms.specs.Sets.{IsOrdered, insert_in, added};
 ghost use Rattle.pks_pmap.specs.Keeping.{Keeps};
 ghost use Rattle.pks_set.specs.Members.{TakesEach, first_at_least, is_member, keys};
 
-#[cfg(test)]
-mod tests;
-
 use pks_pmap::map::PMap;
 use pks_set::set::{Items, SetOf};
 use pks_terms::literal::Literal;

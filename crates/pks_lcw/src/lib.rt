@@ -14,9 +14,6 @@ ghost use Rattle.pks_terms.specs.Sets.{IsOrdered, insert_in, added};
 ghost use Rattle.pks_pmap.specs.Keeping.{Keeps};
 ghost use Rattle.pks_set.specs.Members.{TakesEach, first_at_least, is_member, keys};
 
-#[cfg(test)]
-mod tests;
-
 use crate::entry::Entry;
 use pks_pmap::map::PMap;
 use pks_set::set::{Items, SetOf};

@@ -1,5 +1,5 @@
 -- Looking names up.
-use Rattle.std.proofs.Common.{◌≡◌, ℕ, List, [], ◌∷◌, map, Option, Some, None, Bor, refl, ap, sym, ◌∙◌, Bool, true, false, cond, bytes_eq, option_map, option_copied, is_some, position, length, suc, ◌+◌, nat_lt, not, slice_get, ◌++◌}
+use Rattle.std.proofs.Common.{◌≡◌, ℕ, zero, List, [], ◌∷◌, map, Option, Some, None, Bor, refl, ap, sym, ◌∙◌, Bool, true, false, cond, bytes_eq, option_map, option_copied, is_some, position, length, suc, ◌+◌, nat_lt, not, slice_get, ◌++◌}
 use Rattle.std.specs.List.{position_or_len}
 use Rattle.std.proofs.lemmas.Bool.{false≢true}
 use Rattle.indexmap.specs.IndexMap.{insert_entry}
@@ -7,8 +7,9 @@ use Rattle.std.specs.Map.{lookup, keys_of}
 use Rattle.std.specs.Map.Iter.{deref_pair}
 use Rattle.std.proofs.lemmas.Option.{slice_get-map}
 use Rattle.pks_meaning.specs.Tables.{Table, entry_of, entries_of, declare, number_of, too_long}
-use Rattle.pks_meaning.specs.Declarations.{name_of, name_faults}
-use Rattle.pks_text.specs.Forms.{Form, place_of}
+use Rattle.pks_meaning.specs.Declarations.{name_of, name_faults, past_names}
+use Rattle.pks_text.specs.Forms.{Form, Forms, no_forms, form, place_of}
+use Rattle.pks_grammar.specs.Files.{Fault}
 use Rattle.pks_meaning.specs.Views.{seen}
 
 pub lookup_view : {K X Y : Type 0} (key : K → List ℕ) (v : X → Y) (es : List (K × X)) (name : List ℕ) → option_map v (lookup (λ k. bytes_eq name (key k)) es) ≡ entry_of (map (λ e. (key e.0, v e.1)) es) name
@@ -114,6 +115,11 @@ known_seen {X = X} {Y = Y} v (e ∷ es) name = by_test (bytes_eq name e.0) (know
 
 pub name_seen : {X Y : Type 0} (v : X → Y) (es : Table X) (w : Form) → name_faults (seen v es) w ≡ name_faults es w
 name_seen v es w = ap (λ (b : Bool). too_long (name_of w) (place_of w) ++ cond b ((place_of w, 202) ∷ []) []) (known_seen v es (name_of w))
+
+pub past_seen : {X Y : Type 0} (v : X → Y) (es : Table X) (named : Form → Form) (n : ℕ) (fs : Forms) → past_names (seen v es) named n fs ≡ past_names es named n fs
+past_seen v es named n no_forms = refl
+past_seen v es named zero (form f fs) = ap (λ (faults : List Fault). faults ++ ((place_of (named f), 208) ∷ [])) (name_seen v es (named f))
+past_seen v es named (suc n) (form f fs) = past_seen v es named n fs
 
 pub declare_seen : {X Y : Type 0} (v : X → Y) (es : Table X) (name : List ℕ) (x : X) → seen v (declare es name x) ≡ declare (seen v es) name (v x)
 declare_seen v [] name x = refl

@@ -43,19 +43,23 @@ entries_faults named said faults table no_forms = []
 entries_faults named said faults table (form f fs) =
     (name_faults table (named f) ++ faults f) ++ entries_faults named said faults (declare table (name_of (named f)) (said f)) fs
 
--- the first name past a number of them
-abbrev pub past_names : (Form → Form) → ℕ → Forms → List Fault
-past_names named n no_forms = []
-past_names named zero (form f fs) = (place_of (named f), 208) ∷ []
-past_names named (suc n) (form f fs) = past_names named n fs
+-- the name is one too many, whatever else is said of it
+abbrev pub surplus_faults : {X : Type 0} → Table X → Form → List Fault
+surplus_faults table w = name_faults table w ++ ((place_of w, 208) ∷ [])
 
--- at most n entries. What is past them is a fault already, and isn't declared
-abbrev pub section_faults : {X : Type 0} → (Form → Form) → ℕ → (Form → X) → (Form → List Fault) → Forms → List Fault
-section_faults named n said faults fs = entries_faults named said faults [] (first_forms n fs) ++ past_names named n fs
+-- the first name past a number of them, where these are declared. What stands behind it has a later place
+abbrev pub past_names : {X : Type 0} → Table X → (Form → Form) → ℕ → Forms → List Fault
+past_names table named n no_forms = []
+past_names table named zero (form f fs) = surplus_faults table (named f)
+past_names table named (suc n) (form f fs) = past_names table named n fs
 
 -- the table of at most n entries
 abbrev pub section_table : {X : Type 0} → (Form → Form) → ℕ → (Form → X) → Forms → Table X
 section_table named n said fs = table_from named said [] (first_forms n fs)
+
+-- the faults of at most n entries, and of the first name past them
+abbrev pub section_faults : {X : Type 0} → (Form → Form) → ℕ → (Form → X) → (Form → List Fault) → Forms → List Fault
+section_faults named n said faults fs = entries_faults named said faults [] (first_forms n fs) ++ past_names (section_table named n said fs) named n fs
 
 -- nothing else may be wrong
 abbrev pub no_faults : Form → List Fault
@@ -100,28 +104,31 @@ types_in fs = types_from [] (first_forms 16 fs)
 
 -- the faults of the section
 unfoldable pub types_section : Forms → List Fault
-types_section fs = types_faults [] (first_forms 16 fs) ++ past_names first_in 16 fs
+types_section fs = types_faults [] (first_forms 16 fs) ++ past_names (types_in fs) first_in 16 fs
 
 -- ---- objects
+
+-- the objects of one entry, of which n may come
+abbrev pub objects_with : Types → ℕ → Table ℕ → Form → Table ℕ
+objects_with types n table f = table_from first_in (λ g. type_named types (first_in f)) table (first_forms n (behind_head f))
 
 -- the objects of entries, each entry having a type and its objects, at most n in all
 abbrev pub objects_from : Types → ℕ → Table ℕ → Forms → Table ℕ
 objects_from types n table no_forms = table
-objects_from types n table (form f fs) =
-    objects_from types (n - count (behind_head f)) (table_from first_in (λ g. type_named types (first_in f)) table (first_forms n (behind_head f))) fs
+objects_from types n table (form f fs) = objects_from types (n - count (behind_head f)) (objects_with types n table f) fs
 
 -- the faults of one entry's objects
 abbrev pub objects_faults_in : Types → ℕ → Table ℕ → Form → List Fault
 objects_faults_in types n table f =
     type_faults types (first_in f)
-    ++ (entries_faults first_in (λ g. type_named types (first_in f)) no_faults table (first_forms n (behind_head f)) ++ past_names first_in n (behind_head f))
+    ++ (entries_faults first_in (λ g. type_named types (first_in f)) no_faults table (first_forms n (behind_head f))
+    ++ past_names (objects_with types n table f) first_in n (behind_head f))
 
 -- the faults of objects, of which n may come
 abbrev pub objects_faults : Types → ℕ → Table ℕ → Forms → List Fault
 objects_faults types n table no_forms = []
 objects_faults types n table (form f fs) =
-    objects_faults_in types n table f
-    ++ objects_faults types (n - count (behind_head f)) (table_from first_in (λ g. type_named types (first_in f)) table (first_forms n (behind_head f))) fs
+    objects_faults_in types n table f ++ objects_faults types (n - count (behind_head f)) (objects_with types n table f) fs
 
 -- how many objects a file of this version may have
 abbrev pub most_objects : ℕ → ℕ
@@ -147,10 +154,13 @@ types_named types (suc n) (form f fs) = type_named types f ∷ types_named types
 unfoldable pub predicate_in : Types → Form → Shape
 predicate_in types f = record { arguments = types_named types 3 (behind_head f); result = 0 }
 
--- a predicate isn't named `not`, and has at most three arguments
+-- a predicate isn't named `not`
+abbrev pub barred_faults : Form → List Fault
+barred_faults f = if bytes_eq (name_of (first_in f)) (codes "not") then (place_of (first_in f), 201) ∷ [] else []
+
+-- it has at most three arguments
 unfoldable pub predicate_faults : Types → Form → List Fault
-predicate_faults types f =
-    (if bytes_eq (name_of (first_in f)) (codes "not") then (place_of (first_in f), 201) ∷ [] else []) ++ (each (type_faults types) (behind_head f) ++ past 3 (behind_head f))
+predicate_faults types f = each (type_faults types) (behind_head f) ++ past 3 (behind_head f)
 
 -- at most 32 predicates
 abbrev pub predicates_in : Types → Forms → Table Shape
@@ -158,7 +168,7 @@ predicates_in types fs = section_table first_in 32 (predicate_in types) fs
 
 -- the faults of the section
 unfoldable pub predicates_section : Types → Forms → List Fault
-predicates_section types fs = section_faults first_in 32 (predicate_in types) (predicate_faults types) fs
+predicates_section types fs = each barred_faults fs ++ section_faults first_in 32 (predicate_in types) (predicate_faults types) fs
 
 -- ---- functions
 

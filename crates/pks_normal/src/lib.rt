@@ -5,5 +5,3 @@ pub mod five;
 pub mod literals;
 pub mod normals;
 mod table;
-#[cfg(test)]
-mod tests;

@@ -1,4 +1,6 @@
 //! Aims at a history.
 #![tactic(auto)]
 
-pub mod met;
+pub mod meeting;
+
+pub use meeting::met;

@@ -13,6 +13,7 @@ abbrev mutual
   tree_of (tree.Branch' c p t q u) = Branch (conj_of c) (tree_of t) (tree_of u)
   tree_of (tree.Cases' x p k) = Cases (term_of x) (chain_of k)
 
+  -- the cases that a chain lists
   pub chain_of : chain.CaseChain → Chain
   chain_of chain.Empty = End
   chain_of (chain.More' e t p k) = More e.0 (tree_of t) (chain_of k)

@@ -6,7 +6,7 @@ ghost use Rattle.pks_plan.specs.Appending.{AppendsPart};
 use itoa::Buffer;
 use std::alloc::AllocError;
 
-/// Appends the bytes, or where memory runs out nothing.
+/// Appends the bytes, or where memory runs out a beginning of them.
 pub(crate) fn put(out: &mut Vec<u8>, bytes: &[u8]) -> Result<(), AllocError>
     ensures ok { OnOk result (out.new.items ≡ out.old.items ++ bytes.now) }
     ensures err { OnErr result (AppendsPart out.old.items out.new.items bytes.now) }
@@ -15,7 +15,7 @@ pub(crate) fn put(out: &mut Vec<u8>, bytes: &[u8]) -> Result<(), AllocError>
     Ok(())
 }
 
-/// Appends the number's digits, or where memory runs out nothing.
+/// Appends the number's digits, or where memory runs out a beginning of them.
 pub(crate) fn put_number(out: &mut Vec<u8>, n: u32) -> Result<(), AllocError>
     ensures ok { OnOk result (out.new.items ≡ out.old.items ++ decimal n) }
     ensures err { OnErr result (AppendsPart out.old.items out.new.items (decimal n)) }

@@ -8,7 +8,5 @@ mod lines;
 pub mod names;
 pub mod order;
 mod parts;
-#[cfg(test)]
-mod tests;
 pub mod text;
 pub mod tree;

@@ -10,6 +10,7 @@ abbrev pub entries_and_height : {K V : Type 0} → Link K V → List (K × V) ×
 entries_and_height Leaf = ([], 0)
 entries_and_height (Fork rc) = (rc.value.left.0 ++ rc.value.pair.value ∷ rc.value.right.0, rc.value.height)
 
+-- each node is one of its two sides
 abbrev pub IsBalanced : {K V : Type 0} → (K → K → Ordering) → Link K V → Type 0
 IsBalanced R Leaf = Unit {0}
 IsBalanced R (Fork rc) = IsNode R rc.value.left rc.value.pair.value rc.value.right rc.value.height rc.value.len

@@ -12,6 +12,7 @@ pub record IsFull (height len : ℕ) : Type 0 where
   pub linear : height ≤ len
   pub square : 2 ^ height ≤ (len + 1) * (len + 1)
 
+-- a node of two sides and an entry between them stores its height and the number of its entries, and is balanced
 pub record IsNode {K V : Type 0} (R : K → K → Ordering) (l : List (K × V) × ℕ) (e : K × V) (r : List (K × V) × ℕ) (height len : ℕ) : Type 0 where
   pub ascending : IsAscending R (l.0 ++ e ∷ r.0)
   pub is_height : height ≡ max l.1 r.1 + 1

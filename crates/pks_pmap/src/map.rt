@@ -3,17 +3,17 @@ ghost use Rattle.std.specs.Prelude.{◌≡◌, ℕ, ◌+◌, ◌*◌, ◌≤◌,
 ghost use Rattle.std.specs.Option.{option_map};
 ghost use Rattle.std.specs.Iterator.{YieldsFirstBy, item_count};
 ghost use Rattle.pks_pmap.specs.Entries.{IsAscending, get, first_from, insert, remove};
-ghost use Rattle.pks_pmap.specs.Sides.{IsGreatestHeight, raised_by};
+ghost use Rattle.pks_pmap.specs.Sides.{IsGreatestHeight, raised, raised_by};
 ghost use Rattle.pks_pmap.specs.Keeping.{TakesKeys, AnswersKey, Keeps};
 
-use crate::steps::Steps;
+use crate::counting::Steps;
 use crate::tree::Tree;
 use std::alloc::{AllocError, Global};
 use std::marker::Model;
 use std::rc::Rc;
 
 /// A map in the order of its keys, seen as the list of its entries. Versions share their nodes and pairs, and none changes.
-/// It asks of the keys their order alone, and of the values nothing.
+/// It asks of the keys their order, and of both that they are `Drop` where versions are made.
 #[derive(Drop)]
 pub struct PMap<K: Ord, V> {
     tree: Tree<K, V>,
@@ -116,6 +116,7 @@ impl<K: Ord + Drop, V: Drop> PMap<K, V> {
 
     /// The map with the entry in its place, where it takes the place of one with an equal key.
     /// An error is want of memory, and the nodes that were made before it are counted too.
+    /// It makes a node at least where it answers a map, and few in a map of many entries.
     pub fn insert(
         &self,
         alloc: Global,
@@ -125,6 +126,8 @@ impl<K: Ord + Drop, V: Drop> PMap<K, V> {
     ) -> Result<PMap<K, V>, AllocError>
         ensures entries { IfOk result (λ map. map ≡ insert K.cmp (key, value) self.now) }
         ensures few { (h : ℕ) → IsGreatestHeight (length self.now) h → steps.new.made ≤ steps.old.made + (2 * h + 2) }
+        ensures some { OnOk result (raised steps.old.made ≤ steps.new.made) }
+        ensures later { steps.old.made ≤ steps.new.made }
     {
         let pair = Rc::new(alloc, (key, value))?;
         let tree = self.tree.insert(alloc, pair, steps)?;
@@ -132,6 +135,7 @@ impl<K: Ord + Drop, V: Drop> PMap<K, V> {
     }
 
     /// The map without the entry at the key. Where there is none it is the same map, and no node is made.
+    /// An error is want of memory, and the nodes that were made before it are counted too.
     pub fn remove(
         &self,
         alloc: Global,
@@ -139,6 +143,7 @@ impl<K: Ord + Drop, V: Drop> PMap<K, V> {
         steps: &mut Steps,
     ) -> Result<PMap<K, V>, AllocError>
         ensures entries { IfOk result (λ map. map ≡ remove K.cmp key.now self.now) }
+        ensures later { steps.old.made ≤ steps.new.made }
         ensures missing { IsNone (get K.cmp key.now self.now) → steps.new.made ≡ steps.old.made }
     {
         if self.tree.get(key).is_none() {

@@ -1,5 +1,5 @@
+use crate::counting::Steps;
 use crate::map::PMap;
-use crate::steps::Steps;
 use std::alloc::{AllocError, Global};
 use std::test::Fail;
 

@@ -5,7 +5,7 @@ ghost use Rattle.std.specs.Option.{option_map};
 ghost use Rattle.pks_pmap.specs.Sides.{DifferByAtMost, IsFull, IsBalancing, IsInsertion, IsRemoval, IsTakingFirst, IsGluing, IsJoining, IsBuilt, raised};
 ghost use Rattle.pks_pmap.specs.Keeping.{TakesKeys, AnswersKey, IsKeeping};
 
-use crate::steps::Steps;
+use crate::counting::Steps;
 use std::alloc::{AllocError, Global};
 use std::cmp::Ordering;
 use std::marker::Model;
@@ -157,6 +157,7 @@ impl<K: Ord + Drop, V: Drop> Tree<K, V> {
         ensures made { IfOk result (λ t. t ≡ (left.0 ++ pair.value ∷ right.0, max left.1 right.1 + 1)) }
         ensures raised { OnOk result (steps.new.made ≡ raised steps.old.made) }
         ensures at_most { steps.new.made ≤ steps.old.made + (if is_ok result then 1 else 0) }
+        ensures later { steps.old.made ≤ steps.new.made }
     {
         let height = left.height().max(right.height());
         let below = left.len().checked_add(right.len());
@@ -191,6 +192,7 @@ impl<K: Ord + Drop, V: Drop> Tree<K, V> {
         requires near { DifferByAtMost 2 left.1 right.1 }
         ensures balancing { IfOk result (IsBalancing left pair.value right steps.old.made steps.new.made) }
         ensures at_most { steps.new.made ≤ steps.old.made + (if is_ok result then 3 else 2) }
+        ensures later { steps.old.made ≤ steps.new.made }
     {
         let (l, r) = (left.height(), right.height());
         if l.saturating_sub(r) > 1 {
@@ -213,6 +215,7 @@ impl<K: Ord + Drop, V: Drop> Tree<K, V> {
         requires two_higher { left.1 ≡ right.1 + 2 }
         ensures balancing { IfOk result (IsBalancing left pair.value right steps.old.made steps.new.made) }
         ensures at_most { steps.new.made ≤ steps.old.made + (if is_ok result then 3 else 2) }
+        ensures later { steps.old.made ≤ steps.new.made }
     {
         let Link::Fork(top) = &left.link else {
             unreachable!()
@@ -249,6 +252,7 @@ impl<K: Ord + Drop, V: Drop> Tree<K, V> {
         requires two_higher { right.1 ≡ left.1 + 2 }
         ensures balancing { IfOk result (IsBalancing left pair.value right steps.old.made steps.new.made) }
         ensures at_most { steps.new.made ≤ steps.old.made + (if is_ok result then 3 else 2) }
+        ensures later { steps.old.made ≤ steps.new.made }
     {
         let Link::Fork(top) = &right.link else {
             unreachable!()
@@ -282,6 +286,8 @@ impl<K: Ord + Drop, V: Drop> Tree<K, V> {
     ) -> Result<Tree<K, V>, AllocError>
         ensures inserted { IfOk result (IsInsertion K.cmp pair.value self.now steps.old.made steps.new.made) }
         ensures at_most { steps.new.made ≤ steps.old.made + (2 * self.now.1 + 2) }
+        ensures some { OnOk result (raised steps.old.made ≤ steps.new.made) }
+        ensures later { steps.old.made ≤ steps.new.made }
         ensures full { IsFull self.now.1 (length self.now.0) }
     {
         let _height = self.height();
@@ -316,7 +322,8 @@ impl<K: Ord + Drop, V: Drop> Tree<K, V> {
         steps: &mut Steps,
     ) -> Result<(Rc<(K, V)>, Tree<K, V>), AllocError>
         requires { 0 < length self.now.0 }
-        ensures { IfOk result (λ p. IsTakingFirst self.now p.0.value p.1) }
+        ensures first { IfOk result (λ p. IsTakingFirst self.now p.0.value p.1) }
+        ensures later { steps.old.made ≤ steps.new.made }
     {
         let Link::Fork(node) = &self.link else {
             unreachable!()
@@ -340,7 +347,8 @@ impl<K: Ord + Drop, V: Drop> Tree<K, V> {
         steps: &mut Steps,
     ) -> Result<Tree<K, V>, AllocError>
         requires { IsAscending K.cmp (left.0 ++ pair.value ∷ right.0) }
-        ensures { IfOk result (IsJoining left pair.value right) }
+        ensures joining { IfOk result (IsJoining left pair.value right) }
+        ensures later { steps.old.made ≤ steps.new.made }
     {
         let (l, r) = (left.height(), right.height());
         if l.saturating_sub(r) > 2 {
@@ -374,7 +382,8 @@ impl<K: Ord + Drop, V: Drop> Tree<K, V> {
         steps: &mut Steps,
     ) -> Result<Tree<K, V>, AllocError>
         requires { IsAscending K.cmp (left.now.0 ++ right.now.0) }
-        ensures { IfOk result (IsGluing left.now right.now) }
+        ensures gluing { IfOk result (IsGluing left.now right.now) }
+        ensures later { steps.old.made ≤ steps.new.made }
     {
         let left = left.share()?;
         if right.len() == 0 {
@@ -415,7 +424,8 @@ impl<K: Ord + Drop, V: Drop> Tree<K, V> {
         key: &K,
         steps: &mut Steps,
     ) -> Result<Tree<K, V>, AllocError>
-        ensures { IfOk result (IsRemoval K.cmp key.now self.now) }
+        ensures removed { IfOk result (IsRemoval K.cmp key.now self.now) }
+        ensures later { steps.old.made ≤ steps.new.made }
     {
         let Link::Fork(node) = &self.link else {
             return Ok(Tree::empty());

@@ -3,8 +3,8 @@ use Rattle.std.specs.Prelude.{◌≡◌}
 use Rattle.pks_terms.specs.Problems.{Problem}
 use Rattle.pks_terms.specs.Settling.{History, State, At, Stopped, tidied_history}
 use Rattle.pks_terms.specs.Saturated.{WithinAlong, ClosedAlong}
-use Rattle.pks_postdict.specs.declared.settle.Settled.{Settled}
-use Rattle.pks_postdict.specs.declared.settle.Settled.TheVariants as settled_is
+use Rattle.pks_postdict.specs.declared.settling.Settled.{Settled}
+use Rattle.pks_postdict.specs.declared.settling.Settled.TheVariants as settled_is
 
 -- a settled history, or a clash
 abbrev pub state_of : Settled → State

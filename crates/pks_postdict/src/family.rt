@@ -10,8 +10,8 @@ ghost use Rattle.pks_postdict.specs.Families.{held_of, links_of, family_of};
 ghost use Rattle.pks_postdict.specs.Growing.{AreSpared, is_unread, some_grew};
 
 use pks_derived::derived::Derived;
-use pks_history::history::History;
-use pks_query::db::Db;
+use pks_history::histories::History;
+use pks_query::databases::Db;
 use pks_terms::schema::Instance;
 use std::alloc::{AllocError, Global};
 use std::rc::Rc;

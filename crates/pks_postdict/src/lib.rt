@@ -3,4 +3,6 @@
 
 mod family;
 mod round;
-pub mod settle;
+pub mod settling;
+
+pub use settling::{Settled, settle};

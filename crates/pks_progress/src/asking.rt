@@ -6,7 +6,7 @@ ghost use Rattle.pks_terms.specs.Views.{atom_of, effect_of, instance_of, literal
 ghost use Rattle.pks_normal.specs.Fives.{five_of};
 ghost use Rattle.pks_progress.specs.Hits.{may_hit_atom, may_hit_term};
 
-use pks_query::db::Db;
+use pks_query::databases::Db;
 use pks_spoiling::effects::effects_of;
 use pks_spoiling::spoiled;
 use pks_spoiling::targets::{may_change, may_fire, may_make_false, may_make_true};

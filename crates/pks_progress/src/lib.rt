@@ -3,7 +3,8 @@
 
 pub mod asking;
 mod kept;
-pub mod progress;
+pub mod progressing;
 mod regions;
-#[cfg(test)]
-mod tests;
+
+pub use asking::{may_hit_atom, may_hit_term, spoils, stable};
+pub use progressing::progress;

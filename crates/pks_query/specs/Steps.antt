@@ -3,8 +3,8 @@ use Rattle.pks_terms.specs.Databases.{Five}
 use Rattle.pks_terms.specs.Closure.{Outcome, Next, Clash}
 use Rattle.pks_terms.specs.Views.{literal_of}
 use Rattle.pks_normal.specs.Fives.{five_of}
-use Rattle.pks_query.specs.declared.db.Step.{Step}
-use Rattle.pks_query.specs.declared.db.Step.TheVariants as step_is
+use Rattle.pks_query.specs.declared.databases.Step.{Step}
+use Rattle.pks_query.specs.declared.databases.Step.TheVariants as step_is
 
 -- the next databases, or the literal that clashes
 abbrev pub outcome_of : Step → Outcome

@@ -15,7 +15,7 @@ ghost use Rattle.pks_kw.specs.Formulas.{formulas_of};
 ghost use Rattle.pks_kf.specs.Known.{literals_of};
 ghost use Rattle.pks_normal.specs.Fives.{five_of};
 
-use crate::db::Db;
+use crate::databases::Db;
 use pks_closing::forms::normal_conj;
 use pks_kv::Kv;
 use pks_kw::Kw;

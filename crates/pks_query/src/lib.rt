@@ -2,5 +2,9 @@
 #![tactic(auto)]
 
 pub mod asking;
-pub mod db;
+pub mod databases;
 pub mod same;
+
+pub use databases::{Db, Step};
+pub use pks_closing::closing::CloseEnd;
+pub use pks_normal::five::Five;

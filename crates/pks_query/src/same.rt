@@ -8,7 +8,7 @@ ghost use Rattle.pks_terms.specs.Views.{term_of, literal_of, literals_in, conj_o
 ghost use Rattle.pks_lcw.specs.Entries.{entry_of};
 ghost use Rattle.pks_normal.specs.Fives.{five_of};
 
-use crate::db::Db;
+use crate::databases::Db;
 use pks_normal::five::Five;
 use pks_set::set::Items;
 use std::cmp::Ordering;

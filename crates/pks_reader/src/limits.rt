@@ -23,29 +23,48 @@ struct Counted {
     shift: u16,
 }
 
-/// The text with so many parts, and where the last one begins.
-fn text_of(alloc: Global, row: &Counted, n: u32) -> Result<(String, usize), AllocError> {
+/// A part with this in the place of its number.
+fn part_of(alloc: Global, row: &Counted, middle: &str) -> Result<String, AllocError> {
+    let mut part = String::from_str(alloc, row.part.0)?;
+    part.push_str(middle)?;
+    part.push_str(row.part.1)?;
+    Ok(part)
+}
+
+/// The text with as many parts as there may be and then a last one, and where that begins.
+fn text_of(alloc: Global, row: &Counted, last: &str) -> Result<(String, usize), AllocError> {
     let mut text = String::from_str(alloc, row.front.0)?;
     text.push_str(row.front.1)?;
-    let mut last = 0;
-    for k in 1..=n {
-        last = text.len();
-        text.push_str(row.part.0)?;
-        text.push_str(&format!(in alloc; "{k}")?)?;
-        text.push_str(row.part.1)?;
+    for k in 1..=row.most {
+        text.push_str(&part_of(alloc, row, &format!(in alloc; "{k}")?)?)?;
     }
+    let begin = text.len();
+    text.push_str(last)?;
     text.push_str(row.back)?;
-    Ok((text, last))
+    Ok((text, begin))
+}
+
+/// Whether that text is refused with this code at the name of its last part.
+fn is_refused(alloc: Global, row: &Counted, last: &str, code: u16) -> Result<bool, AllocError> {
+    let (text, begin) = text_of(alloc, row, last)?;
+    let (at, found) = refusal_of(alloc, &text);
+    let placed = (at as usize).checked_sub(begin) == Some(usize::from(row.shift));
+    Ok(placed && found == code)
 }
 
 /// Whether so many parts are taken, and one more is refused at its place.
 fn is_limit(alloc: Global, row: &Counted) -> Result<bool, AllocError> {
-    let most = u32::from(row.most);
-    let (fitting, _last) = text_of(alloc, row, most)?;
-    let (passing, last) = text_of(alloc, row, most + 1)?;
-    let (at, code) = refusal_of(alloc, &passing);
-    let placed = (at as usize).checked_sub(last) == Some(usize::from(row.shift));
-    Ok(refusal_of(alloc, &fitting) == (0, 0) && placed && code == 208)
+    let (fitting, _begin) = text_of(alloc, row, "")?;
+    let next = u32::from(row.most) + 1;
+    let last = part_of(alloc, row, &format!(in alloc; "{next}")?)?;
+    Ok(refusal_of(alloc, &fitting) == (0, 0) && is_refused(alloc, row, &last, 208)?)
+}
+
+/// Whether the first name past the limit is refused as any other, where it stands twice and where it has 65 bytes.
+fn is_asked_past(alloc: Global, row: &Counted) -> Result<bool, AllocError> {
+    let long = with_name(alloc, "", 64, "")?;
+    let twice = is_refused(alloc, row, &part_of(alloc, row, "1")?, 202)?;
+    Ok(twice && is_refused(alloc, row, &part_of(alloc, row, &long)?, 200)?)
 }
 
 #[test]
@@ -100,15 +119,65 @@ fn declared_names_are_counted(rt: HostRuntime) -> Result<(), Fail> {
             most: 64,
             shift: 9,
         },
+        Counted {
+            front: (FOUR_TYPES, " (predicates (p)) (action a (params"),
+            part: (" (?x", " t1)"),
+            back: "))) (problem (goal (k (p))))",
+            most: 4,
+            shift: 2,
+        },
     ];
     for row in rows {
         assert!(rt; is_limit(rt.alloc(), &row)?, "of {}", row.front.1);
+        assert!(rt; is_asked_past(rt.alloc(), &row)?, "of {}", row.front.1);
     }
     Ok(())
 }
 
 #[test]
-fn arguments_and_parameters_are_counted(rt: HostRuntime) -> Result<(), Fail> {
+fn first_parts_past_a_limit_are_asked(rt: HostRuntime) -> Result<(), Fail> {
+    let types = (
+        "(pks 2) (domain (types",
+        (" t", ""),
+        ") (predicates (p))) (problem (goal (k (p))))",
+    );
+    let predicates = (
+        "(pks 1) (domain (predicates",
+        (" (p", ")"),
+        ")) (problem (goal (k (p1))))",
+    );
+    let arguments = (
+        "(pks 1) (domain (types t1 t2 t3) (predicates (p) (q",
+        (" t", ""),
+        "))) (problem (goal (k (p))))",
+    );
+    let literals = (
+        "(pks 1) (domain (predicates (p1) (p2) (p3) (p4))) (problem (goal (kw",
+        (" (p", ")"),
+        ")))",
+    );
+    let rows = [
+        (types, 16, " (t0 u)", 2, 208),
+        (types, 16, " (t1 u)", 2, 202),
+        (predicates, 32, " (not)", 2, 201),
+        (arguments, 3, " u", 1, 203),
+        (literals, 4, " (p1 a)", 1, 205),
+    ];
+    for ((front, part, back), most, last, shift, code) in rows {
+        let row = Counted {
+            front: (front, ""),
+            part,
+            back,
+            most,
+            shift,
+        };
+        assert!(rt; is_refused(rt.alloc(), &row, last, code)?, "at {last}");
+    }
+    Ok(())
+}
+
+#[test]
+fn arguments_are_counted(rt: HostRuntime) -> Result<(), Fail> {
     let rows = [
         Counted {
             front: (FOUR_TYPES, " (predicates (q) (p"),
@@ -123,13 +192,6 @@ fn arguments_and_parameters_are_counted(rt: HostRuntime) -> Result<(), Fail> {
             back: " t1))) (problem (goal (kv (g))))",
             most: 2,
             shift: 1,
-        },
-        Counted {
-            front: (FOUR_TYPES, " (predicates (p)) (action a (params"),
-            part: (" (?x", " t1)"),
-            back: "))) (problem (goal (k (p))))",
-            most: 4,
-            shift: 2,
         },
     ];
     for row in rows {

@@ -96,6 +96,9 @@ pub fn problem_of<'s>(
 /// The problem that a text of at most 262,144 bytes states, or its first fault, of text (110 to 113), of shape (120 to 124)
 /// or of meaning (200 to 211), as `docs/FORMAT.md` says.
 ///
+/// The names are words of the text and lent from it, and each span is the place of what it names, as `States` has them. What
+/// stands in places of an array that aren't in use is not said.
+///
 /// `Refused` comes exactly where there is a fault, and the problem is valid; `Memory` may come at any text.
 pub fn read_problem<'s>(alloc: Global, source: &'s str) -> Result<Problem<'s>, Turned>
     requires { length source.now ≤ 262144 }

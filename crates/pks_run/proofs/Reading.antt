@@ -1,13 +1,9 @@
 -- An input reads in one way, by what reading it gave.
-use Rattle.std.proofs.Common.{◌≡◌, ◌<◌, ℕ, [], ◌∷◌, length, Option, Some, None, IfSome, refl, ap, ◌∙◌, arith}
+use Rattle.std.proofs.Common.{◌≡◌, ◌<◌, [], ◌∷◌, length, Option, Some, None, IfSome, refl, ap, ◌∙◌, arith}
 use Rattle.pks_terms.specs.Printed.{Text}
 use Rattle.pks_text.specs.Lines.{line_column_of}
 use Rattle.pks_terms.specs.Answers.{Place, Reading, ReadAs, Faulty, File}
 use Rattle.pks_grammar.specs.Files.{Fault}
-use Rattle.pks_run.specs.Answer.{IsWhole}
-use Rattle.pks_run.specs.Replied.{IsReplied}
-use Rattle.pks_run.specs.declared.status.Status.{Status}
-use Rattle.pks_run.specs.declared.status.Status.TheVariants as status_is
 use Rattle.pks_file.specs.Inputs.{line_and_column, IsFaulty, too_long, too_high, refused, IsRead, Reads}
 
 -- as this file alone
@@ -41,18 +37,3 @@ begins_at (b ∷ bytes) = refl
 pub of_any : {X : Type 0} (P : X → Type 0) (o : Option X) → ((x : X) → P x) → IfSome o P
 of_any P None all = tt
 of_any P (Some x) all = all x
-
--- what two facts of the one that is told give
-pub IfSome_both : {X : Type 0} {P Q R : X → Type 0} (o : Option X) → IfSome o P → IfSome o Q → ((x : X) → P x → Q x → R x) → IfSome o R
-IfSome_both None p q f = tt
-IfSome_both (Some x) p q f = f x p q
-
--- a reply is a whole answer
-pub replied_whole : (s : Status) → IsReplied s → IsWhole s
-replied_whole status_is.Done h = tt
-replied_whole status_is.NoPlan h = tt
-replied_whole status_is.Refused h = tt
-replied_whole status_is.Words h = absurd h
-replied_whole status_is.ReadFault h = absurd h
-replied_whole status_is.WriteFault h = absurd h
-replied_whole status_is.Memory h = absurd h

@@ -1,35 +1,75 @@
 -- Answers and replies: to a text that was read as a file the answers are the replies to the job, and to a first fault its refusal.
-use Rattle.std.proofs.Common.{◌≡◌, ℕ, List, [], ◌∷◌, Some, None, refl, sym, ap, ◌∙◌, subst}
-use Rattle.pks_terms.specs.Jobs.{Job, Check, Plan, Exec, Bench, Asks, depth_for}
-use Rattle.pks_terms.specs.Trees.{IsBest}
-use Rattle.pks_terms.specs.Printed.{Text, Refusal, none_text, usage_text, refusal_text}
+use Rattle.std.proofs.Common.{◌≡◌, ℕ, true, false, List, [], Some, None, Option, IfSome, inl, inr, refl, sym, ap, ◌∙◌, subst}
+use Rattle.pks_terms.specs.Jobs.{Job, Check, Plan, Exec, Bench, Recall, Agent, Explain, Derive, Shared, IsInBounds, usage_text}
+use Rattle.pks_terms.specs.Printed.{Text, refusal_text}
 use Rattle.pks_terms.specs.Answers as answers
-use Rattle.pks_terms.specs.Answers.{Place, Reading, ReadAs, Faulty, File, IsAccepted, RefusesFile, refusal, text_for}
-use Rattle.pks_file.specs.Inputs.{Reads}
-use Rattle.pks_answer.specs.Replies.{IsReply, IsInBounds}
+use Rattle.pks_terms.specs.Answers.{Place, Reading, ReadAs, Faulty, File, IsAccepted, IsDone, IsTalkRefused, IsUnplanned, refusal, text_for}
+use Rattle.pks_words.specs.JobViews.{modes, IsBuilt, AskFor, AskForOne, AskNoJob}
+use Rattle.pks_file.specs.Inputs.{Reads, IsRead}
+use Rattle.pks_answer.specs.Replies.{IsReply, RepliesTo}
 use Rattle.pks_answer.specs.declared.reply.Verdict.{Verdict}
 use Rattle.pks_answer.specs.declared.reply.Verdict.TheVariants as verdict_is
-use Rattle.pks_run.specs.Answer.{IsBench, IsAnswer, AskAbout, AsksNothing}
+use Rattle.pks_run.specs.Answer.{IsBench, AnswersJob, IsReplied, IsReplyTo, Replies, IsAnswered, IsAnswer, IsAnswerTo, Responds}
 use Rattle.pks_run.specs.Replied.{status_for}
 use Rattle.pks_run.specs.declared.status.Status.{Status}
 use Rattle.pks_run.specs.declared.status.Status.TheVariants.{Done, NoPlan, Words, Refused, ReadFault, WriteFault, Memory}
 
+-- a mode that the program doesn't have
+unbuilt : {A : Type 0} → false ≡ true → A
+unbuilt e = absurd cc
+
 -- ---- the text that a job is about
 
 -- a job that isn't about the generated file is about the input
-pub text_is : (j : Job) (input : Text) → (IsBench j → ⊥) → text_for Reads j input ≡ input
-text_is Check input b = refl
-text_is (Plan n) input b = refl
-text_is (Exec n) input b = refl
-text_is (Bench n) input b = absurd (b tt)
+pub text_is : (j : Job) (input : Text) → IsBuilt j → (IsBench j → ⊥) → text_for j input ≡ input
+text_is Check input built b = refl
+text_is (Plan n) input built b = refl
+text_is (Exec n) input built b = refl
+text_is (Bench n) input built b = absurd (b tt)
+text_is (Recall n) input built b = refl
+text_is (Agent n) input built b = unbuilt built
+text_is (Explain n) input built b = refl
+text_is Derive input built b = refl
+text_is (Shared n) input built b = refl
+
+-- no built job talks
+no_talk : (j : Job) (input : Text) (f : File) (t : Text) → IsBuilt j → IsTalkRefused j input f t → ⊥
+no_talk Check input f t built a = a
+no_talk (Plan n) input f t built a = a
+no_talk (Exec n) input f t built a = a
+no_talk (Bench n) input f t built a = a
+no_talk (Recall n) input f t built a = a
+no_talk (Agent n) input f t built a = unbuilt built
+no_talk (Explain n) input f t built a = a
+no_talk Derive input f t built a = a
+no_talk (Shared n) input f t built a = a
+
+-- so what it prints hangs on the file alone
+done_alike : (j : Job) (f : File) (x y t : Text) → IsBuilt j → IsDone j x f t → IsDone j y f t
+done_alike Check f x y t built a = a
+done_alike (Plan n) f x y t built a = a
+done_alike (Exec n) f x y t built a = a
+done_alike (Bench n) f x y t built a = a
+done_alike (Recall n) f x y t built a = a
+done_alike (Agent n) f x y t built a = unbuilt built
+done_alike (Explain n) f x y t built a = a
+done_alike Derive f x y t built a = a
+done_alike (Shared n) f x y t built a = a
 
 -- what words ask for is within its bounds
-pub asked_in_bounds : (words : List Text) (j : Job) → Asks words j → IsInBounds j
+pub asked_in_bounds : (words : List Text) (j : Job) → AskFor words j → IsInBounds j
 asked_in_bounds [] j asks = absurd asks
-asked_in_bounds (name ∷ words) Check asks = tt
-asked_in_bounds (name ∷ words) (Plan n) asks = asks.2.1
-asked_in_bounds (name ∷ words) (Exec n) asks = asks.2.1
-asked_in_bounds (name ∷ words) (Bench n) asks = (asks.2.1, asks.2.2)
+asked_in_bounds (name ∷ words) j (rest, found, are) = are.bounds
+
+-- and of a mode that the program has
+asked_built : (words : List Text) (j : Job) → AskFor words j → IsBuilt j
+asked_built [] j asks = absurd asks
+asked_built (name ∷ words) j (rest, found, are) = are.built
+
+pub asked_no_talk : (words : List Text) (j : Job) (input : Text) (f : File) (t : Text) → AskFor words j → IsTalkRefused j input f t → ⊥
+asked_no_talk words j input f t asks a = no_talk j input f t (asked_built words j asks) a
+
+-- ---- answers to a job
 
 abbrev file_or : File → Reading → File
 file_or f (ReadAs g) = g
@@ -39,97 +79,170 @@ abbrev IsFile : Reading → Type 0
 IsFile (ReadAs f) = Unit {0}
 IsFile (Faulty at code) = ⊥
 
-module _ (words : List Text) (input : Text) (j : Job) (text : Text) (ask : AskAbout words input j text) where
-  asks : Asks words j
-  asks = ask.0.0
+module _ (j : Job) (built : IsBuilt j) (input text : Text) (about : text_for j input ≡ text) where
+  read_here : (x : Reading) → Reads (text_for j input) x → Reads text x
+  read_here x r = subst (λ t. Reads t x) about r
 
-  same_job : (k : Job) → Asks words k → k ≡ j
-  same_job k asked = ask.0.1 k asked
-
-  read_here : (x : Reading) → Reads (text_for Reads j input) x → Reads text x
-  read_here x r = subst (λ t. Reads t x) ask.1 r
-
-  read_there : (x : Reading) → Reads text x → Reads (text_for Reads j input) x
-  read_there x r = subst (λ t. Reads t x) (sym ask.1) r
+  read_there : (x : Reading) → Reads text x → Reads (text_for j input) x
+  read_there x r = subst (λ t. Reads t x) (sym about) r
 
   -- about a text that reads as this file alone
   module _ (f : File) (is_read : Reads text (ReadAs f)) (one : (x : Reading) → Reads text x → x ≡ ReadAs f) where
-    this_file : (g : File) → Reads (text_for Reads j input) (ReadAs g) → g ≡ f
+    this_file : (g : File) → Reads (text_for j input) (ReadAs g) → g ≡ f
     this_file g r = ap (file_or f) (one (ReadAs g) (read_here (ReadAs g) r))
 
-    pub reply_answers : (v : Verdict) (t : Text) → IsReply j f v t → IsAnswer words input (status_for v) t
-    reply_answers verdict_is.Refused t (r, refuses, e) = (j, asks, (r, (ReadAs f, read_there (ReadAs f) is_read, refuses), e))
-    reply_answers verdict_is.NoPlan t (fine, none) = (j, asks, (f, record { reads = read_there (ReadAs f) is_read; fine = fine }, none))
-    reply_answers verdict_is.Done t (fine, done) = (j, asks, (f, record { reads = read_there (ReadAs f) is_read; fine = fine }, done))
+    reply_answers : (v : Verdict) (t : Text) → IsReply j f v t → AnswersJob j input (status_for v) t
+    reply_answers verdict_is.Refused t (r, refuses, e) = inl (r, (ReadAs f, read_there (ReadAs f) is_read, refuses), e)
+    reply_answers verdict_is.NoPlan t (fine, none) = (f, record { reads = read_there (ReadAs f) is_read; fine = fine }, none)
+    reply_answers verdict_is.Done t (fine, done) = (f, record { reads = read_there (ReadAs f) is_read; fine = fine }, done input)
 
-    refuses_this : (k : Job) → Asks words k → (r : Refusal) → answers.Refuses Reads k input r → RefusesFile j f r
-    refuses_this k asked r refuses =
-        let here : answers.Refuses Reads j input r = subst (λ i. answers.Refuses Reads i input r) (same_job k asked) refuses in
-        subst (λ y. answers.RefusesReading Reads j y r) (one here.0 (read_here here.0 here.1)) here.2
-
-    answer_replies : (status : Status) (t : Text) → IsAnswer words input status t → (v : Verdict) × (status ≡ status_for v) × IsReply j f v t
-    answer_replies Words t (none, e) = absurd (none j asks)
-    answer_replies Refused t (k, asked, (r, refuses, e)) = (verdict_is.Refused, refl, (r, refuses_this k asked r refuses, e))
-    answer_replies NoPlan t (k, asked, found) =
-        let there : (g : File) × IsAccepted Reads j input g × ((m : ℕ) × (depth_for j ≡ Some m) × IsBest g.problem m None × (t ≡ none_text m)) =
-        subst (λ i. (g : File) × IsAccepted Reads i input g × ((m : ℕ) × (depth_for i ≡ Some m) × IsBest g.problem m None × (t ≡ none_text m))) (same_job k asked) found
-        in
-        let here : IsAccepted Reads j input f × ((m : ℕ) × (depth_for j ≡ Some m) × IsBest f.problem m None × (t ≡ none_text m)) =
-        subst (λ (h : File). IsAccepted Reads j input h × ((m : ℕ) × (depth_for j ≡ Some m) × IsBest h.problem m None × (t ≡ none_text m))) (this_file there.0 there.1.reads) (there.1, there.2)
-        in
+    answer_replies : (status : Status) (t : Text) → AnswersJob j input status t → (v : Verdict) × (status ≡ status_for v) × IsReply j f v t
+    answer_replies Refused t (inl (r, refuses, e)) =
+        (verdict_is.Refused, refl, (r, subst (λ y. answers.RefusesReading Reads j y r) (one refuses.0 (read_here refuses.0 refuses.1)) refuses.2, e))
+    answer_replies Refused t (inr (g, accepted, refused)) = absurd (no_talk j input g t built refused)
+    answer_replies NoPlan t (g, accepted, none) =
+        let here : IsAccepted Reads j input f × IsUnplanned j f t = subst (λ (h : File). IsAccepted Reads j input h × IsUnplanned j h t) (this_file g accepted.reads) (accepted, none) in
         (verdict_is.NoPlan, refl, (here.0.fine, here.1))
-    answer_replies Done t (k, asked, found) =
-        let there : (g : File) × IsAccepted Reads j input g × answers.IsDone Reads j g t =
-        subst (λ i. (g : File) × IsAccepted Reads i input g × answers.IsDone Reads i g t) (same_job k asked) found
-        in
-        let here : IsAccepted Reads j input f × answers.IsDone Reads j f t =
-        subst (λ (h : File). IsAccepted Reads j input h × answers.IsDone Reads j h t) (this_file there.0 there.1.reads) (there.1, there.2)
-        in
-        (verdict_is.Done, refl, (here.0.fine, here.1))
+    answer_replies Done t (g, accepted, done) =
+        let here : IsAccepted Reads j input f × IsDone j input f t = subst (λ (h : File). IsAccepted Reads j input h × IsDone j input h t) (this_file g accepted.reads) (accepted, done) in
+        (verdict_is.Done, refl, (here.0.fine, λ other. done_alike j f input other t built here.1))
+    answer_replies Words t a = absurd a
     answer_replies ReadFault t a = absurd a
     answer_replies WriteFault t a = absurd a
     answer_replies Memory t a = absurd a
 
-    -- where one reply fits, one answer does
-    pub one_reply : (v : Verdict) (t : Text) → ((u : Verdict) (other : Text) → IsReply j f u other → (u ≡ v) × (other ≡ t)) → (status : Status) (other : Text) → IsAnswer words input status other → (status ≡ status_for v) × (other ≡ t)
-    one_reply v t only status other a =
-        let r = answer_replies status other a in
-        let same = only r.0 other r.2 in
-        (r.1 ∙ ap status_for same.0, same.1)
+    done_only : (v : Verdict) → status_for v ≡ Done → v ≡ verdict_is.Done
+    done_only verdict_is.Done e = refl
+    done_only verdict_is.NoPlan e = absurd cc
+    done_only verdict_is.Refused e = absurd cc
+
+    -- the one reply is the one answer
+    pub file_replied : (v : Verdict) (t : Text) → RepliesTo j f v t → IsReplyTo j input (status_for v) t
+    file_replied v t replies = record {
+      answers = reply_answers v t replies.reply;
+      only = λ status other a.
+          let r = answer_replies status other a in
+          let same = replies.only r.0 other r.2 in
+          (r.1 ∙ ap status_for same.0, same.1);
+      good = λ done.
+          let is : v ≡ verdict_is.Done = done_only v done in
+          let reply : IsReply j f verdict_is.Done t = subst (λ u. IsReply j f u t) is replies.reply in
+          (f, subst (λ (i : Text). IsRead i f) (sym about) is_read, record { done = reply.1 input; good = replies.good is });
+    }
 
   -- about a text that reads as this fault alone
   module _ (at : Place) (code : ℕ) (is_faulty : Reads text (Faulty at code)) (one : (x : Reading) → Reads text x → x ≡ Faulty at code) where
-    no_file : (g : File) → Reads (text_for Reads j input) (ReadAs g) → ⊥
+    no_file : (g : File) → Reads (text_for j input) (ReadAs g) → ⊥
     no_file g r = subst IsFile (one (ReadAs g) (read_here (ReadAs g) r)) tt
 
-    no_accepted : (k : Job) → Asks words k → (g : File) → IsAccepted Reads k input g → ⊥
-    no_accepted k asked g accepted = no_file g (subst (λ i. IsAccepted Reads i input g) (same_job k asked) accepted).reads
-
-    pub fault_answers : IsAnswer words input Refused (refusal_text (refusal at code []))
-    fault_answers = (j, asks, (refusal at code [], (Faulty at code, read_there (Faulty at code) is_faulty, refl), refl))
-
-    pub one_fault : (status : Status) (t : Text) → IsAnswer words input status t → (status ≡ Refused) × (t ≡ refusal_text (refusal at code []))
-    one_fault Words t (none, e) = absurd (none j asks)
-    one_fault Refused t (k, asked, (r, refuses, e)) =
-        let here : answers.Refuses Reads j input r = subst (λ i. answers.Refuses Reads i input r) (same_job k asked) refuses in
-        let r_is : r ≡ refusal at code [] = subst (λ y. answers.RefusesReading Reads j y r) (one here.0 (read_here here.0 here.1)) here.2 in
+    one_fault : (status : Status) (t : Text) → AnswersJob j input status t → (status ≡ Refused) × (t ≡ refusal_text (refusal at code []))
+    one_fault Refused t (inl (r, refuses, e)) =
+        let r_is : r ≡ refusal at code [] = subst (λ y. answers.RefusesReading Reads j y r) (one refuses.0 (read_here refuses.0 refuses.1)) refuses.2 in
         (refl, e ∙ ap refusal_text r_is)
-    one_fault NoPlan t (k, asked, (g, accepted, none)) = absurd (no_accepted k asked g accepted)
-    one_fault Done t (k, asked, (g, accepted, done)) = absurd (no_accepted k asked g accepted)
+    one_fault Refused t (inr (g, accepted, refused)) = absurd (no_file g accepted.reads)
+    one_fault NoPlan t (g, accepted, none) = absurd (no_file g accepted.reads)
+    one_fault Done t (g, accepted, done) = absurd (no_file g accepted.reads)
+    one_fault Words t a = absurd a
     one_fault ReadFault t a = absurd a
     one_fault WriteFault t a = absurd a
     one_fault Memory t a = absurd a
 
--- words that ask for no job
-module _ (words : List Text) (input : Text) (nothing : AsksNothing words) where
-  pub usage_answers : IsAnswer words input Words usage_text
-  usage_answers = (nothing, refl)
+    isnt_done : Refused ≡ Done → ⊥
+    isnt_done e = cc
 
-  pub one_usage : (status : Status) (t : Text) → IsAnswer words input status t → (status ≡ Words) × (t ≡ usage_text)
-  one_usage Words t (none, e) = (refl, e)
-  one_usage Refused t (k, asked, a) = absurd (nothing k asked)
-  one_usage NoPlan t (k, asked, a) = absurd (nothing k asked)
-  one_usage Done t (k, asked, a) = absurd (nothing k asked)
-  one_usage ReadFault t a = absurd a
-  one_usage WriteFault t a = absurd a
-  one_usage Memory t a = absurd a
+    -- its refusal is the one answer
+    pub fault_replied : (t : Text) → t ≡ refusal_text (refusal at code []) → IsReplyTo j input Refused t
+    fault_replied t is = record {
+      answers = inl (refusal at code [], (Faulty at code, read_there (Faulty at code) is_faulty, refl), is);
+      only = λ status other a. let one = one_fault status other a in (one.0, one.1 ∙ sym is);
+      good = λ done. absurd (isnt_done done);
+    }
+
+-- the status of an answer to a job
+pub answer_kind : (j : Job) (input : Text) (status : Status) (t : Text) → AnswersJob j input status t → IsReplied status
+answer_kind j input Done t a = tt
+answer_kind j input NoPlan t a = tt
+answer_kind j input Refused t a = tt
+answer_kind j input Words t a = absurd a
+answer_kind j input ReadFault t a = absurd a
+answer_kind j input WriteFault t a = absurd a
+answer_kind j input Memory t a = absurd a
+
+-- ---- answers to words
+
+-- the answer to the job that the words ask for answers the words
+job_answered : (words : List Text) (j : Job) (input : Text) (status : Status) (t : Text) → AskFor words j → AnswersJob j input status t → IsAnswer words input status t
+job_answered words j input Done t asks a = (j, asks, a)
+job_answered words j input NoPlan t asks a = (j, asks, a)
+job_answered words j input Refused t asks a = (j, asks, a)
+job_answered words j input Words t asks a = absurd a
+job_answered words j input ReadFault t asks a = absurd a
+job_answered words j input WriteFault t asks a = absurd a
+job_answered words j input Memory t asks a = absurd a
+
+-- and where they ask for no other, what answers them answers it
+answered_job : (words : List Text) (j : Job) (input : Text) (status : Status) (t : Text) → AskForOne words j → IsAnswer words input status t → AnswersJob j input status t
+answered_job words j input Done t asks (k, asked, a) = subst (λ i. AnswersJob i input Done t) (asks.1 k asked) a
+answered_job words j input NoPlan t asks (k, asked, a) = subst (λ i. AnswersJob i input NoPlan t) (asks.1 k asked) a
+answered_job words j input Refused t asks (k, asked, a) = subst (λ i. AnswersJob i input Refused t) (asks.1 k asked) a
+answered_job words j input Words t asks (none, e) = absurd (none j asks.0)
+answered_job words j input ReadFault t asks (k, asked, a) = absurd a
+answered_job words j input WriteFault t asks (k, asked, a) = absurd a
+answered_job words j input Memory t asks (k, asked, a) = absurd a
+
+reply_answered : (words : List Text) (j : Job) (input : Text) (status : Status) (t : Text) → AskForOne words j → IsReplyTo j input status t → IsAnswerTo words input status t
+reply_answered words j input status t asks reply = record {
+  answers = job_answered words j input status t asks.0 reply.answers;
+  only = λ other u a. reply.only other u (answered_job words j input other u asks a);
+  good = λ done. (j, asks.0, reply.good done);
+}
+
+told_answered : (words : List Text) (j : Job) (left : Option Text) (status : Status) (t : Text) → AskForOne words j → IfSome left (λ input. IsReplyTo j input status t) → IfSome left (λ input. IsAnswerTo words input status t)
+told_answered words j None status t asks told = tt
+told_answered words j (Some input) status t asks told = reply_answered words j input status t asks told
+
+-- a reply is a whole answer, and isn't the usage line
+replied_whole : (s : Status) → IsReplied s → IsAnswered s
+replied_whole Done h = tt
+replied_whole NoPlan h = tt
+replied_whole Refused h = tt
+replied_whole Words h = absurd h
+replied_whole ReadFault h = absurd h
+replied_whole WriteFault h = absurd h
+replied_whole Memory h = absurd h
+
+-- the reply to the job that the words ask for responds to them
+pub replies_respond : (words : List Text) (j : Job) (left : Option Text) (status : Status) (t : Text) → AskForOne words j → Replies j left status t → Responds words left status t
+replies_respond words j left status t asks replies = record {
+  whole = replied_whole status replies.kind;
+  unasked = λ is. absurd (subst IsReplied is replies.kind);
+  told = told_answered words j left status t asks replies.told;
+}
+
+-- words that ask for no job
+module _ (words : List Text) (nothing : AskNoJob words) where
+  one_usage : (input : Text) (status : Status) (t : Text) → IsAnswer words input status t → (status ≡ Words) × (t ≡ usage_text modes)
+  one_usage input Words t (none, e) = (refl, e)
+  one_usage input Refused t (k, asked, a) = absurd (nothing k asked)
+  one_usage input NoPlan t (k, asked, a) = absurd (nothing k asked)
+  one_usage input Done t (k, asked, a) = absurd (nothing k asked)
+  one_usage input ReadFault t (k, asked, a) = absurd a
+  one_usage input WriteFault t (k, asked, a) = absurd a
+  one_usage input Memory t (k, asked, a) = absurd a
+
+  isnt_words : Words ≡ Done → ⊥
+  isnt_words e = cc
+
+  usage_answers : (t : Text) → t ≡ usage_text modes → (input : Text) → IsAnswerTo words input Words t
+  usage_answers t is input = record {
+    answers = (nothing, is);
+    only = λ status other a. let one = one_usage input status other a in (one.0, one.1 ∙ sym is);
+    good = λ done. absurd (isnt_words done);
+  }
+
+  told_usage : (t : Text) → t ≡ usage_text modes → (left : Option Text) → IfSome left (λ input. IsAnswerTo words input Words t)
+  told_usage t is None = tt
+  told_usage t is (Some input) = usage_answers t is input
+
+  pub usage_responds : (t : Text) → t ≡ usage_text modes → (left : Option Text) → Responds words left Words t
+  usage_responds t is left = record { whole = tt; unasked = λ e. (nothing, is); told = told_usage t is left }

@@ -2,20 +2,10 @@
 use Rattle.pks_answer.specs.declared.reply.Verdict.{Verdict}
 use Rattle.pks_answer.specs.declared.reply.Verdict.TheVariants as verdict_is
 use Rattle.pks_run.specs.declared.status.Status.{Status}
-use Rattle.pks_run.specs.declared.status.Status.TheVariants.{Done, NoPlan, Words, Refused, ReadFault, WriteFault, Memory}
+use Rattle.pks_run.specs.declared.status.Status.TheVariants.{Done, NoPlan, Refused}
 
 -- what is said of the job is said by the status
 abbrev pub status_for : Verdict → Status
 status_for verdict_is.Done = Done
 status_for verdict_is.NoPlan = NoPlan
 status_for verdict_is.Refused = Refused
-
--- the status of a reply to a job
-abbrev pub IsReplied : Status → Type 0
-IsReplied Done = Unit {0}
-IsReplied NoPlan = Unit {0}
-IsReplied Refused = Unit {0}
-IsReplied Words = ⊥
-IsReplied ReadFault = ⊥
-IsReplied WriteFault = ⊥
-IsReplied Memory = ⊥

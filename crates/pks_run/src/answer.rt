@@ -1,15 +1,14 @@
 // The answer to a job and an input.
-ghost use Rattle.std.specs.Prelude.{◌≡◌, ◌≤◌, List, [], length, IfOk};
-ghost use Rattle.pks_terms.specs.Printed.{Text, usage_text, refusal_text};
-ghost use Rattle.pks_terms.specs.Answers.{refusal, File, Reading, ReadAs, Faulty};
-ghost use Rattle.pks_words.specs.JobViews.{job_of};
+ghost use Rattle.std.specs.Prelude.{◌≡◌, ◌≤◌, [], length, IfOk};
+ghost use Rattle.pks_terms.specs.Printed.{Text, refusal_text};
+ghost use Rattle.pks_terms.specs.Jobs.{IsInBounds, usage_text};
+ghost use Rattle.pks_terms.specs.Answers.{refusal, text_for, Reading, ReadAs, Faulty};
+ghost use Rattle.pks_words.specs.JobViews.{modes, job_of};
 ghost use Rattle.pks_file.specs.Inputs.{line_and_column, IsFaulty, IsRead, Reads};
 ghost use Rattle.pks_file.specs.Views.{file_of, IsWhole};
-ghost use Rattle.pks_answer.specs.Goodness.{PrintsGoodPlan};
-ghost use Rattle.pks_answer.specs.Replies.{IsInBounds, IsAbout};
-ghost use Rattle.pks_run.specs.Answer.{IsAnswer, AskAbout};
-ghost use Rattle.pks_run.specs.Replied.{status_for, IsReplied};
-ghost use Rattle.pks_run.specs.declared.status.Status.{Status};
+ghost use Rattle.pks_answer.specs.Replies.{IsAbout};
+ghost use Rattle.pks_run.specs.Answer.{IsReplyTo};
+ghost use Rattle.pks_run.specs.Replied.{status_for};
 
 use crate::status::Status;
 use pks_answer::line::{Place, refusal_line};
@@ -42,7 +41,7 @@ fn refusal_of(alloc: Global, input: &[u8], r: Refusal) -> Result<Vec<u8>, AllocE
 
 // What is answered to words that ask for no job.
 pub fn usage(alloc: Global) -> Result<Vec<u8>, AllocError>
-    ensures { IfOk result (λ text. text.items ≡ usage_text) }
+    ensures { IfOk result (λ text. text.items ≡ usage_text modes) }
 {
     let text = b"usage: pks check | plan DEPTH | exec DEPTH | bench N\n".to_vec(alloc)?;
     Ok(text)
@@ -69,10 +68,7 @@ fn about_file(
     requires source { file.now.source.now ≡ input.now }
     requires read { IsRead input.now (file_of file.now) }
     requires one { (x : Reading) → Reads input.now x → x ≡ ReadAs (file_of file.now) }
-    ensures answer { IfOk result (λ a. (words : List Text) (given : Text) → AskAbout words given (job_of job) input.now → IsAnswer words given a.0 a.1.items) }
-    ensures only { IfOk result (λ a. (words : List Text) (given : Text) (status : Status) (text : Text) → AskAbout words given (job_of job) input.now → IsAnswer words given status text → (status ≡ a.0) × (text ≡ a.1.items)) }
-    ensures good { IfOk result (λ a. a.0 ≡ Status.Done → PrintsGoodPlan (job_of job) (file_of file.now) a.1.items) }
-    ensures kind { IfOk result (λ a. IsReplied a.0) }
+    ensures { IfOk result (λ a. (given : Text) → text_for (job_of job) given ≡ input.now → IsReplyTo (job_of job) given a.0 a.1.items) }
 {
     let (verdict, text) = reply_about(alloc, job, file)?;
     Ok((status_for(verdict), text))
@@ -88,9 +84,7 @@ fn about_fault(
     requires short { length input.now ≤ 262144 }
     requires faulty { IsFaulty input.now (r.at, r.code) }
     requires one { (x : Reading) → Reads input.now x → x ≡ Faulty (line_and_column input.now r.at) r.code }
-    ensures answer { IfOk result (λ a. (words : List Text) (given : Text) → AskAbout words given (job_of job) input.now → IsAnswer words given a.0 a.1.items) }
-    ensures only { IfOk result (λ a. (words : List Text) (given : Text) (status : Status) (text : Text) → AskAbout words given (job_of job) input.now → IsAnswer words given status text → (status ≡ a.0) × (text ≡ a.1.items)) }
-    ensures kind { IfOk result (λ a. a.0 ≡ Status.Refused) }
+    ensures { IfOk result (λ a. (given : Text) → text_for (job_of job) given ≡ input.now → IsReplyTo (job_of job) given a.0 a.1.items) }
 {
     let text = refusal_of(alloc, input, r)?;
     Ok((Status::Refused, text))
@@ -101,10 +95,7 @@ pub fn answer(alloc: Global, job: Job, input: &[u8]) -> Result<(Status, Vec<u8>)
     requires short { length input.now ≤ 262144 }
     requires bounds { IsInBounds (job_of job) }
     requires about { IsAbout (job_of job) input.now }
-    ensures answer { IfOk result (λ a. (words : List Text) (given : Text) → AskAbout words given (job_of job) input.now → IsAnswer words given a.0 a.1.items) }
-    ensures only { IfOk result (λ a. (words : List Text) (given : Text) (status : Status) (text : Text) → AskAbout words given (job_of job) input.now → IsAnswer words given status text → (status ≡ a.0) × (text ≡ a.1.items)) }
-    ensures good { IfOk result (λ a. a.0 ≡ Status.Done → (f : File) × IsRead input.now f × PrintsGoodPlan (job_of job) f a.1.items) }
-    ensures kind { IfOk result (λ a. IsReplied a.0) }
+    ensures { IfOk result (λ a. (given : Text) → text_for (job_of job) given ≡ input.now → IsReplyTo (job_of job) given a.0 a.1.items) }
 {
     match read_file(alloc, input) {
         Ok(file) => {

@@ -567,3 +567,157 @@ true
 false
   goal
 ";
+
+pub const LAMP: &str = "(pks 1)
+(domain (predicates (up) (lit))
+  (action climb (effects (set (up))) (knows (kf (up))))
+  (action light (pre (k (up))) (effects (set (lit))) (knows (kf (lit)))))
+(problem (goal (k (lit))))
+";
+
+pub const THIN_DIG: &str = "(pks 1)
+(domain (predicates (p) (q))
+  (action dig (effects (set (p))) (knows (kf (p)) (kf (q)))))
+(problem (goal (k (q))))
+";
+
+pub const MOVE: &str = "(pks 1)
+(domain
+  (types room)
+  (objects (room a b))
+  (functions (here room))
+  (action go (params (?r room)) (effects (assign (here) ?r))
+    (knows (kf (= (here) ?r)))))
+(problem (init (kf (= (here) a))) (goal (k (= (here) b))))
+";
+
+pub const COIN: &str = "(pks 1)
+(domain
+  (predicates (heads))
+  (action look (senses (sense (heads))) (knows (kw (heads)))))
+(problem (goal (kw (heads))))
+";
+
+pub const CRATE: &str = "(pks 2)
+(domain
+  (types thing (box thing) (bag thing))
+  (objects (box b1 b2) (bag g1))
+  (predicates (got thing))
+  (functions (spot box))
+  (action grab (params (?x thing))
+    (effects (set (got ?x))) (knows (kf (got ?x)))))
+(problem (init (kv (spot))) (goal (k (got (spot)))))
+";
+
+pub const CRATE_NOT_B1: &str = "(pks 2)
+(domain
+  (types thing (box thing) (bag thing))
+  (objects (box b1 b2) (bag g1))
+  (predicates (got thing))
+  (functions (spot box))
+  (action grab (params (?x thing))
+    (effects (set (got ?x))) (knows (kf (got ?x)))))
+(problem (init (kf (not (= (spot) b1)))) (goal (k (= (spot) b2))))
+";
+
+pub const CRATE_OF_VERSION_1: &str = "(pks 1)
+(domain
+  (types thing (box thing) (bag thing))
+  (objects (box b1 b2) (bag g1))
+  (predicates (got thing))
+  (functions (spot box))
+  (action grab (params (?x thing))
+    (effects (set (got ?x))) (knows (kf (got ?x)))))
+(problem (init (kv (spot))) (goal (k (got (spot)))))
+";
+
+pub const TOLLS: &str = "(pks 2)
+(domain
+  (predicates (a) (g))
+  (action jump (cost 9) (effects (set (g))) (knows (kf (g))))
+  (action first (cost 2) (effects (set (a))) (knows (kf (a))))
+  (action then (pre (k (a))) (effects (set (g))) (knows (kf (g)))))
+(problem (goal (k (g))))
+";
+
+pub const TOLLS_OF_VERSION_1: &str = "(pks 1)
+(domain
+  (predicates (a) (g))
+  (action jump (cost 9) (effects (set (g))) (knows (kf (g))))
+  (action first (cost 2) (effects (set (a))) (knows (kf (a))))
+  (action then (pre (k (a))) (effects (set (g))) (knows (kf (g)))))
+(problem (goal (k (g))))
+";
+
+pub const TOLLS_WITHOUT_COSTS: &str = "(pks 1)
+(domain
+  (predicates (a) (g))
+  (action jump (effects (set (g))) (knows (kf (g))))
+  (action first (effects (set (a))) (knows (kf (a))))
+  (action then (pre (k (a))) (effects (set (g))) (knows (kf (g)))))
+(problem (goal (k (g))))
+";
+
+pub const LAWN_AT_START_OF_VERSION_1: &str = "(pks 1)
+(domain
+  (predicates (alive) (poison))
+  (action pour (effects (when ((poison)) (unset (alive)))))
+  (action look (senses (sense (alive))) (knows (kw (alive)))))
+(problem (init (kf (alive))) (goal (at-start (kw (poison)))))
+";
+
+pub const LAMP_PLAN: &str = "plan depth 2
+(climb)
+(light)
+goal
+";
+
+pub const MOVE_PLAN: &str = "plan depth 1
+(go b)
+goal
+";
+
+pub const COIN_PLAN: &str = "plan depth 1
+(look)
+goal
+";
+
+pub const CRATE_PLAN: &str = "plan depth 1
+(grab (spot))
+goal
+";
+
+pub const JUMP_PLAN: &str = "plan depth 1
+(jump)
+goal
+";
+
+pub const TWO_TOLLS_PLAN: &str = "plan depth 2
+(first)
+(then)
+goal
+";
+
+pub const TWO_OF_A_GROUP: &str = "(pks 1)
+(domain (types t) (objects (t a b c)) (predicates (r) (p t) (q t)))
+(problem (init (kw (r)) (kx (p a) (p b)) (lcw (q _)) (kf (q a))) (goal (k (r))))
+(world (true (p a) (p b)))
+";
+
+pub const ONE_NOT_LISTED: &str = "(pks 1)
+(domain (types t) (objects (t a b c)) (predicates (r) (p t) (q t)))
+(problem (init (kw (r)) (kx (p a) (p b)) (lcw (q _)) (kf (q a))) (goal (k (r))))
+(world (true (p b) (q a) (q b)))
+";
+
+pub const ONE_DENIED: &str = "(pks 1)
+(domain (types t) (objects (t a b c)) (predicates (r) (p t) (q t)))
+(problem (init (kw (r)) (kx (p a) (p b)) (lcw (q _)) (kf (q a))) (goal (k (r))))
+(world (true (p b)))
+";
+
+pub const NONE_BROKEN: &str = "(pks 1)
+(domain (types t) (objects (t a b c)) (predicates (r) (p t) (q t)))
+(problem (init (kw (r)) (kx (p a) (p b)) (lcw (q _)) (kf (q a))) (goal (k (r))))
+(world (true (p a) (q a)))
+";

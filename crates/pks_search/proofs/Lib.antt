@@ -1,5 +1,4 @@
 pub mod Limited
-pub mod Costs
 pub mod Rooted
 pub mod Found
 pub mod Lengths

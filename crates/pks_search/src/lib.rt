@@ -1,7 +1,9 @@
 //! The best tree.
 #![tactic(auto)]
 
-pub mod best;
 mod parts;
 mod rising;
+pub mod searching;
 mod within;
+
+pub use searching::{best, best_from};

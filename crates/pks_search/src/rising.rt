@@ -5,11 +5,13 @@ ghost use Rattle.pks_terms.specs.Settling.{At};
 ghost use Rattle.pks_terms.specs.Trees.{IsBestAt};
 ghost use Rattle.pks_terms.specs.Views.{problem_of};
 ghost use Rattle.pks_plan.specs.TreeViews.{tree_of};
+ghost use Rattle.pks_failures.specs.Failing.{AreRight};
 ghost use Rattle.pks_search.specs.Limits.{IsLimitAt};
 ghost use Rattle.pks_search.specs.Ready.{IsReady};
 
 use crate::within::best_within;
-use pks_history::history::History;
+use pks_failures::failures::Failures;
+use pks_history::histories::History;
 use pks_plan::order::cost;
 use pks_plan::tree::Tree;
 use pks_terms::problem::Problem;
@@ -25,22 +27,24 @@ pub(crate) fn best_rising(
     n: u32,
     full: u32,
     limit: u32,
+    failures: &mut Failures,
 ) -> Result<Option<Tree>, AllocError>
     requires ready { IsReady p.now h.now full }
     requires within { n ≤ full }
     requires limit { IsLimitAt (problem_of p.now) (At h.now) n full limit }
+    requires right { AreRight (problem_of p.now) failures.now }
     ensures { IfOk result (λ o. IsBestAt (problem_of p.now) (At h.now) full (option_map tree_of o)) }
 {
-    let found = best_within(alloc, p, h, n, limit)?;
+    let found = best_within(alloc, p, h, n, limit, failures)?;
     if n == full {
         return Ok(found);
     }
     let Some(t) = found else {
-        return best_rising(alloc, p, h, n + 1, full, limit);
+        return best_rising(alloc, p, h, n + 1, full, limit, failures);
     };
     let own = cost(p, &t);
     if own <= n {
         return Ok(Some(t));
     }
-    best_rising(alloc, p, h, n + 1, full, own)
+    best_rising(alloc, p, h, n + 1, full, own, failures)
 }

@@ -12,19 +12,21 @@ ghost use Rattle.pks_laws.specs.OfSignature.{IsSideOf};
 ghost use Rattle.pks_plan.specs.TreeViews.{tree_of, chain_of};
 ghost use Rattle.pks_branch.specs.ChoiceViews.{choice_of, side_of};
 ghost use Rattle.pks_search.specs.Limits.{IsBestWithin, IsCheapBy, IsBestAfter, IsBestTaking, AreBestCheapCases};
+ghost use Rattle.pks_failures.specs.Failing.{AreRight};
 ghost use Rattle.pks_search.specs.Ready.{IsReady};
 
 use crate::parts::{act, branch, cases};
 use pks_branch::assuming::{Side, assume};
-use pks_branch::choices::{Choice, choices};
+use pks_branch::choosing::{Choice, choices};
 use pks_branch::leaving::left;
-use pks_history::history::History;
-use pks_past::met::met;
+use pks_failures::failures::Failures;
+use pks_history::histories::History;
+use pks_past::meeting::met;
 use pks_plan::order::{action_cost, cost};
 use pks_plan::tree::{CaseChain, Tree};
-use pks_postdict::settle::{Settled, settle};
-use pks_progress::progress::progress;
-use pks_query::db::Step;
+use pks_postdict::settling::{Settled, settle};
+use pks_progress::progressing::progress;
+use pks_query::databases::Step;
 use pks_terms::ids::ObjId;
 use pks_terms::literal::Conj;
 use pks_terms::problem::Problem;
@@ -41,9 +43,12 @@ pub(crate) fn best_within(
     h: &History,
     n: u32,
     limit: u32,
+    failures: &mut Failures,
 ) -> Result<Option<Tree>, AllocError>
-    requires { IsReady p.now h.now n }
-    ensures { IfOk result (λ o. IsBestWithin (problem_of p.now) (At h.now) n limit (option_map tree_of o)) }
+    requires ready { IsReady p.now h.now n }
+    requires right { AreRight (problem_of p.now) failures.now }
+    ensures best { IfOk result (λ o. IsBestWithin (problem_of p.now) (At h.now) n limit (option_map tree_of o)) }
+    ensures right { AreRight (problem_of p.now) failures.new }
 {
     if met(p, h) {
         return Ok(Some(Tree::Goal));
@@ -51,7 +56,34 @@ pub(crate) fn best_within(
     if n == 0 || limit == 0 {
         return Ok(None);
     }
-    best_of_choices(alloc, p, h, n - 1, limit)
+    best_unmet(alloc, p, h, n, limit, failures)
+}
+
+/// The same where the goal isn't met: a failure in the table tells that there is none, and what is found to fail is noted.
+#[cycle(searching)]
+fn best_unmet(
+    alloc: Global,
+    p: &Problem<'_>,
+    h: &History,
+    n: u32,
+    limit: u32,
+    failures: &mut Failures,
+) -> Result<Option<Tree>, AllocError>
+    requires ready { IsReady p.now h.now n }
+    requires unmet { met (problem_of p.now) h.now ≡ false }
+    requires some { 1 ≤ n }
+    requires right { AreRight (problem_of p.now) failures.now }
+    ensures best { IfOk result (λ o. IsBestWithin (problem_of p.now) (At h.now) n limit (option_map tree_of o)) }
+    ensures right { AreRight (problem_of p.now) failures.new }
+{
+    if failures.tells(h, n, limit) {
+        return Ok(None);
+    }
+    let found = best_of_choices(alloc, p, h, n - 1, limit, failures)?;
+    if found.is_none() {
+        failures.note(h, n, limit);
+    }
+    Ok(found)
 }
 
 /// The same where the goal isn't met, with `n` for what follows a choice: over the choices in order, where a later tree is
@@ -63,16 +95,19 @@ fn best_of_choices(
     h: &History,
     n: u32,
     limit: u32,
+    failures: &mut Failures,
 ) -> Result<Option<Tree>, AllocError>
     requires ready { IsReady p.now h.now (n + 1) }
     requires unmet { met (problem_of p.now) h.now ≡ false }
-    ensures { IfOk result (λ o. IsBestWithin (problem_of p.now) (At h.now) (n + 1) limit (option_map tree_of o)) }
+    requires right { AreRight (problem_of p.now) failures.now }
+    ensures best { IfOk result (λ o. IsBestWithin (problem_of p.now) (At h.now) (n + 1) limit (option_map tree_of o)) }
+    ensures right { AreRight (problem_of p.now) failures.new }
 {
     let all = choices(alloc, p, h.last())?;
     let mut best = None;
     let mut below = limit;
     for c in all.as_slice() {
-        if let Some(t) = best_by_choice(alloc, p, h, n, below, c)? {
+        if let Some(t) = best_by_choice(alloc, p, h, n, below, c, failures)? {
             below = cost(p, &t) - 1;
             best = Some(t);
         }
@@ -89,15 +124,18 @@ fn best_by_choice(
     n: u32,
     limit: u32,
     c: &Choice,
+    failures: &mut Failures,
 ) -> Result<Option<Tree>, AllocError>
     requires ready { IsReady p.now h.now (n + 1) }
     requires chosen { IsIn (choice_of c.now) (choices (problem_of p.now) (last_moment h.now)) }
-    ensures { IfOk result (λ o. IsBestOf (problem_of p.now) (IsCheapBy (problem_of p.now) h.now (n + 1) limit (choice_of c.now)) (option_map tree_of o)) }
+    requires right { AreRight (problem_of p.now) failures.now }
+    ensures best { IfOk result (λ o. IsBestOf (problem_of p.now) (IsCheapBy (problem_of p.now) h.now (n + 1) limit (choice_of c.now)) (option_map tree_of o)) }
+    ensures right { AreRight (problem_of p.now) failures.new }
 {
     match c {
-        Choice::Act(step) => best_by_action(alloc, p, h, n, limit, step),
-        Choice::Branch(test) => best_by_branch(alloc, p, h, n, limit, test),
-        Choice::Cases(term) => best_by_cases(alloc, p, h, n, limit, term),
+        Choice::Act(step) => best_by_action(alloc, p, h, n, limit, step, failures),
+        Choice::Branch(test) => best_by_branch(alloc, p, h, n, limit, test, failures),
+        Choice::Cases(term) => best_by_cases(alloc, p, h, n, limit, term, failures),
     }
 }
 
@@ -110,16 +148,19 @@ fn best_by_action(
     n: u32,
     limit: u32,
     step: &Instance,
+    failures: &mut Failures,
 ) -> Result<Option<Tree>, AllocError>
     requires ready { IsReady p.now h.now (n + 1) }
     requires chosen { IsIn (instance_of step.now) (instances (problem_of p.now) (last_moment h.now)) }
-    ensures { IfOk result (λ o. IsBestOf (problem_of p.now) (IsCheapBy (problem_of p.now) h.now (n + 1) limit (Act (instance_of step.now))) (option_map tree_of o)) }
+    requires right { AreRight (problem_of p.now) failures.now }
+    ensures best { IfOk result (λ o. IsBestOf (problem_of p.now) (IsCheapBy (problem_of p.now) h.now (n + 1) limit (Act (instance_of step.now))) (option_map tree_of o)) }
+    ensures right { AreRight (problem_of p.now) failures.new }
 {
     let own = action_cost(p, step.act);
     if limit < own {
         return Ok(None);
     }
-    let next = best_after(alloc, p, h, n, limit - own, step)?;
+    let next = best_after(alloc, p, h, n, limit - own, step, failures)?;
     act(alloc, *step, next)
 }
 
@@ -132,16 +173,19 @@ fn best_after(
     n: u32,
     limit: u32,
     step: &Instance,
+    failures: &mut Failures,
 ) -> Result<Option<Tree>, AllocError>
     requires ready { IsReady p.now h.now (n + 1) }
     requires chosen { IsIn (instance_of step.now) (instances (problem_of p.now) (last_moment h.now)) }
-    ensures { IfOk result (λ o. IsBestAfter (problem_of p.now) h.now (instance_of step.now) n limit (option_map tree_of o)) }
+    requires right { AreRight (problem_of p.now) failures.now }
+    ensures best { IfOk result (λ o. IsBestAfter (problem_of p.now) h.now (instance_of step.now) n limit (option_map tree_of o)) }
+    ensures right { AreRight (problem_of p.now) failures.new }
 {
     match progress(alloc, p, h.last(), step)? {
         Step::Clash(_) => Ok(Some(Tree::Impossible)),
         Step::Next(d) => {
             let longer = h.push(alloc, *step, d)?;
-            best_within(alloc, p, &longer, n, limit)
+            best_within(alloc, p, &longer, n, limit, failures)
         }
     }
 }
@@ -155,20 +199,23 @@ fn best_by_branch(
     n: u32,
     limit: u32,
     test: &Conj,
+    failures: &mut Failures,
 ) -> Result<Option<Tree>, AllocError>
     requires ready { IsReady p.now h.now (n + 1) }
     requires member { IsIn (conj_of test.now) (last_moment h.now).kw }
     requires undecided { is_undecided (problem_of p.now).signature (last_moment h.now) (conj_of test.now) ≡ true }
-    ensures { IfOk result (λ o. IsBestOf (problem_of p.now) (IsCheapBy (problem_of p.now) h.now (n + 1) limit (BranchOn (conj_of test.now))) (option_map tree_of o)) }
+    requires right { AreRight (problem_of p.now) failures.now }
+    ensures best { IfOk result (λ o. IsBestOf (problem_of p.now) (IsCheapBy (problem_of p.now) h.now (n + 1) limit (BranchOn (conj_of test.now))) (option_map tree_of o)) }
+    ensures right { AreRight (problem_of p.now) failures.new }
 {
     if limit == 0 {
         return Ok(None);
     }
     let c = Choice::Branch(*test);
-    let Some(yes) = best_taking(alloc, p, h, n, limit - 1, &c, Side::True)? else {
+    let Some(yes) = best_taking(alloc, p, h, n, limit - 1, &c, Side::True, failures)? else {
         return Ok(None);
     };
-    let Some(no) = best_taking(alloc, p, h, n, limit - 1, &c, Side::False)? else {
+    let Some(no) = best_taking(alloc, p, h, n, limit - 1, &c, Side::False, failures)? else {
         return Ok(None);
     };
     let tree = branch(alloc, *test, yes, no)?;
@@ -184,17 +231,29 @@ fn best_by_cases(
     n: u32,
     limit: u32,
     term: &Term,
+    failures: &mut Failures,
 ) -> Result<Option<Tree>, AllocError>
     requires ready { IsReady p.now h.now (n + 1) }
     requires member { IsIn (term_of term.now) (last_moment h.now).kv }
     requires splits { may_split (problem_of p.now).signature (last_moment h.now) (term_of term.now) ≡ true }
-    ensures { IfOk result (λ o. IsBestOf (problem_of p.now) (IsCheapBy (problem_of p.now) h.now (n + 1) limit (CasesOn (term_of term.now))) (option_map tree_of o)) }
+    requires right { AreRight (problem_of p.now) failures.now }
+    ensures best { IfOk result (λ o. IsBestOf (problem_of p.now) (IsCheapBy (problem_of p.now) h.now (n + 1) limit (CasesOn (term_of term.now))) (option_map tree_of o)) }
+    ensures right { AreRight (problem_of p.now) failures.new }
 {
     if limit == 0 {
         return Ok(None);
     }
     let objects = left(alloc, p, h.last(), term)?;
-    let chain = best_chain(alloc, p, h, n, limit - 1, term, objects.as_slice())?;
+    let chain = best_chain(
+        alloc,
+        p,
+        h,
+        n,
+        limit - 1,
+        term,
+        objects.as_slice(),
+        failures,
+    )?;
     cases(alloc, *term, chain)
 }
 
@@ -208,21 +267,24 @@ fn best_chain(
     limit: u32,
     term: &Term,
     objects: &[ObjId],
+    failures: &mut Failures,
 ) -> Result<Option<CaseChain>, AllocError>
     requires ready { IsReady p.now h.now (n + 1) }
     requires member { IsIn (term_of term.now) (last_moment h.now).kv }
     requires sides { Each (λ e. IsIn e (range_of (problem_of p.now).signature (term_of term.now))) (map object_of objects.now) }
     requires few { length objects.now ≤ 16 }
-    ensures { IfOk result (λ o. AreBestCheapCases (problem_of p.now) h.now (term_of term.now) n limit (map object_of objects.now) (option_map chain_of o)) }
+    requires right { AreRight (problem_of p.now) failures.now }
+    ensures best { IfOk result (λ o. AreBestCheapCases (problem_of p.now) h.now (term_of term.now) n limit (map object_of objects.now) (option_map chain_of o)) }
+    ensures right { AreRight (problem_of p.now) failures.new }
 {
     let [object, others @ ..] = objects else {
         return Ok(Some(CaseChain::Empty));
     };
     let c = Choice::Cases(*term);
-    let Some(tree) = best_taking(alloc, p, h, n, limit, &c, Side::Is(*object))? else {
+    let Some(tree) = best_taking(alloc, p, h, n, limit, &c, Side::Is(*object), failures)? else {
         return Ok(None);
     };
-    let Some(rest) = best_chain(alloc, p, h, n, limit, term, others)? else {
+    let Some(rest) = best_chain(alloc, p, h, n, limit, term, others, failures)? else {
         return Ok(None);
     };
     let rest = Box::new(alloc, rest)?;
@@ -243,17 +305,20 @@ fn best_taking(
     limit: u32,
     c: &Choice,
     side: Side,
+    failures: &mut Failures,
 ) -> Result<Option<Tree>, AllocError>
     requires ready { IsReady p.now h.now (n + 1) }
     requires member { IsMember (last_moment h.now) (choice_of c.now) }
     requires side { IsSideOf (problem_of p.now).signature (choice_of c.now) (side_of side) }
-    ensures { IfOk result (λ o. IsBestTaking (problem_of p.now) h.now (choice_of c.now) (side_of side) n limit (option_map tree_of o)) }
+    requires right { AreRight (problem_of p.now) failures.now }
+    ensures best { IfOk result (λ o. IsBestTaking (problem_of p.now) h.now (choice_of c.now) (side_of side) n limit (option_map tree_of o)) }
+    ensures right { AreRight (problem_of p.now) failures.new }
 {
     match assume(alloc, p, h.last(), c, side)? {
         Step::Clash(_) => Ok(Some(Tree::Impossible)),
         Step::Next(d) => match settle(alloc, p, h, d)? {
             Settled::Clash => Ok(Some(Tree::Impossible)),
-            Settled::Whole(settled) => best_within(alloc, p, &settled, n, limit),
+            Settled::Whole(settled) => best_within(alloc, p, &settled, n, limit, failures),
         },
     }
 }

@@ -7,8 +7,8 @@ ghost use Rattle.pks_pmap.specs.Keeping.{Keeps};
 ghost use Rattle.pks_terms.specs.Sets.{IsOrdered, insert_in, added};
 ghost use Rattle.pks_set.specs.Members.{TakesEach, is_member, first_at_least, keys};
 
+use pks_pmap::counting::Steps;
 use pks_pmap::map::{PIter, PMap};
-use pks_pmap::steps::Steps;
 use std::alloc::{AllocError, Global};
 use std::marker::Model;
 

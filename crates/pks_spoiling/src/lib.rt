@@ -5,5 +5,3 @@
 pub mod effects;
 pub mod spoiled;
 pub mod targets;
-#[cfg(test)]
-mod tests;

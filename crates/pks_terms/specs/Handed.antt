@@ -24,8 +24,9 @@ IsChoiceOf p (Act i) = IsStepOf p i
 IsChoiceOf p (BranchOn c) = IsConjOf p.signature c
 IsChoiceOf p (CasesOn t) = is_term p.signature [] t ≡ true
 
--- a tree of the problem
+-- trees and cases of the problem, the one by the other
 abbrev mutual
+  -- a tree of the problem
   pub IsTreeOf : Problem → Tree → Type 0
   IsTreeOf p Goal = Unit {0}
   IsTreeOf p Impossible = Unit {0}
@@ -33,6 +34,7 @@ abbrev mutual
   IsTreeOf p (Branch c t u) = IsConjOf p.signature c × IsTreeOf p t × IsTreeOf p u
   IsTreeOf p (Cases x k) = (is_term p.signature [] x ≡ true) × IsChainOf p k
 
+  -- cases of the problem: declared objects, each with a tree of it
   pub IsChainOf : Problem → Chain → Type 0
   IsChainOf p End = Unit {0}
   IsChainOf p (More d t k) = (d < length p.signature.objects) × IsTreeOf p t × IsChainOf p k

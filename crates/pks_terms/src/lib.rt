@@ -9,5 +9,3 @@ pub mod putting;
 pub mod schema;
 pub mod sequence;
 pub mod term;
-#[cfg(test)]
-mod tests;

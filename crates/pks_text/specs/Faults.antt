@@ -27,6 +27,7 @@ abbrev pub StopsAfter : List ℕ → List ℕ → ℕ → List Mark → FormFaul
 StopsAfter ps text at [] fault = Stops ps text at fault
 StopsAfter ps text at (m ∷ ms) fault = (rest : List ℕ) × (now : List ℕ) × Begins text at m rest × (opened ps m ≡ Some now) × StopsAfter now rest (mark_end m) ms fault
 
+-- the fault is the first of the text
 abbrev pub IsFirstFault : List ℕ → FormFault → Type 0
 IsFirstFault text fault = (ms : List Mark) × StopsAfter [] text 0 ms fault
 

@@ -13,16 +13,20 @@ use Rattle.pks_text.specs.declared.tree.Form.TheOpen.{Form-F}
 use Rattle.pks_text.specs.declared.nesting.Open.{Open}
 use Rattle.pks_text.specs.declared.nesting.Pile.{Pile}
 
+-- a form, once the parts of a list are known as forms
 abbrev pub form_step : Form-F Form → Form
 form_step (Form-F.Name token) = Word token.text.now token.span.start
 form_step (Form-F.List parts span) = Listing (forms_of parts.items) span.start span.end
 
+-- a form, apart from how it lies in memory
 abbrev pub form_view : CodeForm → Form
 form_view = fold-Form Form form_step
 
+-- forms, apart from how they lie in memory
 abbrev pub forms_view : List CodeForm → Forms
 forms_view fs = forms_of (map form_view fs)
 
+-- the words of a form, once those of the parts of a list are known
 abbrev pub words_step : Form-F (List Token) → List Token
 words_step (Form-F.Name token) = token ∷ []
 words_step (Form-F.List parts span) = flat_map (λ ws. ws) parts.items
@@ -53,6 +57,7 @@ abbrev pub open_places : List ℕ → List Open → List ℕ
 open_places ps [] = ps
 open_places ps (o ∷ os) = open_places (o.start ∷ ps) os
 
+-- the places of the lists that are open, the innermost first
 abbrev pub places_of : Pile → List ℕ
 places_of p = open_places [] p.outer.items
 
@@ -76,6 +81,7 @@ IsOpen ps (TooDeep p) = ⊥
 IsOpen ps (BadByte p) = ⊥
 IsOpen ps Memory = ⊥
 
+-- a bad byte as a fault of forms
 abbrev pub fault_of : LexFault → FormFault
 fault_of (lex.BadByte at) = BadByte at
 

@@ -14,14 +14,17 @@ mutual
     no_forms : Forms
     form : Form → Forms → Forms
 
+-- forms as a list
 abbrev pub list_of : Forms → List Form
 list_of no_forms = []
 list_of (form f fs) = f ∷ list_of fs
 
+-- a list as forms
 abbrev pub forms_of : List Form → Forms
 forms_of [] = no_forms
 forms_of (f ∷ fs) = form f (forms_of fs)
 
+-- where a form stands
 abbrev pub place_of : Form → ℕ
 place_of (Word text at) = at
 place_of (Listing parts at end) = at
@@ -32,6 +35,7 @@ pub data Mark : Type 0 where
   Opens : (at : ℕ) → Mark
   Closes : (end : ℕ) → Mark
 
+-- the bytes of the token
 abbrev pub mark_text : Mark → List ℕ
 mark_text (Said text at) = text
 mark_text (Opens at) = codes "("
@@ -43,6 +47,7 @@ mark_end (Said text at) = at + length text
 mark_end (Opens at) = at + 1
 mark_end (Closes end) = end
 
+-- what is called a word has the bytes of one
 abbrev pub IsOfClass : Mark → Type 0
 IsOfClass (Said text at) = IsWord text
 IsOfClass (Opens at) = Unit {0}

@@ -1,3 +1,4 @@
+pub mod Built
 pub mod Parsed
 pub mod Spelling
 pub mod Walking

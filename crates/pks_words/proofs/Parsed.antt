@@ -1,5 +1,5 @@
 -- What a parse of the command has told of the words.
-use Rattle.std.proofs.Common.{◌≡◌, ◌∙◌, ◌∷◌, [], List, Option, Some, None, Result, Ok, Err, IsErrOf, String, map, drop, codes, decimal, string_bytes, refl, sym, ap, ap₂, ◌↔◌, subst}
+use Rattle.std.proofs.Common.{◌≡◌, ◌∙◌, ◌∷◌, [], ℕ, List, Option, option_map, Some, None, Result, Ok, Err, IsErrOf, String, map, drop, codes, decimal, string_bytes, refl, sym, ap, ap₂, ◌↔◌, subst}
 use Rattle.std.specs.Str.{IsUtf8}
 use Rattle.std.specs.Result.{IsErrAnd}
 use Rattle.std.proofs.lemmas.Str.{IsUtf8-string_bytes}
@@ -8,9 +8,9 @@ use Rattle.clap.specs.Simple.{matches_of}
 use Rattle.clap.specs.Faults.{fault_of}
 use Rattle.pks_terms.specs.Printed.{Text}
 use Rattle.pks_terms.specs.Sets.{Each}
-use Rattle.pks_terms.specs.Jobs.{Job, Check, Plan, Exec, Bench, Asks, Spells, positionals}
+use Rattle.pks_terms.specs.Jobs.{Job, mode_of, mode_word, number_of_job, number_words, positionals}
 use Rattle.pks_words.specs.Command.{two_words, given, HasWords}
-use Rattle.pks_words.specs.JobViews.{AskForOne, AskNoJob}
+use Rattle.pks_words.specs.JobViews.{AreWordsOf, AskFor, AskForOne, AskNoJob}
 use Rattle.pks_words.specs.declared.end.WordsEnd.{WordsEnd}
 use Rattle.pks_words.specs.declared.end.WordsEnd.TheVariants.{Refused, Memory}
 use Rattle.pks_words.proofs.Spelling.{one_spelled}
@@ -86,22 +86,25 @@ pub same_error : {A B : Type 0} (r : Result A WordsEnd) (end : WordsEnd) → IsE
 same_error (Ok x) end told refused = absurd told
 same_error (Err e) end told refused = let one : e ≡ end = told in let other : e ≡ Refused = cc in ap (λ x. Err x) (sym one ∙ other)
 
--- the words ask for what their mode and their number spell, and for nothing else
-pub asked : (words : List Text) (mode : Text) (number : Option Text) (job : Job) → HasWords words mode number → Spells (given mode number) job → AskForOne words job
+-- the words ask for the job of their mode and their number, and for nothing else
+pub asked : (words : List Text) (mode : Text) (number : Option Text) (job : Job) → HasWords words mode number → AreWordsOf (given mode number) job → AskForOne words job
 asked [] mode None job has spells = cc
 asked [] mode (Some n) job has spells = cc
 asked (name ∷ words) mode number job has spells = ((given mode number, has, spells), only)
   where
-    only : (other : Job) → Asks (name ∷ words) other → other ≡ job
+    only : (other : Job) → AskFor (name ∷ words) other → other ≡ job
     only other (rest, is, spells_other) =
         let same : Some (given mode number) ≡ Some rest = sym has ∙ is in
         let one : given mode number ≡ rest = cc in
-        one_spelled (given mode number) job other spells (subst (λ ws. Spells ws other) (sym one) spells_other)
+        one_spelled (given mode number) job other spells (subst (λ ws. AreWordsOf ws other) (sym one) spells_other)
+
+-- a mode and its number, if it has one
+in_parts : (mode : Text) (number : Option ℕ) → mode ∷ number_words number ≡ given mode (option_map decimal number)
+in_parts mode None = refl
+in_parts mode (Some n) = refl
 
 -- and where they have no mode, for none
 pub unasked : (words : List Text) → ((mode : Text) (number : Option Text) → HasWords words mode number → ⊥) → AskNoJob words
 unasked [] none job asks = asks
-unasked (name ∷ words) none Check (rest, has, spells) = none _ None (has ∙ ap Some spells)
-unasked (name ∷ words) none (Plan n) (rest, has, spells) = none _ (Some (decimal n)) (has ∙ ap Some spells.0)
-unasked (name ∷ words) none (Exec n) (rest, has, spells) = none _ (Some (decimal n)) (has ∙ ap Some spells.0)
-unasked (name ∷ words) none (Bench n) (rest, has, spells) = none _ (Some (decimal n)) (has ∙ ap Some spells.0)
+unasked (name ∷ words) none job (rest, has, are) =
+    none (mode_word (mode_of job)) (option_map decimal (number_of_job job)) (has ∙ ap Some (are.spelled ∙ in_parts (mode_word (mode_of job)) (number_of_job job)))

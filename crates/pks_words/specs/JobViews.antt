@@ -1,9 +1,17 @@
--- The program's jobs, as the definitions have them.
-use Rattle.std.specs.Prelude.{◌≡◌, List}
+-- The program's modes and its jobs, as the definitions have them.
+use Rattle.std.specs.Prelude.{◌≡◌, true, List, [], ◌∷◌}
 use Rattle.pks_terms.specs.Printed.{Text}
-use Rattle.pks_terms.specs.Jobs.{Job, Check, Plan, Exec, Bench, Spells, Asks}
+use Rattle.pks_terms.specs.Jobs.{Mode, Checking, Planning, Running, Benching, Job, Check, Plan, Exec, Bench, mode_of, has_mode, IsCommand, Asks, AskForNone}
 use Rattle.pks_words.specs.declared.job.Job.{Job as DJob}
 use Rattle.pks_words.specs.declared.job.Job.TheVariants as job_is
+
+-- the modes that the program has
+abbrev pub modes : List Mode
+modes = Checking ∷ Planning ∷ Running ∷ Benching ∷ []
+
+-- the job's mode is one of them
+abbrev pub IsBuilt : Job → Type 0
+IsBuilt job = has_mode modes (mode_of job) ≡ true
 
 -- the job
 abbrev pub job_of : DJob → Job
@@ -12,14 +20,22 @@ job_of (job_is.Plan n) = Plan n
 job_of (job_is.Exec n) = Exec n
 job_of (job_is.Bench n) = Bench n
 
--- the positional words spell no job
-abbrev pub SpellNoJob : List Text → Type 0
-SpellNoJob words = (job : Job) → Spells words job → ⊥
+-- the positional words are those of the job
+abbrev pub AreWordsOf : List Text → Job → Type 0
+AreWordsOf words job = IsCommand modes words job
 
--- the words ask for no job
+-- the positional words are those of no job
+abbrev pub AreNoWords : List Text → Type 0
+AreNoWords words = (job : Job) → AreWordsOf words job → ⊥
+
+-- the words ask the program for the job
+abbrev pub AskFor : List Text → Job → Type 0
+AskFor words job = Asks modes words job
+
+-- the words ask it for no job
 abbrev pub AskNoJob : List Text → Type 0
-AskNoJob words = (job : Job) → Asks words job → ⊥
+AskNoJob words = AskForNone modes words
 
 -- the words ask for the job, and for no other
 abbrev pub AskForOne : List Text → Job → Type 0
-AskForOne words job = Asks words job × ((other : Job) → Asks words other → other ≡ job)
+AskForOne words job = AskFor words job × ((other : Job) → AskFor words other → other ≡ job)

@@ -1,9 +1,8 @@
 //! Modes.
 
 ghost use Rattle.std.specs.Prelude.{◌≡◌, [], ◌∷◌, ◌++◌, codes, decimal, option_map, IfSome, IfNone};
-ghost use Rattle.pks_terms.specs.Jobs.{Spells};
 ghost use Rattle.pks_words.specs.Command.{text_of, given};
-ghost use Rattle.pks_words.specs.JobViews.{SpellNoJob, job_of};
+ghost use Rattle.pks_words.specs.JobViews.{AreWordsOf, AreNoWords, job_of};
 
 use crate::job::Job;
 use crate::number::number_of;
@@ -11,8 +10,8 @@ use crate::number::number_of;
 /// The job of a mode with a number.
 #[tactic(auto, using(crate::proofs::Spelling::no_job))]
 fn numbered(mode: &str, number: u8) -> Option<Job>
-    ensures found { IfSome result (λ job. Spells (mode.now ∷ decimal number ∷ []) (job_of job)) }
-    ensures none { IfNone result (SpellNoJob (mode.now ∷ decimal number ∷ [])) }
+    ensures found { IfSome result (λ job. AreWordsOf (mode.now ∷ decimal number ∷ []) (job_of job)) }
+    ensures none { IfNone result (AreNoWords (mode.now ∷ decimal number ∷ [])) }
 {
     match mode {
         "plan" if number <= 16 => Some(Job::Plan(number)),
@@ -23,9 +22,10 @@ fn numbered(mode: &str, number: u8) -> Option<Job>
 }
 
 /// The job of a mode with or without a number.
+#[tactic(auto, using(crate::proofs::Spelling::no_bare_job))]
 pub(crate) fn job_for(mode: &str, number: Option<&str>) -> Option<Job>
-    ensures found { IfSome result (λ job. Spells (given mode.now (option_map text_of number.entry)) (job_of job)) }
-    ensures none { IfNone result (SpellNoJob (given mode.now (option_map text_of number.entry))) }
+    ensures found { IfSome result (λ job. AreWordsOf (given mode.now (option_map text_of number.entry)) (job_of job)) }
+    ensures none { IfNone result (AreNoWords (given mode.now (option_map text_of number.entry))) }
 {
     match number {
         Some(word) => numbered(mode, number_of(word)?),

@@ -179,3 +179,19 @@ pub const HOUSE: Domain = Domain {
 ",
     goal: "(k (= (loc cup) kitchen)) (k (not (held cup)))",
 };
+
+/// The generated file with one object.
+pub const ONE: &str = "(pks 1)
+(domain
+(types num)
+(objects (num c1))
+(predicates (open) (seen num num))
+(functions (combo num))
+(action read (senses (sense-value (combo))) (knows (kv (combo))))
+(action dial (params (?x num)) (effects (when ((= ?x (combo))) (set (open)))) (knows (if ((k (= ?x (combo)))) (kf (open))))))
+(problem
+(init
+(kf (seen c1 c1))
+)
+(goal (k (open))))
+";

@@ -1,9 +1,10 @@
 //! The worked steps. A moment is given by initial items of which its databases are the closing.
 use crate::domains::{
-    ALIAS, HOUSE, LAWN, NEXT, NEXT_WITHOUT_ASSIGN, SAFE, SUNNY_LAWN, TUBS, TUBS_FIRST_EMPTY,
+    ALIAS, HOUSE, LAWN, NEXT, NEXT_WITHOUT_ASSIGN, ONE, SAFE, SUNNY_LAWN, TUBS, TUBS_FIRST_EMPTY,
     VAULT_16, VAULT_17,
 };
 use crate::walks::{is_accepted, leads, meets, offers, shows, tells};
+use pks_bench::generate;
 use std::test::Fail;
 
 #[test]
@@ -317,6 +318,13 @@ fn what_a_number_tells_of_the_past(rt: HostRuntime) -> Result<(), Fail> {
             &[third]
         )?
     );
+    Ok(())
+}
+
+#[test]
+fn the_generated_file_of_one_object(rt: HostRuntime) -> Result<(), Fail> {
+    let bytes = generate(rt.alloc(), 1)?;
+    assert!(rt; bytes.as_slice() == ONE.as_bytes());
     Ok(())
 }
 

@@ -4,6 +4,4 @@
 pub mod apply;
 pub mod first;
 pub mod observe;
-#[cfg(test)]
-mod tests;
 pub mod world;

@@ -11,14 +11,14 @@ use Rattle.pks_answer.specs.declared.reply.Verdict.TheVariants.{Done}
 use Rattle.pks_answer.specs.Objections.{stated_of, IsFit}
 use Rattle.pks_answer.specs.Replies.{IsReply}
 use Rattle.pks_answer.proofs.Objecting.{none_refuses}
-use Rattle.pks_answer.proofs.Planning.{whole_given, plan_reply, run_reply, bench_reply}
+use Rattle.pks_answer.proofs.Planning.{unbroken_given, plan_reply, run_reply, bench_reply}
 use Rattle.pks_answer.proofs.reply.concluded.Goals as goal
 
 pub returns-in_ok-accepted_text-in-Check : goal.returns-in_ok-accepted_text-in-Check
 returns-in_ok-accepted_text-in-Check c =
     let f = file_of c.args.f.now in
     let text = c.in_ok-accepted_text-in-Check.field-0.items in
-    subst (λ (j : Job). NoneApplies (RefusesFile (job_of j) f) → IsReply (job_of j) f Done text) (sym c.in-Check.is) (λ none. (none, c.in_ok-accepted_text-in-Check.ensures))
+    subst (λ (j : Job). NoneApplies (RefusesFile (job_of j) f) → IsReply (job_of j) f Done text) (sym c.in-Check.is) (λ none. (none, λ input. c.in_ok-accepted_text-in-Check.ensures))
     (none_refuses (job_of c.args.job) f (stated_of c.args.world.now) (five_of c.args.first) c.requires.world c.requires.accepted)
 
 pub returns-in-Plan : goal.returns-in-Plan
@@ -30,7 +30,7 @@ returns-in-Plan c =
 
 pub given-requires : goal.given-requires
 given-requires c =
-    whole_given (problem_of c.args.f.now.problem) (stated_of c.args.world.now)
+    unbroken_given (problem_of c.args.f.now.problem) (stated_of c.args.world.now)
     (subst (λ (j : Job). IsFit (job_of j) (problem_of c.args.f.now.problem) (stated_of c.args.world.now)) c.in-Exec.is c.requires.accepted.fits)
 
 pub returns-in-Exec : goal.returns-in-Exec

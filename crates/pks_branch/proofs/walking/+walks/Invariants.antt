@@ -8,10 +8,13 @@ use Rattle.pks_branch.specs.Walks.{walked, allowed_at}
 use Rattle.pks_branch.proofs.walking.+walks.Given as goal
 
 abbrev pub decreases-walk : goal.decreases-walk
-decreases-walk l = 2 * length l.lists.now
+decreases-walk l = 3 * length l.lists.now
 
 abbrev pub decreases-walk_each : goal.decreases-walk_each
-decreases-walk_each l = 2 * length l.rest.now + 1
+decreases-walk_each l = 3 * length l.rest.now + 1
+
+abbrev pub decreases-walk_unless_barred : goal.decreases-walk_unless_barred
+decreases-walk_unless_barred l = 3 * length l.rest.now + 2
 
 abbrev pub invariant-walk_each-loop-t : goal.invariant-walk_each-loop-t
 invariant-walk_each-loop-t l =

@@ -1,17 +1,11 @@
-use Rattle.std.proofs.Common.{◌∙◌, sym, subst, refl}
+use Rattle.std.proofs.Common.{refl}
 use Rattle.pks_words.specs.JobViews.{job_of}
+use Rattle.pks_words.proofs.Built.{are_built}
 use Rattle.pks_file.specs.Inputs.{line_and_column}
-use Rattle.pks_run.specs.Answer.{IsAnswer}
-use Rattle.pks_run.specs.declared.status.Status.TheVariants.{Refused}
-use Rattle.pks_run.proofs.Replying.{fault_answers, one_fault}
+use Rattle.pks_run.proofs.Replying.{fault_replied}
 use Rattle.pks_run.proofs.answer.about_fault.Goals as goal
 
-pub returns-clause-answer : goal.returns-clause-answer
-returns-clause-answer c = λ words given asks.
-    subst (λ t. IsAnswer words given Refused t) (sym c.in_ok-text.ensures)
-    (fault_answers words given (job_of c.args.job) c.args.input.now asks (line_and_column c.args.input.now c.args.r.at) c.args.r.code (c.args.r.at, c.requires.faulty, refl) c.requires.one)
-
-pub returns-clause-only : goal.returns-clause-only
-returns-clause-only c = λ words given status text asks other.
-    let one = one_fault words given (job_of c.args.job) c.args.input.now asks (line_and_column c.args.input.now c.args.r.at) c.args.r.code (c.args.r.at, c.requires.faulty, refl) c.requires.one status text other in
-    (one.0, one.1 ∙ sym c.in_ok-text.ensures)
+pub returns : goal.returns
+returns c = λ given about.
+    fault_replied (job_of c.args.job) (are_built c.args.job) given c.args.input.now about (line_and_column c.args.input.now c.args.r.at) c.args.r.code (c.args.r.at, c.requires.faulty, refl) c.requires.one
+    c.in_ok-text.text.items c.in_ok-text.ensures

@@ -1,31 +1,15 @@
 use Rattle.std.proofs.Common.{map, string_bytes, subst}
-use Rattle.std.proofs.lemmas.Option.{IfSome_then}
 use Rattle.std.proofs.lemmas.Result.{IfOk-weaker}
 use Rattle.pks_words.specs.JobViews.{job_of}
 use Rattle.pks_terms.specs.Jobs.{Job}
 use Rattle.pks_run.specs.Answer.{IsBench}
-use Rattle.pks_run.specs.Replied.{IsReplied}
-use Rattle.pks_run.proofs.Reading.{replied_whole}
-use Rattle.pks_run.proofs.Replying.{asked_in_bounds}
+use Rattle.pks_run.proofs.Replying.{asked_in_bounds, replies_respond, usage_responds}
 use Rattle.pks_run.proofs.top.respond.Goals as goal
 
-pub returns-in-Ok-clause-answer : goal.returns-in-Ok-clause-answer
-returns-in-Ok-clause-answer g c =
-    IfOk-weaker c.answer_job.result _ _ (λ a h. IfSome_then (g.S.Source.left c.args.source.now) h (λ input p. p (map string_bytes c.args.words.now) c.in-Ok.ensures.ok)) c.answer_job.ensures.answer
-
-pub returns-in-Ok-clause-only : goal.returns-in-Ok-clause-only
-returns-in-Ok-clause-only g c =
-    IfOk-weaker c.answer_job.result _ _ (λ a h. IfSome_then (g.S.Source.left c.args.source.now) h (λ input p status text. p (map string_bytes c.args.words.now) status text c.in-Ok.ensures.ok)) c.answer_job.ensures.only
-
-pub returns-in-Ok-clause-good : goal.returns-in-Ok-clause-good
-returns-in-Ok-clause-good g c =
-    IfOk-weaker c.answer_job.result _ _ (λ a h. IfSome_then (g.S.Source.left c.args.source.now) h (λ input p done. (job_of c.in-Ok.job, c.in-Ok.ensures.ok.0, p done))) c.answer_job.ensures.good
-
-pub returns-in-Ok-clause-whole : goal.returns-in-Ok-clause-whole
-returns-in-Ok-clause-whole g c = IfOk-weaker c.answer_job.result _ _ (λ a kind. replied_whole a.0 kind) c.answer_job.ensures.kind
-
-pub returns-in-Ok-clause-words : goal.returns-in-Ok-clause-words
-returns-in-Ok-clause-words g c = IfOk-weaker c.answer_job.result _ _ (λ a kind is_words. absurd (subst IsReplied is_words kind)) c.answer_job.ensures.kind
+pub returns-in-Ok-clause-responds : goal.returns-in-Ok-clause-responds
+returns-in-Ok-clause-responds g c =
+    IfOk-weaker c.answer_job.result _ _
+    (λ a replies. replies_respond (map string_bytes c.args.words.now) (job_of c.in-Ok.job) (g.S.Source.left c.args.source.now) a.0 a.1.items c.in-Ok.ensures.ok replies) c.answer_job.ensures.replies
 
 pub returns-in-Ok-clause-unasked : goal.returns-in-Ok-clause-unasked
 returns-in-Ok-clause-unasked g c = λ nothing. absurd (nothing (job_of c.in-Ok.job) c.in-Ok.ensures.ok.0)

@@ -13,12 +13,12 @@ use Rattle.pks_normal.specs.Fives.{five_of}
 use Rattle.pks_query.specs.Steps.{outcome_of}
 use Rattle.pks_postdict.specs.Ends.{state_of, IfAt}
 use Rattle.pks_plan.specs.TreeViews.{tree_of, chain_of}
-use Rattle.pks_branch.specs.declared.choices.Choice.TheVariants as choice_is
+use Rattle.pks_branch.specs.declared.choosing.Choice.TheVariants as choice_is
 use Rattle.pks_branch.specs.ChoiceOrder.{choice_cmp}
 use Rattle.pks_branch.specs.ChoiceViews.{choice_of, side_of}
 use Rattle.pks_search.specs.Ready.{IsReady}
 use Rattle.pks_search.specs.Limits.{IsBestWithin, IsCheapBy, IsCheapAmong, IsFoundAmong, IsBestAfter, IsBestTaking, AreBestCheapCases}
-use Rattle.pks_search.proofs.Costs.{costs_at_most}
+use Rattle.pks_failures.proofs.Costs.{costs_at_most}
 use Rattle.pks_search.proofs.Limited.{cheap_stopped, cheap_goal, price, dear_act, dear_branch, dear_cases}
 use Rattle.pks_search.proofs.Found.{found_first, found_none, found_some, found_all, none_at_depth, none_at_cost, costs_some}
 use Rattle.pks_terms.proofs.ListLaws.{in_map}
@@ -33,64 +33,64 @@ use Rattle.pks_search.proofs.within.+searching.Goals.{best_within-then-n-eq0-via
 pub best_after-progress-requires-clause-moment : goal.best_after-progress-requires-clause-moment
 best_after-progress-requires-clause-moment t c = subst (IsMomentOf (problem_of c.args.p.now).signature) (sym c.last.ensures) (ready_last c.args.p.now c.args.h.now (c.args.n + 1) c.requires.ready)
 
-pub best_after-returns-in-Clash : goal.best_after-returns-in-Clash
-best_after-returns-in-Clash t c =
+pub best_after-returns-in-Clash-clause-best : goal.best_after-returns-in-Clash-clause-best
+best_after-returns-in-Clash-clause-best t c =
     after_clash (problem_of c.args.p.now) c.args.h.now c.args.n c.args.limit (instance_of c.args.step.now) (five_of c.last.result.now) (outcome_of c.in_ok-progress.field-0) _ c.last.ensures (ap outcome_of c.in-Clash.is) c.in_ok-progress.ensures.progress
 
 pub best_after-best_within-requires : goal.best_after-best_within-requires
 best_after-best_within-requires t c =
     let p = problem_of c.args.p.now in
-    let less : c.args.n * 32 < t = omega (arith, c.decreases) in
+    let less : c.args.n * 32 + 1 < t = omega (arith, c.decreases) in
     let i = instance_of c.args.step.now in
     let progress = acted p c.args.h.now i (five_of c.last.result.now) (five_of c.in-Next.d) (outcome_of c.in_ok-progress.field-0) c.last.ensures (ap outcome_of c.in-Next.is) c.in_ok-progress.ensures.progress in
-    (less, subst (λ g. IsReady c.args.p.now g c.args.n) (sym c.in_ok-longer-in-Next.ensures) (ready_acted c.args.p.now c.args.h.now c.args.n i (five_of c.in-Next.d) c.requires.ready c.requires.chosen progress))
+    (less, (subst (λ g. IsReady c.args.p.now g c.args.n) (sym c.in_ok-longer-in-Next.ensures) (ready_acted c.args.p.now c.args.h.now c.args.n i (five_of c.in-Next.d) c.requires.ready c.requires.chosen progress), c.requires.right))
 
-pub best_after-returns-in_ok-longer-in-Next : goal.best_after-returns-in_ok-longer-in-Next
-best_after-returns-in_ok-longer-in-Next t c =
+pub best_after-returns-in_ok-longer-in-Next-clause-best : goal.best_after-returns-in_ok-longer-in-Next-clause-best
+best_after-returns-in_ok-longer-in-Next-clause-best t c =
     let p = problem_of c.args.p.now in
     let i = instance_of c.args.step.now in
     IfOk-weaker c.best_within.result (λ o. IsBestWithin p (At c.in_ok-longer-in-Next.longer) c.args.n c.args.limit (option_map tree_of o)) (λ o. IsBestAfter p c.args.h.now i c.args.n c.args.limit (option_map tree_of o))
     (λ o b. after_next p c.args.h.now c.args.n c.args.limit i (five_of c.last.result.now) (five_of c.in-Next.d) (outcome_of c.in_ok-progress.field-0) (option_map tree_of o) c.last.ensures (ap outcome_of c.in-Next.is) c.in_ok-progress.ensures.progress
     (subst (λ g. IsBestWithin p (At g) c.args.n c.args.limit (option_map tree_of o)) c.in_ok-longer-in-Next.ensures b))
-    c.best_within.ensures
+    c.best_within.ensures.best
 
-pub best_by_action-returns-then-limit-own : goal.best_by_action-returns-then-limit-own
-best_by_action-returns-then-limit-own t c =
+pub best_by_action-returns-then-limit-own-clause-best : goal.best_by_action-returns-then-limit-own-clause-best
+best_by_action-returns-then-limit-own-clause-best t c =
     let dear : c.args.limit < price (problem_of c.args.p.now) (instance_of c.args.step.now) = omega (arith, c.if-limit-own.true, c.action_cost-own.ensures) in
     dear_act (problem_of c.args.p.now) c.args.h.now (c.args.n + 1) (instance_of c.args.step.now) c.args.limit dear
 
-pub best_by_action-returns : goal.best_by_action-returns
-best_by_action-returns t c =
+pub best_by_action-returns-clause-best : goal.best_by_action-returns-clause-best
+best_by_action-returns-clause-best t c =
     let p = problem_of c.args.p.now in
     let i = instance_of c.args.step.now in
     IfOk-weaker c.act.result _ (λ o. IsBestOf p (IsCheapBy p c.args.h.now (c.args.n + 1) c.args.limit (Act i)) (option_map tree_of o))
-    (λ o e. found_act p c.args.h.now c.args.n c.args.limit c.action_cost-own.result i (option_map tree_of c.in_ok-next.next) (option_map tree_of o) c.requires.chosen c.action_cost-own.ensures c.if-limit-own.false c.in_ok-next.ensures e)
+    (λ o e. found_act p c.args.h.now c.args.n c.args.limit c.action_cost-own.result i (option_map tree_of c.in_ok-next.next) (option_map tree_of o) c.requires.chosen c.action_cost-own.ensures c.if-limit-own.false c.in_ok-next.ensures.best e)
     c.act.ensures
 
 -- ---- branches
 
-pub best_by_branch-returns-then-limit-eq0 : goal.best_by_branch-returns-then-limit-eq0
-best_by_branch-returns-then-limit-eq0 t c =
+pub best_by_branch-returns-then-limit-eq0-clause-best : goal.best_by_branch-returns-then-limit-eq0-clause-best
+best_by_branch-returns-then-limit-eq0-clause-best t c =
     let p = problem_of c.args.p.now in
     let test = conj_of c.args.test.now in
     subst (λ l. IsBestOf p (IsCheapBy p c.args.h.now (c.args.n + 1) l (BranchOn test)) None) (sym c.if-limit-eq0.true) (dear_branch p c.args.h.now (c.args.n + 1) test)
 
-pub best_by_branch-returns : goal.best_by_branch-returns
-best_by_branch-returns t c =
+pub best_by_branch-returns-clause-best : goal.best_by_branch-returns-clause-best
+best_by_branch-returns-clause-best t c =
     let p = problem_of c.args.p.now in
     let test = conj_of c.args.test.now in
-    let yes : IsBestTaking p c.args.h.now (BranchOn test) AsTrue c.args.n (c.args.limit - 1) (Some (tree_of c.in-Some.yes)) = subst (λ o. IsBestTaking p c.args.h.now (BranchOn test) AsTrue c.args.n (c.args.limit - 1) (option_map tree_of o)) c.in-Some.is c.in_ok-yes.ensures in
-    let no' : IsBestTaking p c.args.h.now (BranchOn test) AsFalse c.args.n (c.args.limit - 1) (Some (tree_of c.in-Some-2.no)) = subst (λ o. IsBestTaking p c.args.h.now (BranchOn test) AsFalse c.args.n (c.args.limit - 1) (option_map tree_of o)) c.in-Some-2.is c.in_ok-no.ensures in
+    let yes : IsBestTaking p c.args.h.now (BranchOn test) AsTrue c.args.n (c.args.limit - 1) (Some (tree_of c.in-Some.yes)) = subst (λ o. IsBestTaking p c.args.h.now (BranchOn test) AsTrue c.args.n (c.args.limit - 1) (option_map tree_of o)) c.in-Some.is c.in_ok-yes.ensures.best in
+    let no' : IsBestTaking p c.args.h.now (BranchOn test) AsFalse c.args.n (c.args.limit - 1) (Some (tree_of c.in-Some-2.no)) = subst (λ o. IsBestTaking p c.args.h.now (BranchOn test) AsFalse c.args.n (c.args.limit - 1) (option_map tree_of o)) c.in-Some-2.is c.in_ok-no.ensures.best in
     found_branch p c.args.h.now c.args.n c.args.limit test (tree_of c.in-Some.yes) (tree_of c.in-Some-2.no) (tree_of c.in_ok-tree.tree) c.if-limit-eq0.false c.requires.member c.requires.undecided yes no' c.in_ok-tree.ensures
 
-pub best_by_branch-returns-in_default : goal.best_by_branch-returns-in_default
-best_by_branch-returns-in_default t c =
-    no_true_side (problem_of c.args.p.now) c.args.h.now c.args.n c.args.limit (conj_of c.args.test.now) (option_map tree_of c.in_ok-yes.field-0) c.if-limit-eq0.false (ap (option_map tree_of) c.in_default.is) c.in_ok-yes.ensures
+pub best_by_branch-returns-in_default-clause-best : goal.best_by_branch-returns-in_default-clause-best
+best_by_branch-returns-in_default-clause-best t c =
+    no_true_side (problem_of c.args.p.now) c.args.h.now c.args.n c.args.limit (conj_of c.args.test.now) (option_map tree_of c.in_ok-yes.field-0) c.if-limit-eq0.false (ap (option_map tree_of) c.in_default.is) c.in_ok-yes.ensures.best
 
-pub best_by_branch-returns-in_default-2 : goal.best_by_branch-returns-in_default-2
-best_by_branch-returns-in_default-2 t c =
+pub best_by_branch-returns-in_default-2-clause-best : goal.best_by_branch-returns-in_default-2-clause-best
+best_by_branch-returns-in_default-2-clause-best t c =
     no_false_side (problem_of c.args.p.now) c.args.h.now c.args.n c.args.limit (conj_of c.args.test.now) (option_map tree_of c.in_ok-yes.field-0) (option_map tree_of c.in_ok-no.field-0) c.if-limit-eq0.false c.requires.member c.requires.undecided
-    c.in_ok-yes.ensures (ap (option_map tree_of) c.in_default-2.is) c.in_ok-no.ensures
+    c.in_ok-yes.ensures.best (ap (option_map tree_of) c.in_default-2.is) c.in_ok-no.ensures.best
 
 -- ---- cases
 
@@ -104,59 +104,59 @@ best_by_cases-best_chain-requires t c =
     let most : length (left s d x) ≤ 16 = few_left s d x c.requires.splits in
     let equal : length (map object_of c.as_slice.result.now) ≡ length (left s d x) = ap (λ (ds : List ℕ). length ds) all in
     let few : length c.as_slice.result.now ≤ 16 = omega arith in
-    let less : c.args.n * 32 + 2 + length c.as_slice.result.now < t = omega (arith, c.decreases) in
-    (less, (c.requires.ready, (c.requires.member, (subst (Each (λ e. IsIn e (range_of s x))) (sym all) (left_in_range s d x), few))))
+    let less : c.args.n * 32 + 3 + length c.as_slice.result.now < t = omega (arith, c.decreases) in
+    (less, (c.requires.ready, (c.requires.member, (subst (Each (λ e. IsIn e (range_of s x))) (sym all) (left_in_range s d x), (few, c.requires.right)))))
 
-pub best_by_cases-returns-then-limit-eq0 : goal.best_by_cases-returns-then-limit-eq0
-best_by_cases-returns-then-limit-eq0 t c =
+pub best_by_cases-returns-then-limit-eq0-clause-best : goal.best_by_cases-returns-then-limit-eq0-clause-best
+best_by_cases-returns-then-limit-eq0-clause-best t c =
     let p = problem_of c.args.p.now in
     let x = term_of c.args.term.now in
     subst (λ l. IsBestOf p (IsCheapBy p c.args.h.now (c.args.n + 1) l (CasesOn x)) None) (sym c.if-limit-eq0.true) (dear_cases p c.args.h.now (c.args.n + 1) x)
 
-pub best_by_cases-returns : goal.best_by_cases-returns
-best_by_cases-returns t c =
+pub best_by_cases-returns-clause-best : goal.best_by_cases-returns-clause-best
+best_by_cases-returns-clause-best t c =
     let p = problem_of c.args.p.now in
     let x = term_of c.args.term.now in
     let d = last_moment c.args.h.now in
     let all : map object_of c.as_slice.result.now ≡ left p.signature d x = ap (map object_of) c.as_slice.ensures ∙ (c.in_ok-objects.ensures ∙ ap (λ (e : Five). left p.signature e x) c.last.ensures) in
     IfOk-weaker c.cases.result _ (λ o. IsBestOf p (IsCheapBy p c.args.h.now (c.args.n + 1) c.args.limit (CasesOn x)) (option_map tree_of o))
     (λ o e. found_cases p c.args.h.now c.args.n c.args.limit x (option_map chain_of c.in_ok-chain.chain) (option_map tree_of o) c.if-limit-eq0.false c.requires.member c.requires.splits
-    (subst (λ ds. AreBestCheapCases p c.args.h.now x c.args.n (c.args.limit - 1) ds (option_map chain_of c.in_ok-chain.chain)) all c.in_ok-chain.ensures) e)
+    (subst (λ ds. AreBestCheapCases p c.args.h.now x c.args.n (c.args.limit - 1) ds (option_map chain_of c.in_ok-chain.chain)) all c.in_ok-chain.ensures.best) e)
     c.cases.ensures
 
-pub best_chain-returns-in_default : goal.best_chain-returns-in_default
-best_chain-returns-in_default t c =
+pub best_chain-returns-in_default-clause-best : goal.best_chain-returns-in_default-clause-best
+best_chain-returns-in_default-clause-best t c =
     chain_empty (problem_of c.args.p.now) c.args.h.now c.args.n c.args.limit (term_of c.args.term.now) (map object_of c.args.objects.now) (none_left object_of c.args.objects.now c.in_default.len_below)
 
-pub best_chain-returns : goal.best_chain-returns
-best_chain-returns t c =
+pub best_chain-returns-clause-best : goal.best_chain-returns-clause-best
+best_chain-returns-clause-best t c =
     let p = problem_of c.args.p.now in
     let x = term_of c.args.term.now in
     let all = c.args.objects.now in
     let object = get_or all 0 (record { 0 = 0 }) in
     let split = first_and_others object_of all (record { 0 = 0 }) c.in-len1-up.len_at_least in
-    let first : IsBestTaking p c.args.h.now (CasesOn x) (Is object.0) c.args.n c.args.limit (Some (tree_of c.in-Some.tree)) = subst (λ o. IsBestTaking p c.args.h.now (CasesOn x) (Is object.0) c.args.n c.args.limit (option_map tree_of o)) c.in-Some.is c.in_ok-tree.ensures in
-    let others : AreBestCheapCases p c.args.h.now x c.args.n c.args.limit (map object_of (take (length all - 1) (drop 1 all))) (Some (chain_of c.in_ok-rest-2.rest.value)) = subst (λ o. AreBestCheapCases p c.args.h.now x c.args.n c.args.limit (map object_of (take (length all - 1) (drop 1 all))) (option_map chain_of o)) (c.in-Some-2.is ∙ ap Some (sym c.in_ok-rest-2.ensures.ok)) c.in_ok-rest.ensures in
+    let first : IsBestTaking p c.args.h.now (CasesOn x) (Is object.0) c.args.n c.args.limit (Some (tree_of c.in-Some.tree)) = subst (λ o. IsBestTaking p c.args.h.now (CasesOn x) (Is object.0) c.args.n c.args.limit (option_map tree_of o)) c.in-Some.is c.in_ok-tree.ensures.best in
+    let others : AreBestCheapCases p c.args.h.now x c.args.n c.args.limit (map object_of (take (length all - 1) (drop 1 all))) (Some (chain_of c.in_ok-rest-2.rest.value)) = subst (λ o. AreBestCheapCases p c.args.h.now x c.args.n c.args.limit (map object_of (take (length all - 1) (drop 1 all))) (option_map chain_of o)) (c.in-Some-2.is ∙ ap Some (sym c.in_ok-rest-2.ensures.ok)) c.in_ok-rest.ensures.best in
     chain_found p c.args.h.now c.args.n c.args.limit x object.0 (map object_of (take (length all - 1) (drop 1 all))) (map object_of all) (tree_of c.in-Some.tree) (chain_of c.in_ok-rest-2.rest.value) split first others
 
-pub best_chain-returns-in_default-2 : goal.best_chain-returns-in_default-2
-best_chain-returns-in_default-2 t c =
+pub best_chain-returns-in_default-2-clause-best : goal.best_chain-returns-in_default-2-clause-best
+best_chain-returns-in_default-2-clause-best t c =
     let p = problem_of c.args.p.now in
     let x = term_of c.args.term.now in
     let all = c.args.objects.now in
     let object = get_or all 0 (record { 0 = 0 }) in
     let split = first_and_others object_of all (record { 0 = 0 }) c.in-len1-up.len_at_least in
-    chain_no_first p c.args.h.now c.args.n c.args.limit x object.0 (map object_of (take (length all - 1) (drop 1 all))) (map object_of all) (option_map tree_of c.in_ok-tree.field-0) split (ap (option_map tree_of) c.in_default-2.is) c.in_ok-tree.ensures
+    chain_no_first p c.args.h.now c.args.n c.args.limit x object.0 (map object_of (take (length all - 1) (drop 1 all))) (map object_of all) (option_map tree_of c.in_ok-tree.field-0) split (ap (option_map tree_of) c.in_default-2.is) c.in_ok-tree.ensures.best
 
-pub best_chain-returns-in_default-3 : goal.best_chain-returns-in_default-3
-best_chain-returns-in_default-3 t c =
+pub best_chain-returns-in_default-3-clause-best : goal.best_chain-returns-in_default-3-clause-best
+best_chain-returns-in_default-3-clause-best t c =
     let p = problem_of c.args.p.now in
     let x = term_of c.args.term.now in
     let all = c.args.objects.now in
     let object = get_or all 0 (record { 0 = 0 }) in
     let split = first_and_others object_of all (record { 0 = 0 }) c.in-len1-up.len_at_least in
-    let first : IsBestTaking p c.args.h.now (CasesOn x) (Is object.0) c.args.n c.args.limit (Some (tree_of c.in-Some.tree)) = subst (λ o. IsBestTaking p c.args.h.now (CasesOn x) (Is object.0) c.args.n c.args.limit (option_map tree_of o)) c.in-Some.is c.in_ok-tree.ensures in
-    chain_no_rest p c.args.h.now c.args.n c.args.limit x object.0 (map object_of (take (length all - 1) (drop 1 all))) (map object_of all) (tree_of c.in-Some.tree) (option_map chain_of c.in_ok-rest.field-0) split first (ap (option_map chain_of) c.in_default-3.is) c.in_ok-rest.ensures
+    let first : IsBestTaking p c.args.h.now (CasesOn x) (Is object.0) c.args.n c.args.limit (Some (tree_of c.in-Some.tree)) = subst (λ o. IsBestTaking p c.args.h.now (CasesOn x) (Is object.0) c.args.n c.args.limit (option_map tree_of o)) c.in-Some.is c.in_ok-tree.ensures.best in
+    chain_no_rest p c.args.h.now c.args.n c.args.limit x object.0 (map object_of (take (length all - 1) (drop 1 all))) (map object_of all) (tree_of c.in-Some.tree) (option_map chain_of c.in_ok-rest.field-0) split first (ap (option_map chain_of) c.in_default-3.is) c.in_ok-rest.ensures.best
 
 -- ---- choices
 
@@ -164,21 +164,21 @@ pub best_by_choice-best_by_action-requires : goal.best_by_choice-best_by_action-
 best_by_choice-best_by_action-requires t c =
     let p = problem_of c.args.p.now in
     let less : c.args.n * 32 + 29 < t = omega (arith, c.decreases) in
-    (less, (c.requires.ready, chosen_action p (last_moment c.args.h.now) (instance_of c.in-Act.step) (subst (λ x. IsIn (choice_of x) (choices p (last_moment c.args.h.now))) c.in-Act.is c.requires.chosen)))
+    (less, (c.requires.ready, (chosen_action p (last_moment c.args.h.now) (instance_of c.in-Act.step) (subst (λ x. IsIn (choice_of x) (choices p (last_moment c.args.h.now))) c.in-Act.is c.requires.chosen), c.requires.right)))
 
 pub best_by_choice-best_by_branch-requires : goal.best_by_choice-best_by_branch-requires
 best_by_choice-best_by_branch-requires t c =
     let p = problem_of c.args.p.now in
     let less : c.args.n * 32 + 29 < t = omega (arith, c.decreases) in
     let r = chosen_branch p (last_moment c.args.h.now) (conj_of c.in-Branch.test) (subst (λ x. IsIn (choice_of x) (choices p (last_moment c.args.h.now))) c.in-Branch.is c.requires.chosen) in
-    (less, (c.requires.ready, (r.0, r.1)))
+    (less, (c.requires.ready, (r.0, (r.1, c.requires.right))))
 
 pub best_by_choice-best_by_cases-requires : goal.best_by_choice-best_by_cases-requires
 best_by_choice-best_by_cases-requires t c =
     let p = problem_of c.args.p.now in
     let less : c.args.n * 32 + 29 < t = omega (arith, c.decreases) in
     let r = chosen_cases p (last_moment c.args.h.now) (term_of c.in-Cases.term) (subst (λ x. IsIn (choice_of x) (choices p (last_moment c.args.h.now))) c.in-Cases.is c.requires.chosen) in
-    (less, (c.requires.ready, (r.0, r.1)))
+    (less, (c.requires.ready, (r.0, (r.1, c.requires.right))))
 
 pub best_of_choices-best_by_choice-requires : goal.best_of_choices-best_by_choice-requires
 best_of_choices-best_by_choice-requires t c =
@@ -188,10 +188,10 @@ best_of_choices-best_by_choice-requires t c =
     let within : c.loop-c.c-index < length all = omega arith in
     let less : c.args.n * 32 + 30 < t = omega (arith, c.decreases) in
     let same : map choice_of all ≡ choices p (last_moment c.args.h.now) = ap (map choice_of) c.as_slice-c-items.ensures ∙ (c.in_ok-all.ensures.all ∙ ap (choices p) c.last.ensures) in
-    (less, (c.requires.ready, subst (IsIn (choice_of here)) same (in_map choice_of all here (in_list all c.loop-c.c-index (choice_is.Act (record { act = record { 0 = 0 }; n = 0; args = [] })) within))))
+    (less, (c.requires.ready, (subst (IsIn (choice_of here)) same (in_map choice_of all here (in_list all c.loop-c.c-index (choice_is.Act (record { act = record { 0 = 0 }; n = 0; args = [] })) within)), c.loop-c.invariant.1)))
 
 pub best_of_choices-loop-c-init : goal.best_of_choices-loop-c-init
-best_of_choices-loop-c-init t c = found_first (problem_of c.args.p.now) c.args.h.now (c.args.n + 1) c.args.limit c.requires.unmet
+best_of_choices-loop-c-init t c = (found_first (problem_of c.args.p.now) c.args.h.now (c.args.n + 1) c.args.limit c.requires.unmet, c.requires.right)
 
 pub best_of_choices-loop-c-preserved : goal.best_of_choices-loop-c-preserved
 best_of_choices-loop-c-preserved t c =
@@ -206,18 +206,18 @@ best_of_choices-loop-c-preserved t c =
     let next : IsFoundAmong p c.args.h.now (c.args.n + 1) c.args.limit (done ++ choice_of here ∷ []) (option_map tree_of c.match-branch-3.best) c.match-branch-3.below =
     elim c.match-branch-3.branch [
       | best_of_choices-in-Some w ↦
-          let found : IsBestOf p (IsCheapBy p c.args.h.now (c.args.n + 1) c.loop-c.below (choice_of here)) (Some (tree_of w.in-Some.t)) = subst (λ o. IsBestOf p (IsCheapBy p c.args.h.now (c.args.n + 1) c.loop-c.below (choice_of here)) (option_map tree_of o)) w.in-Some.is c.in_ok-t.ensures in
+          let found : IsBestOf p (IsCheapBy p c.args.h.now (c.args.n + 1) c.loop-c.below (choice_of here)) (Some (tree_of w.in-Some.t)) = subst (λ o. IsBestOf p (IsCheapBy p c.args.h.now (c.args.n + 1) c.loop-c.below (choice_of here)) (option_map tree_of o)) w.in-Some.is c.in_ok-t.ensures.best in
           let some : 1 ≤ cost p (tree_of w.in-Some.t) = costs_some p c.requires.ready.valid.says c.args.h.now c.requires.unmet (tree_of w.in-Some.t) found.0.0.0.0 in
           let below : c.match-branch-3.below + 1 ≡ cost p (tree_of w.in-Some.t) = omega (arith, w.below-is, w.cost-below.ensures, some) in
           subst (λ o. IsFoundAmong p c.args.h.now (c.args.n + 1) c.args.limit (done ++ choice_of here ∷ []) (option_map tree_of o) c.match-branch-3.below) (sym w.best-is)
-          (found_some p c.args.h.now (c.args.n + 1) c.args.limit c.requires.unmet done (choice_of here) (option_map tree_of c.loop-c.best) c.loop-c.below c.match-branch-3.below (tree_of w.in-Some.t) c.loop-c.invariant found below)
+          (found_some p c.args.h.now (c.args.n + 1) c.args.limit c.requires.unmet done (choice_of here) (option_map tree_of c.loop-c.best) c.loop-c.below c.match-branch-3.below (tree_of w.in-Some.t) c.loop-c.invariant.0 found below)
       | best_of_choices-in_default w ↦
-          let found : IsBestOf p (IsCheapBy p c.args.h.now (c.args.n + 1) c.loop-c.below (choice_of here)) None = subst (λ o. IsBestOf p (IsCheapBy p c.args.h.now (c.args.n + 1) c.loop-c.below (choice_of here)) (option_map tree_of o)) w.in_default.is c.in_ok-t.ensures in
+          let found : IsBestOf p (IsCheapBy p c.args.h.now (c.args.n + 1) c.loop-c.below (choice_of here)) None = subst (λ o. IsBestOf p (IsCheapBy p c.args.h.now (c.args.n + 1) c.loop-c.below (choice_of here)) (option_map tree_of o)) w.in_default.is c.in_ok-t.ensures.best in
           subst (λ l. IsFoundAmong p c.args.h.now (c.args.n + 1) c.args.limit (done ++ choice_of here ∷ []) (option_map tree_of c.match-branch-3.best) l) (sym w.below-is)
           (subst (λ o. IsFoundAmong p c.args.h.now (c.args.n + 1) c.args.limit (done ++ choice_of here ∷ []) (option_map tree_of o) c.loop-c.below) (sym w.best-is)
-          (found_none p c.args.h.now (c.args.n + 1) c.args.limit c.requires.unmet done (choice_of here) (option_map tree_of c.loop-c.best) c.loop-c.below before c.loop-c.invariant found))
+          (found_none p c.args.h.now (c.args.n + 1) c.args.limit c.requires.unmet done (choice_of here) (option_map tree_of c.loop-c.best) c.loop-c.below before c.loop-c.invariant.0 found))
     ] in
-    subst (λ cs. IsFoundAmong p c.args.h.now (c.args.n + 1) c.args.limit cs (option_map tree_of c.match-branch-3.best) c.match-branch-3.below) (sym (taken_more choice_of all c.loop-c.c-index none within)) next
+    (subst (λ cs. IsFoundAmong p c.args.h.now (c.args.n + 1) c.args.limit cs (option_map tree_of c.match-branch-3.best) c.match-branch-3.below) (sym (taken_more choice_of all c.loop-c.c-index none within)) next, c.in_ok-t.ensures.right)
 
 pub best_of_choices-cost-below-requires-clause-costs : goal.best_of_choices-cost-below-requires-clause-costs
 best_of_choices-cost-below-requires-clause-costs t c = costs_at_most (problem_of c.args.p.now) c.requires.ready.valid.says
@@ -227,17 +227,17 @@ best_of_choices-overflow_sub-below t c =
     let p = problem_of c.args.p.now in
     let all = c.as_slice-c-items.result.now in
     let here = get_or all c.loop-c.c-index (choice_is.Act (record { act = record { 0 = 0 }; n = 0; args = [] })) in
-    let found : IsBestOf p (IsCheapBy p c.args.h.now (c.args.n + 1) c.loop-c.below (choice_of here)) (Some (tree_of c.in-Some.t)) = subst (λ o. IsBestOf p (IsCheapBy p c.args.h.now (c.args.n + 1) c.loop-c.below (choice_of here)) (option_map tree_of o)) c.in-Some.is c.in_ok-t.ensures in
+    let found : IsBestOf p (IsCheapBy p c.args.h.now (c.args.n + 1) c.loop-c.below (choice_of here)) (Some (tree_of c.in-Some.t)) = subst (λ o. IsBestOf p (IsCheapBy p c.args.h.now (c.args.n + 1) c.loop-c.below (choice_of here)) (option_map tree_of o)) c.in-Some.is c.in_ok-t.ensures.best in
     let some : 1 ≤ cost p (tree_of c.in-Some.t) = costs_some p c.requires.ready.valid.says c.args.h.now c.requires.unmet (tree_of c.in-Some.t) found.0.0.0.0 in
     omega (arith, some, c.cost-below.ensures)
 
-pub best_of_choices-returns : goal.best_of_choices-returns
-best_of_choices-returns t c =
+pub best_of_choices-returns-clause-best : goal.best_of_choices-returns-clause-best
+best_of_choices-returns-clause-best t c =
     let p = problem_of c.args.p.now in
     let all = c.as_slice-c-items.result.now in
     let past : length all ≤ c.loop-c.c-index = omega arith in
     let same : map choice_of (take c.loop-c.c-index all) ≡ choices p (last_moment c.args.h.now) = ap (map choice_of) (take_all c.loop-c.c-index all past ∙ c.as_slice-c-items.ensures) ∙ (c.in_ok-all.ensures.all ∙ ap (choices p) c.last.ensures) in
-    found_all p c.args.h.now (c.args.n + 1) c.args.limit c.requires.unmet (option_map tree_of c.loop-c.best) (subst (λ cs. IsBestOf p (IsCheapAmong p c.args.h.now (c.args.n + 1) c.args.limit cs) (option_map tree_of c.loop-c.best)) same c.loop-c.invariant.best)
+    found_all p c.args.h.now (c.args.n + 1) c.args.limit c.requires.unmet (option_map tree_of c.loop-c.best) (subst (λ cs. IsBestOf p (IsCheapAmong p c.args.h.now (c.args.n + 1) c.args.limit cs) (option_map tree_of c.loop-c.best)) same c.loop-c.invariant.0.best)
 
 -- ---- sides
 
@@ -247,41 +247,44 @@ best_taking-assume-requires-clause-moment t c = subst (IsMomentOf (problem_of c.
 pub best_taking-best_within-requires : goal.best_taking-best_within-requires
 best_taking-best_within-requires t c =
     let p = problem_of c.args.p.now in
-    let less : c.args.n * 32 < t = omega (arith, c.decreases) in
+    let less : c.args.n * 32 + 1 < t = omega (arith, c.decreases) in
     let settles = subst (λ x. Settles p (with_last c.args.h.now (five_of c.in-Next.d)) (state_of x)) c.in-Whole.is c.in_ok-settle-in-Next.ensures.settles in
     let moments = subst (λ x. IfAt (AreMomentsOf p) (state_of x)) c.in-Whole.is c.in_ok-settle-in-Next.ensures.moments in
-    (less, ready_taken c.args.p.now c.args.h.now c.in-Whole.settled c.args.n (five_of c.in-Next.d) c.requires.ready settles moments)
+    (less, (ready_taken c.args.p.now c.args.h.now c.in-Whole.settled c.args.n (five_of c.in-Next.d) c.requires.ready settles moments, c.requires.right))
 
-pub best_taking-returns-in-Clash : goal.best_taking-returns-in-Clash
-best_taking-returns-in-Clash t c =
+pub best_taking-returns-in-Clash-clause-best : goal.best_taking-returns-in-Clash-clause-best
+best_taking-returns-in-Clash-clause-best t c =
     taking_clash (problem_of c.args.p.now) c.args.h.now c.args.n c.args.limit (choice_of c.args.c.now) (side_of c.args.side) (five_of c.last.result.now) (outcome_of c.in_ok-assume.field-0) _ c.last.ensures (ap outcome_of c.in-Clash.is) c.in_ok-assume.ensures.assumes
 
-pub best_taking-returns-in-Clash-2 : goal.best_taking-returns-in-Clash-2
-best_taking-returns-in-Clash-2 t c =
+pub best_taking-returns-in-Clash-2-clause-best : goal.best_taking-returns-in-Clash-2-clause-best
+best_taking-returns-in-Clash-2-clause-best t c =
     let p = problem_of c.args.p.now in
     taking_next p c.args.h.now c.args.n c.args.limit (choice_of c.args.c.now) (side_of c.args.side) (five_of c.last.result.now) (five_of c.in-Next.d) (outcome_of c.in_ok-assume.field-0) (state_of c.in_ok-settle-in-Next.field-0) Stopped (Some Impossible)
     c.last.ensures (ap outcome_of c.in-Next.is) c.in_ok-assume.ensures.assumes c.in_ok-settle-in-Next.ensures.settles (ap state_of c.in-Clash-2.is) (cheap_stopped p c.args.n c.args.limit)
 
-pub best_taking-returns-in-Whole : goal.best_taking-returns-in-Whole
-best_taking-returns-in-Whole t c =
+pub best_taking-returns-in-Whole-clause-best : goal.best_taking-returns-in-Whole-clause-best
+best_taking-returns-in-Whole-clause-best t c =
     let p = problem_of c.args.p.now in
     let choice = choice_of c.args.c.now in
     let side = side_of c.args.side in
     IfOk-weaker c.best_within.result (λ o. IsBestWithin p (At c.in-Whole.settled) c.args.n c.args.limit (option_map tree_of o)) (λ o. IsBestTaking p c.args.h.now choice side c.args.n c.args.limit (option_map tree_of o))
     (λ o b. taking_next p c.args.h.now c.args.n c.args.limit choice side (five_of c.last.result.now) (five_of c.in-Next.d) (outcome_of c.in_ok-assume.field-0) (state_of c.in_ok-settle-in-Next.field-0) (At c.in-Whole.settled) (option_map tree_of o)
     c.last.ensures (ap outcome_of c.in-Next.is) c.in_ok-assume.ensures.assumes c.in_ok-settle-in-Next.ensures.settles (ap state_of c.in-Whole.is) b)
-    c.best_within.ensures
+    c.best_within.ensures.best
 
 -- ---- at a history
 
-pub best_within-returns-then-met : goal.best_within-returns-then-met
-best_within-returns-then-met t c = cheap_goal (problem_of c.args.p.now) c.args.h.now c.args.n c.args.limit (sym c.met.ensures ∙ c.if-met.true)
+pub best_within-returns-then-met-clause-best : goal.best_within-returns-then-met-clause-best
+best_within-returns-then-met-clause-best t c = cheap_goal (problem_of c.args.p.now) c.args.h.now c.args.n c.args.limit (sym c.met.ensures ∙ c.if-met.true)
 
-pub best_within-returns-then-n-eq0 : goal.best_within-returns-then-n-eq0
-best_within-returns-then-n-eq0 t c =
+pub best_within-returns-then-n-eq0-clause-best : goal.best_within-returns-then-n-eq0-clause-best
+best_within-returns-then-n-eq0-clause-best t c =
     let p = problem_of c.args.p.now in
     let unmet = sym c.met.ensures ∙ c.if-met.false in
     elim c.then-n-eq0.branch [
       | best_within-then-n-eq0-via-then-n-eq0 w ↦ subst (λ n. IsBestWithin p (At c.args.h.now) n c.args.limit None) (sym w.if-n-eq0.true) (none_at_depth p c.args.h.now c.args.limit unmet)
       | best_within-then-n-eq0-via-else-n-eq0+then-limit-eq0 w ↦ subst (λ l. IsBestWithin p (At c.args.h.now) c.args.n l None) (sym w.if-limit-eq0.true) (none_at_cost p c.requires.valid.says c.args.h.now c.args.n unmet)
     ]
+
+pub best_unmet-returns-then-tells-clause-best : goal.best_unmet-returns-then-tells-clause-best
+best_unmet-returns-then-tells-clause-best t c = c.tells.ensures.told c.if-tells.true (problem_of c.args.p.now) c.requires.ready.valid.says c.requires.right

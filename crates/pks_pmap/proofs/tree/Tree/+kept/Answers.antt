@@ -43,7 +43,7 @@ returns-then-not-test g t c =
     let j : IsKeeping (AnswersKey g.F.Fn c.args.test.now) n.right c.kept.new.steps.made c.kept-2.new.steps.made c.in_ok-right.right = search rules in
     let a : AnswersKey g.F.Fn c.args.test.now n.pair.value false =
     subst (λ k. FnReturnsAt g.F.Fn c.args.test.now k false) (ap (λ p. p.0) (c.deref-4.ensures ∙ ap (λ m. m.pair.value) c.deref-3.ensures)) (says_at g.F.Fn c.test.ensures c.if-not-test.true) in
-    IfOk-weaker c.glue.result _ _ (λ u w. kept_glued f (AnswersKey g.F.Fn c.args.test.now) i j c.glue.new.steps.made u a w.entries) c.glue.ensures
+    IfOk-weaker c.glue.result _ _ (λ u w. kept_glued f (AnswersKey g.F.Fn c.args.test.now) i j c.glue.new.steps.made u a w.entries) c.glue.ensures.gluing
 
 pub returns-then-len-2 : goal.returns-then-len-2
 returns-then-len-2 g t c =
@@ -81,7 +81,7 @@ returns g t c =
     let a : AnswersKey g.F.Fn c.args.test.now n.pair.value true =
     subst (λ k. FnReturnsAt g.F.Fn c.args.test.now k true) (ap (λ p. p.0) (c.deref-4.ensures ∙ ap (λ m. m.pair.value) c.deref-3.ensures)) (says_at g.F.Fn c.test.ensures c.if-not-test.false) in
     let m : n.pair.value ≡ c.in_ok-middle.middle.value = search rules in
-    let b : IfOk c.join.result (IsJoining c.in_ok-left.left n.pair.value c.in_ok-right.right) = rw m c.join.ensures in
+    let b : IfOk c.join.result (IsJoining c.in_ok-left.left n.pair.value c.in_ok-right.right) = rw m c.join.ensures.joining in
     let l : c.len.result ≡ length c.in_ok-left.left.0 = search rules in
     let o : c.len-2.result ≡ length n.left.0 = c.len-2.ensures.count ∙ ap (λ z. length z.left.0) c.deref-5.ensures in
     let other : length c.in_ok-left.left.0 ≡ length n.left.0 → length c.in_ok-right.right.0 ≡ length n.right.0 → ⊥ =

@@ -34,8 +34,8 @@ glue-requires g t c =
     let r : c.deref-in-Equal-2.result.now ≡ n = c.deref-in-Equal-2.ensures in
     rw (l, r) (remove_middle_ascending g.K.Ord.cmp g.met.K.Ord.total f c.args.key.now q)
 
-pub returns-in_ok-right-in-Less : goal.returns-in_ok-right-in-Less
-returns-in_ok-right-in-Less g t c =
+pub returns-in_ok-right-in-Less-clause-removed : goal.returns-in_ok-right-in-Less-clause-removed
+returns-in_ok-right-in-Less-clause-removed g t c =
     let f = at_fork {R = g.K.Ord.cmp} c.self.view_is c.self.invariant c.in-Fork.is in
     let n = c.in-Fork.node.value in
     let q : g.K.Ord.cmp c.args.key.now n.pair.value.0 ≡ Less = search rules in
@@ -45,8 +45,8 @@ returns-in_ok-right-in-Less g t c =
     let b : IfOk c.balance.result (IsBalancing c.in_ok-left-in-Less.left n.pair.value n.right c.remove.new.steps.made c.balance.new.steps.made) = rw (← m, ← s) c.balance.ensures.balancing in
     IfOk-weaker c.balance.result _ _ (λ u w. remove_below_left g.K.Ord.cmp g.met.K.Ord.total f c.args.key.now c.remove.new.steps.made c.balance.new.steps.made c.in_ok-left-in-Less.left u q i w) b
 
-pub returns-in_ok-left-in-Greater : goal.returns-in_ok-left-in-Greater
-returns-in_ok-left-in-Greater g t c =
+pub returns-in_ok-left-in-Greater-clause-removed : goal.returns-in_ok-left-in-Greater-clause-removed
+returns-in_ok-left-in-Greater-clause-removed g t c =
     let f = at_fork {R = g.K.Ord.cmp} c.self.view_is c.self.invariant c.in-Fork.is in
     let n = c.in-Fork.node.value in
     let q : g.K.Ord.cmp c.args.key.now n.pair.value.0 ≡ Greater = search rules in
@@ -56,11 +56,11 @@ returns-in_ok-left-in-Greater g t c =
     let b : IfOk c.balance-in-Greater.result (IsBalancing n.left n.pair.value c.in_ok-right-in-Greater.right c.remove-in-Greater.new.steps.made c.balance-in-Greater.new.steps.made) = rw (← m, ← s) c.balance-in-Greater.ensures.balancing in
     IfOk-weaker c.balance-in-Greater.result _ _ (λ u w. remove_below_right g.K.Ord.cmp g.met.K.Ord.total f c.args.key.now c.remove-in-Greater.new.steps.made c.balance-in-Greater.new.steps.made c.in_ok-right-in-Greater.right u q i w) b
 
-pub returns-in-Equal : goal.returns-in-Equal
-returns-in-Equal g t c =
+pub returns-in-Equal-clause-removed : goal.returns-in-Equal-clause-removed
+returns-in-Equal-clause-removed g t c =
     let f = at_fork {R = g.K.Ord.cmp} c.self.view_is c.self.invariant c.in-Fork.is in
     let n = c.in-Fork.node.value in
     let q : g.K.Ord.cmp c.args.key.now n.pair.value.0 ≡ Equal = search rules in
     let b : IfOk c.glue.result (IsGluing n.left n.right) =
-    subst (λ m. IfOk c.glue.result (IsGluing m.left n.right)) c.deref-in-Equal.ensures (subst (λ m. IfOk c.glue.result (IsGluing c.deref-in-Equal.result.now.left m.right)) c.deref-in-Equal-2.ensures c.glue.ensures) in
+    subst (λ m. IfOk c.glue.result (IsGluing m.left n.right)) c.deref-in-Equal.ensures (subst (λ m. IfOk c.glue.result (IsGluing c.deref-in-Equal.result.now.left m.right)) c.deref-in-Equal-2.ensures c.glue.ensures.gluing) in
     IfOk-weaker c.glue.result _ _ (λ u w. remove_here g.K.Ord.cmp g.met.K.Ord.total f c.args.key.now u q w) b

@@ -4,8 +4,8 @@ use Rattle.pks_pmap.proofs.AtFork.{at_fork}
 use Rattle.pks_pmap.proofs.Below.{take_here}
 use Rattle.pks_pmap.proofs.tree.Tree.+take_first.Goals as goal
 
-pub returns-then-len-eq0 : goal.returns-then-len-eq0
-returns-then-len-eq0 g t c =
+pub returns-then-len-eq0-clause-first : goal.returns-then-len-eq0-clause-first
+returns-then-len-eq0-clause-first g t c =
     let f = at_fork {R = g.K.Ord.cmp} c.self.view_is c.self.invariant c.in-Fork.is in
     let n = c.in-Fork.node.value in
     let empty : length n.left.0 ≡ 0 = search rules in

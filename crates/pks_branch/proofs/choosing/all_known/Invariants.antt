@@ -1,0 +1,10 @@
+use Rattle.std.proofs.Common.{◌≡◌, drop}
+use Rattle.std.specs.List.{list_all}
+use Rattle.pks_terms.specs.Databases.{holds}
+use Rattle.pks_terms.specs.Views.{literals_in, signature_of}
+use Rattle.pks_normal.specs.Fives.{five_of}
+use Rattle.pks_branch.proofs.choosing.all_known.Given as goal
+
+abbrev pub invariant-loop-l : goal.invariant-loop-l
+invariant-loop-l l =
+    list_all (holds (signature_of l.s) (five_of l.d)) (literals_in (drop l.l-index l.ls)) ≡ list_all (holds (signature_of l.s) (five_of l.d)) (literals_in l.ls)

@@ -1,0 +1,133 @@
+//! Choices: instances of actions, branches and cases. `docs/RULES.md` has the rules.
+ghost use Rattle.std.specs.Prelude.{◌≡◌, ◌≤◌, ◌++◌, ◌&&◌, map, length, not, IfOk, OnOk};
+ghost use Rattle.std.specs.List.{list_all, filter};
+ghost use Rattle.pks_terms.specs.Sets.{Each, IsOrdered};
+ghost use Rattle.pks_terms.specs.Orders.{term_cmp, conj_cmp};
+ghost use Rattle.pks_terms.specs.Databases.{holds};
+ghost use Rattle.pks_terms.specs.Branching.{Act, BranchOn, CasesOn, instances, is_undecided, may_split, choices};
+ghost use Rattle.pks_terms.specs.ValidProblems.{IsValidProblem};
+ghost use Rattle.pks_terms.specs.Views.{literals_in, conj_of, terms_of, signature_of, problem_of};
+ghost use Rattle.pks_kw.specs.Formulas.{formulas_of};
+ghost use Rattle.pks_normal.specs.Fives.{five_of};
+ghost use Rattle.pks_branch.specs.ChoiceViews.{choices_of};
+ghost use Rattle.pks_branch.specs.ChoiceOrder.{choice_cmp};
+
+use crate::leaving::may_split;
+use crate::walking::push_instances;
+use pks_kv::Kv;
+use pks_kw::Kw;
+use pks_query::databases::Db;
+use pks_terms::ids::ActId;
+use pks_terms::literal::{Conj, Literal};
+use pks_terms::problem::{Problem, Signature};
+use pks_terms::schema::Instance;
+use pks_terms::sequence::Sequence;
+use pks_terms::term::{Term, front};
+use std::alloc::{AllocError, Global};
+
+/// What a plan may go on with.
+#[derive(Clone, Copy)]
+pub enum Choice {
+    /// An action.
+    Act(Instance),
+    /// A branch on a formula that will be known to be true or false.
+    Branch(Conj),
+    /// Cases on a term whose value will be known.
+    Cases(Term),
+}
+
+/// A list of choices.
+pub type ChoiceList = Sequence<Choice>;
+
+/// Whether each literal is derived.
+fn all_known(s: &Signature, d: &Db, ls: &[Literal]) -> bool
+    ensures { result ≡ list_all (holds (signature_of s.now) (five_of d.now)) (literals_in ls.now) }
+{
+    for l in ls {
+        if !d.known(s, l) {
+            return false;
+        }
+    }
+    true
+}
+
+/// Whether no literal of the formula is derived false, and not each is derived.
+#[tactic(auto, unfolding(pks_terms::specs::Branching::is_undecided))]
+fn is_undecided(s: &Signature, d: &Db, c: &Conj) -> bool
+    ensures { result ≡ is_undecided (signature_of s.now) (five_of d.now) (conj_of c.now) }
+{
+    let literals = front(&c.literals, c.n);
+    !d.some_denied(s, literals) && !all_known(s, d, literals)
+}
+
+/// Appends the instances that are choices.
+fn push_actions(
+    alloc: Global,
+    p: &Problem<'_>,
+    d: &Db,
+    to: &mut Vec<Choice>,
+) -> Result<(), AllocError>
+    requires valid { IsValidProblem p.now }
+    ensures { OnOk result (choices_of to.new.items ≡ choices_of to.old.items ++ map Act (instances (problem_of p.now) (five_of d.now))) }
+{
+    for (i, schema) in p.schemas.as_slice().iter().enumerate() {
+        push_instances(alloc, &p.signature, d, ActId(i as u8), schema, to)?;
+    }
+    Ok(())
+}
+
+/// Appends the undecided formulas of a set.
+#[tactic(auto, using(crate::proofs::Lists::pushing))]
+pub(crate) fn push_branches(
+    s: &Signature,
+    d: &Db,
+    kw: &Kw,
+    to: &mut Vec<Choice>,
+) -> Result<(), AllocError>
+    ensures all { OnOk result (choices_of to.new.items ≡ choices_of to.old.items ++ map BranchOn (filter (is_undecided (signature_of s.now) (five_of d.now)) (formulas_of kw.now))) }
+    ensures ordered { IsOrdered conj_cmp (formulas_of kw.now) }
+{
+    for c in kw.items() {
+        if is_undecided(s, d, c) {
+            to.push(Choice::Branch(*c))?;
+        }
+    }
+    Ok(())
+}
+
+/// Appends the terms of a set with from 1 to 16 objects left.
+#[tactic(auto, using(crate::proofs::Lists::pushing))]
+pub(crate) fn push_cases(
+    alloc: Global,
+    s: &Signature,
+    d: &Db,
+    kv: &Kv,
+    to: &mut Vec<Choice>,
+) -> Result<(), AllocError>
+    requires { length s.now.objects ≤ 65536 }
+    ensures all { OnOk result (choices_of to.new.items ≡ choices_of to.old.items ++ map CasesOn (filter (may_split (signature_of s.now) (five_of d.now)) (terms_of kv.now))) }
+    ensures ordered { IsOrdered term_cmp (terms_of kv.now) }
+{
+    for t in kv.items() {
+        if may_split(alloc, s, d, t)? {
+            to.push(Choice::Cases(*t))?;
+        }
+    }
+    Ok(())
+}
+
+/// All choices at the databases: each instance whose preconditions are answered, each undecided formula, each term with 1 to
+/// 16 objects left; each once, in the order of trees (`docs/RULES.md`, "Choices"). It asks for a valid problem. The error is
+/// want of memory.
+pub fn choices(alloc: Global, p: &Problem<'_>, d: &Db) -> Result<ChoiceList, AllocError>
+    requires valid { IsValidProblem p.now }
+    ensures all { IfOk result (λ cs. choices_of cs ≡ choices (problem_of p.now) (five_of d.now)) }
+    ensures ordered { IfOk result (λ cs. IsOrdered choice_cmp (choices_of cs)) }
+{
+    let five = d.parts();
+    let mut to = Vec::new(alloc);
+    push_actions(alloc, p, d, &mut to)?;
+    push_branches(&p.signature, d, &five.kw, &mut to)?;
+    push_cases(alloc, &p.signature, d, &five.kv, &mut to)?;
+    Ok(Sequence::of(to))
+}

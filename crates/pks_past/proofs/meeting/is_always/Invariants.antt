@@ -1,0 +1,11 @@
+use Rattle.std.proofs.Common.{◌≡◌, drop}
+use Rattle.std.specs.List.{list_all}
+use Rattle.pks_terms.specs.Aims.{moments}
+use Rattle.pks_terms.specs.Queries.{answers}
+use Rattle.pks_terms.specs.Views.{query_of, signature_of}
+use Rattle.pks_past.proofs.meeting.is_always.Given as goal
+
+abbrev pub invariant-loop-moment : goal.invariant-loop-moment
+invariant-loop-moment l =
+    list_all (λ d. answers (signature_of l.s) d (query_of l.q)) (drop l.moment (moments l.h))
+    ≡ list_all (λ d. answers (signature_of l.s) d (query_of l.q)) (moments l.h)

@@ -1,0 +1,66 @@
+//! The best plan of a problem. `docs/RULES.md` has the rules on trees.
+ghost use Rattle.std.specs.Prelude.{◌≡◌, ◌≤◌, [], IfOk, IfSome, option_map};
+ghost use Rattle.pks_terms.specs.Worlds.{World};
+ghost use Rattle.pks_terms.specs.Syntax.{Literal};
+ghost use Rattle.pks_terms.specs.Closure.{Next, Clash, Closes};
+ghost use Rattle.pks_terms.specs.Problems.{initial, IsCompatible};
+ghost use Rattle.pks_terms.specs.Answers.{unjustified};
+ghost use Rattle.pks_terms.specs.Trees.{IsBest};
+ghost use Rattle.pks_terms.specs.Knowledge.{Good};
+ghost use Rattle.pks_terms.specs.ValidProblems.{IsValidProblem};
+ghost use Rattle.pks_terms.specs.Views.{problem_of};
+ghost use Rattle.pks_normal.specs.Fives.{five_of};
+ghost use Rattle.pks_plan.specs.TreeViews.{tree_of};
+ghost use Rattle.pks_terms.specs.Remembering.{RemembersPast};
+
+use crate::rising::best_rising;
+use pks_closing::closing::CloseEnd;
+use pks_failures::failures::Failures;
+use pks_history::histories::History;
+use pks_plan::tree::Tree;
+use pks_query::databases::Db;
+use pks_terms::problem::Problem;
+use std::alloc::{AllocError, Global};
+
+/// The best derived tree of at most this depth, or `None` where there is none (`docs/RULES.md`, "Trees"). In every
+/// compatible world its run is good: it knows what it needs, and ends where the goal is known;
+/// and what its histories know of earlier moments was so then. It asks for a valid problem
+/// whose adds are all justified and whose initial databases don't clash, and for a depth of at most 16. The error is want
+/// of memory.
+pub fn best(alloc: Global, p: &Problem<'_>, depth: u8) -> Result<Option<Tree>, AllocError>
+    requires valid { IsValidProblem p.now }
+    requires depth { depth ≤ 16 }
+    requires justified { unjustified (problem_of p.now) ≡ [] }
+    requires begins { (l : Literal) → Closes (problem_of p.now).signature (initial (problem_of p.now)) (Clash l) → ⊥ }
+    ensures best { IfOk result (λ o. IsBest (problem_of p.now) depth (option_map tree_of o)) }
+    ensures good { IfOk result (λ o. IfSome o (λ t. (w : World) → IsCompatible (problem_of p.now) w → Good (problem_of p.now) (tree_of t) w)) }
+    ensures past { IfOk result (λ o. IfSome o (λ t. RemembersPast (problem_of p.now) (tree_of t))) }
+{
+    match Db::first(alloc, p) {
+        Ok(start) => best_from(alloc, p, start, depth),
+        Err(CloseEnd::Memory) => Err(AllocError),
+        Err(CloseEnd::Clash(_)) => unreachable!(),
+    }
+}
+
+/// The same from the initial databases, closed: so a caller that has closed them needn't do it again. It asks for a valid
+/// problem whose adds are all justified, for a depth of at most 16, and that its initial databases become these by
+/// closing. The error is want of memory.
+pub fn best_from(
+    alloc: Global,
+    p: &Problem<'_>,
+    start: Db,
+    depth: u8,
+) -> Result<Option<Tree>, AllocError>
+    requires valid { IsValidProblem p.now }
+    requires depth { depth ≤ 16 }
+    requires justified { unjustified (problem_of p.now) ≡ [] }
+    requires start { Closes (problem_of p.now).signature (initial (problem_of p.now)) (Next (five_of start)) }
+    ensures best { IfOk result (λ o. IsBest (problem_of p.now) depth (option_map tree_of o)) }
+    ensures good { IfOk result (λ o. IfSome o (λ t. (w : World) → IsCompatible (problem_of p.now) w → Good (problem_of p.now) (tree_of t) w)) }
+    ensures past { IfOk result (λ o. IfSome o (λ t. RemembersPast (problem_of p.now) (tree_of t))) }
+{
+    let h = History::start(alloc, start)?;
+    let mut failures = Failures::new(alloc)?;
+    best_rising(alloc, p, &h, 0, u32::from(depth), 16 * 9_999, &mut failures)
+}

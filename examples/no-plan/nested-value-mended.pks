@@ -1,0 +1,21 @@
+; The same, and the courier notes the room: (note) is a value that an action may take.
+; ./pks plan 5
+(pks 1)
+(domain
+  (types room person)
+  (objects (room r1 r2 r3 r4 r5 r6 r7 r8 r9 r10 r11 r12 r13 r14 r15 r16 r17)
+    (person p1 p2 p3 p4 p5 p6 p7 p8 p9 p10 p11 p12 p13 p14 p15 p16 p17))
+  (predicates (delivered))
+  (functions (here room) (room-of person room) (addressee person) (note room))
+  (action read-label (pre (not-derived (kv (addressee))))
+    (senses (sense-value (addressee))) (knows (kv (addressee))))
+  (action phone (pre (kv (addressee)) (not-derived (kv (room-of (addressee)))))
+    (senses (sense-value (room-of (addressee)))) (knows (kv (room-of (addressee)))))
+  (action write-down (pre (kv (room-of (addressee))) (not-derived (kv (note))))
+    (effects (assign (note) (room-of (addressee))))
+    (knows (kv (note)) (kf (= (note) (room-of (addressee))))))
+  (action go (params (?r room)) (pre (kv (room-of (addressee))) (not-derived (kv (here))))
+    (effects (assign (here) ?r)) (knows (kf (= (here) ?r))))
+  (action deliver (pre (k (= (here) (note))) (k (= (note) (room-of (addressee)))))
+    (effects (set (delivered))) (knows (kf (delivered)))))
+(problem (goal (k (delivered))))

@@ -1,0 +1,5 @@
+; A list isn't closed.
+; ./pks check
+(pks 1)
+(domain (predicates (p)))
+(problem (goal (k (p)))

@@ -1,0 +1,6 @@
+; A name that isn't declared.
+; ./pks check
+(pks 1)
+(domain (types t) (objects (t a b)) (predicates (p t)) (functions (f t)))
+(problem (init (kf (p a))) (goal (k (p a))))
+(world (true (p c)) (values ((f) a)))

@@ -1,0 +1,108 @@
+#!/usr/bin/env python3
+"""Proves the libraries that a program stands on, side by side, and keeps them as `rt lib` does.
+
+    prove.py FOLDER      the program's crate
+
+`rt lib` and `rt run` take one crate after another. This hands the same builds to the scheduler of `rt ci`: a crate is proved
+once those below it are, as many at a time as there are processors and memory, first those with the longest chain above them.
+What is proved stays where rt keeps it, so that `rt run` has the program itself left to do. The first fault ends it.
+"""
+
+import itertools
+import os
+import shutil
+import signal
+import sys
+import tempfile
+import threading
+from importlib.machinery import SourceFileLoader
+from importlib.util import module_from_spec, spec_from_loader
+
+# What this takes of rt.
+NEEDED = ("in_lanes", "need", "rtlib", "share_work")
+
+# The look for faults goes before all proofs.
+LINES_OF_LOOK = 1_000_000
+MEMORY_OF_LOOK = 2_000_000_000
+
+
+def say(text):
+    print(f"pks: {text}", file=sys.stderr, flush=True)
+
+
+def load_rt():
+    """The toolchain's command as a module."""
+    sys.dont_write_bytecode = True
+    loader = SourceFileLoader("rt", os.path.realpath(shutil.which("rt")))
+    module = module_from_spec(spec_from_loader("rt", loader))
+    loader.exec_module(module)
+    return module
+
+
+def end_unless(status, said):
+    """Ends this command, and with it all that it runs, where a step failed: with what the toolchain said of it."""
+    if status:
+        said.seek(0)
+        shutil.copyfileobj(said, sys.stderr)
+        sys.stderr.flush()
+        os._exit(status if 0 < status < 128 else 1)
+
+
+class Proofs:
+    """The proofs of the libraries below a program."""
+
+    def __init__(self, rt, folder):
+        self.rt = rt
+        self.program = rt.rtlib.Crate(folder, rt.rtlib.root_above(folder), {})
+        self.left = [it for it in self.program.below() if not it.is_built()]
+        self.begun, self.done, self.turn = itertools.count(1), itertools.count(1), threading.Lock()
+
+    def tell(self, number, what, crate):
+        with self.turn:
+            say(f"{what} {crate.name}, {next(number)} of {len(self.left)}")
+
+    def prove(self, crate, jobs):
+        self.tell(self.begun, "proving", crate)
+        with tempfile.TemporaryFile("w+", errors="replace") as crate.out:
+            status = crate.build_rlib(["--jobs", str(jobs)], anew=False)
+            end_unless(status, crate.out)
+        self.tell(self.done, "proved", crate)
+
+    def look_for_faults(self):
+        """Compiles all sources without a proof: a fault of the source shows in seconds."""
+        with tempfile.TemporaryFile("w+", errors="replace") as self.program.out:
+            end_unless(self.program.front_end(), self.program.out)
+
+    def tasks(self):
+        """For the scheduler: what each step waits for, its lines, its memory, and the call that does it."""
+        look = [], LINES_OF_LOOK, MEMORY_OF_LOOK, lambda given, jobs: self.look_for_faults()
+        tasks = {(self.program.name, "proof"): look}
+        for crate in self.left:
+            waits = [(it.name, "proof") for it in crate.below() if it in self.left]
+            call = lambda given, jobs, crate=crate: self.prove(crate, jobs)
+            tasks[crate.name, "proof"] = waits, crate.count(rb"\n"), self.rt.need(crate), call
+        return tasks
+
+    def run(self):
+        # (each crate's folder is locked, as by every command of rt)
+        held = self.rt.rtlib.lock([*self.program.below(), self.program])
+        if self.left:
+            self.rt.in_lanes(self.tasks())
+        for it in held:
+            os.close(it)
+
+
+def main(folder):
+    signal.signal(signal.SIGINT, signal.SIG_DFL)
+    rt = load_rt()
+    if not all(hasattr(rt, name) for name in NEEDED):
+        say("this rt isn't of the kit that README.md names, so crates are proved one after another.")
+        return
+    rt.share_work(True)
+    # (what rt starts ends when this does; it has to be called before there are threads)
+    rt.rtlib.guarded()
+    Proofs(rt, os.path.abspath(folder)).run()
+
+
+if __name__ == "__main__":
+    main(*sys.argv[1:])

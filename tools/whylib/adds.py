@@ -1,0 +1,243 @@
+"""Explains 260: the case that an add comes nearest to, and what undoes it."""
+
+
+def queries(names, add, action):
+    """The given queries: those of the add's `if` and of `pre`, without negated ones."""
+    own = add.parts[1].parts if add.head() == 'if' and len(add.parts) > 1 else []
+    return [q for q in list(own) + list(names.section(action, 'pre')) if q.head() != 'not-derived']
+
+
+
+def equal(one, other):
+    """Whether two literals are the same, the sides of an equation in either order."""
+    if one.head() == 'not' and other.head() == 'not':
+        return equal(one.rest()[0], other.rest()[0])
+    if one.head() == other.head() == '=':
+        return {p.text() for p in one.rest()} == {p.text() for p in other.rest()}
+    return one.text() == other.text()
+
+
+def negates(one, other):
+    for a, b in ((one, other), (other, one)):
+        if a.head() == 'not' and b.head() != 'not':
+            return equal(a.rest()[0], b)
+    return False
+
+
+def is_given(literal, given):
+    return any(q.head() == 'k' and equal(q.rest()[0], literal) for q in given)
+
+
+def is_either_way(literal, given):
+    for q in given:
+        if q.head() in ('k', 'kw') and len(q.rest()) == 1:
+            if equal(q.rest()[0], literal) or negates(q.rest()[0], literal):
+                return True
+    return False
+
+
+class Effect:
+    """An effect: what it does, under which conditions."""
+
+    def __init__(self, form):
+        self.form = form
+        self.conditions = form.parts[1].parts if form.head() == 'when' else []
+        target = form.parts[2] if form.head() == 'when' else form
+        self.verb, self.target = target.head(), target.rest()
+
+    def subject(self):
+        return self.target[0].head()
+
+    def sign(self):
+        return {'set': True, 'unset': False, 'clear': False}.get(self.verb)
+
+
+def effects(names, action):
+    found = []
+    for form in names.section(action, 'effects'):
+        try:
+            found.append(Effect(form))
+        except IndexError:
+            pass
+    return found
+
+
+def may_undo(names, early, late, given):
+    """Whether a later effect may undo an earlier one, as the rule has it."""
+    if early.subject() != late.subject():
+        return False
+    if early.verb == 'assign' or late.verb == 'assign':
+        if early.verb != late.verb:
+            return False
+    elif early.sign() == late.sign():
+        return False
+    for a, b in zip(early.target[0].rest(), late.target[0].rest()):
+        if differ(names, a, b, given):
+            return False
+    return True
+
+
+def differ(names, a, b, given):
+    if a.word in names.objects and b.word in names.objects:
+        return a.word != b.word
+    return any(q.head() == 'k' and q.rest()[0].head() == 'not'
+               and q.rest()[0].rest()[0].head() == '='
+               and {p.text() for p in q.rest()[0].rest()[0].rest()} == {a.text(), b.text()}
+               for q in given)
+
+
+def difference(early, late):
+    """The query that would keep a later effect from undoing an earlier one."""
+    for a, b in zip(early.target[0].rest(), late.target[0].rest()):
+        if a.text() != b.text():
+            return f'(k (not (= {a.text()} {b.text()})))'
+    return None
+
+
+def explain(names, add):
+    """What is said of an add that nothing justifies."""
+    action = names.action_of(add)
+    item = add.parts[-1] if add.head() == 'if' else add
+    given = queries(names, add, action)
+    found = effects(names, action)
+    said = [f'The action `{action.parts[1].text()}` tells `{item.text()}`, and nothing in the '
+            'action makes it so whenever it is done.']
+    kinds = {'kf': fact, 'kw': whether, 'kv': value, 'lcw': region}
+    return said + kinds[item.head()](names, action, item, given, found)
+
+
+def wanted(literal):
+    """The effect that would make a literal so."""
+    if literal.head() == 'not':
+        return f'(unset {literal.rest()[0].text()})'
+    if literal.head() == '=':
+        left, right = literal.rest()
+        place, other = (left, right) if left.is_list() else (right, left)
+        return f'(assign {place.text()} {other.text()})'
+    return f'(set {literal.text()})'
+
+
+def makes(effect, literal):
+    """Whether an effect's target is what a literal says."""
+    if literal.head() == '=':
+        return effect.verb == 'assign' and (
+            {t.text() for t in effect.target} == {p.text() for p in literal.rest()})
+    if literal.head() == 'not':
+        return effect.verb == 'unset' and effect.target[0].text() == literal.rest()[0].text()
+    return effect.verb == 'set' and effect.target[0].text() == literal.text()
+
+
+def fact(names, action, item, given, found):
+    literal = item.rest()[0]
+    fitting = [(i, e) for i, e in enumerate(found) if makes(e, literal)]
+    for i, e in fitting:
+        open_conditions = [c for c in e.conditions if not is_given(c, given)]
+        if open_conditions:
+            asks = ' '.join(f'(k {c.text()})' for c in open_conditions)
+            return [f'Nearest: the effect `{e.form.text()}`. It has a condition that needn\'t hold; '
+                    f'the add must ask for it: `(if ({asks}) {item.text()})`, or put `{asks}` into '
+                    '`pre`.']
+        for late in found[i + 1:]:
+            if may_undo(names, e, late, given):
+                return undone(e, late)
+    senses = names.section(action, 'senses')
+    case = 'J2' if literal.head() == '=' else 'J1'
+    said = [f'A `kf` wants an effect that makes it so ({case}): `{wanted(literal)}`. The action\'s '
+            f'effects: {", ".join("`" + e.form.text() + "`" for e in found) or "none"}.']
+    if any(s.head() == 'sense' for s in senses):
+        said.append('What is sensed may come out either way, so it is told by `kw`, not by `kf`.')
+    return said
+
+
+def undone(early, late):
+    said = [f'Nearest: the effect `{early.form.text()}`. The later `{late.form.text()}` may undo '
+            'it, where their arguments are the same objects.']
+    query = difference(early, late)
+    if query:
+        said.append(f'Ask in `pre` that they differ: `{query}`.')
+    else:
+        said.append('Write the later effect first, or leave one out.')
+    return said
+
+
+def whether(names, action, item, given, found):
+    literals = item.rest()
+    senses = names.section(action, 'senses')
+    single = literals[0] if len(literals) == 1 else None
+    atom = None
+    if single is not None:
+        atom = single.rest()[0] if single.head() == 'not' else single
+    effect = [e for e in found if atom is not None and e.verb in ('set', 'unset')
+              and e.target[0].text() == atom.text()]
+    if effect and not senses:
+        return whether_after(names, item, atom, given, found, effect[0])
+    own = ' '.join(p.text() for p in literals)
+    said = [f'A `kw` wants a sense of the same literals (J3): `(senses (sense {own}))`. The '
+            f'action\'s senses: {", ".join("`" + s.text() + "`" for s in senses) or "none"}.']
+    for s in senses:
+        if s.head() == 'sense-all' and atom is not None and s.rest()[0].head() == atom.head():
+            said.append(f'Nearest: `{s.text()}` (J4): its fixed places must have the same terms as '
+                        f'`{atom.text()}`, and where it has `_` the atom must have an object or a '
+                        'parameter.')
+        if s.head() == 'sense' and any(t.text() == l.text() for t in s.rest() for l in literals):
+            said.append(f'Nearest: `{s.text()}` finds whether all of its literals are true '
+                        'together: tell just that, or sense this one alone.')
+    return said
+
+
+def whether_after(names, item, atom, given, found, effect):
+    if not effect.conditions:
+        sign = '' if effect.verb == 'set' else 'not '
+        sure = atom.text() if not sign else f'(not {atom.text()})'
+        return [f'Nearest: the effect `{effect.form.text()}` has no condition, so the fact is known, '
+                f'not only whether: tell `(kf {sure})`.']
+    said = [f'Nearest: the effect `{effect.form.text()}` (J5).']
+    if sum(e.subject() == effect.subject() for e in found) > 1:
+        said.append(f'It must be the only effect on `{effect.subject()}` in this action.')
+    if not is_either_way(atom, given):
+        said.append(f'Where the condition fails, `{atom.text()}` stays as it was; so whether it was '
+                    f'true must be known: `(kw {atom.text()})` in `pre` or in an `if`.')
+    for c in effect.conditions:
+        if not is_either_way(c, given):
+            said.append(f'Whether the condition holds must be known: `(kw {c.text()})` in `pre` or '
+                        'in an `if`.')
+    return said
+
+
+def value(names, action, item, given, found):
+    term = item.rest()[0]
+    for i, e in enumerate(found):
+        if e.verb == 'assign' and e.target[0].text() == term.text():
+            if e.conditions:
+                return [f'Nearest: `{e.form.text()}` (J7), but it has a condition, and where that '
+                        'fails the old value stays. Sense the value: `(sense-value '
+                        f'{term.text()})`.']
+            for late in found[i + 1:]:
+                if may_undo(names, e, late, given):
+                    return undone(e, late)
+            source = e.target[1]
+            return [f'Nearest: `{e.form.text()}` (J7). The assigned value is known only where that '
+                    f'of `{source.text()}` is: `(if ((kv {source.text()})) {item.text()})`, or '
+                    f'`(kv {source.text()})` in `pre`.']
+    senses = names.section(action, 'senses')
+    return [f'A `kv` wants a sense of this value (J6), `(senses (sense-value {term.text()}))`, or '
+            f'an `assign` of a known value to it (J7). The action\'s senses: '
+            f'{", ".join("`" + s.text() + "`" for s in senses) or "none"}.']
+
+
+def region(names, action, item, given, found):
+    pattern = item.rest()[0]
+    for i, e in enumerate(found):
+        if e.verb == 'clear' and e.target[0].text() == pattern.text():
+            if e.conditions:
+                return [f'Nearest: `{e.form.text()}` (J8), but it has a condition.']
+            late = next((l for l in found[i + 1:] if l.verb == 'set'
+                         and l.subject() == pattern.head()), None)
+            if late:
+                return [f'Nearest: `{e.form.text()}` (J8). The later `{late.form.text()}` fills the '
+                        'region again: write it before the `clear`, or make it an action of its own.']
+    said = [f'An `lcw` wants an effect that clears the same pattern (J8): `(clear {pattern.text()})`, '
+            'without a condition and with no `set` on the predicate behind it.']
+    if names.section(action, 'senses'):
+        said.append('Sensing never closes a region: tell `(kw ..)` of each atom that matters.')
+    return said

@@ -1,0 +1,131 @@
+"""What an accepted file may lack, as far as a look at its text tells. Help, and no more."""
+
+from . import adds
+
+MANY = 50
+
+
+def literal_parts(literal):
+    """Of a literal its predicate and sign; None for an equation."""
+    sign = literal.head() != 'not'
+    atom = literal if sign else literal.rest()[0]
+    return None if atom.head() == '=' else (atom.head(), sign)
+
+
+def untold(names):
+    """Effects without a condition whose outcome the action doesn't tell."""
+    for name, action in names.actions.items():
+        told = set()
+        for add in names.section(action, 'knows'):
+            item = add.parts[-1] if add.head() == 'if' else add
+            told.add((item.head(), item.rest()[0].text()))
+            told.update(('any', head) for head in heads(item))
+        for effect in adds.effects(names, action):
+            if not effect.conditions and ('any', effect.subject()) not in told:
+                yield name, effect
+
+
+def heads(item):
+    """All predicates and functions that stand in a form."""
+    found, stack = set(), [item]
+    while stack:
+        form = stack.pop()
+        if form.head():
+            found.add(form.head())
+        stack += form.parts or []
+    return found
+
+
+def start_known(names):
+    """The predicates of which the start tells something, with their signs."""
+    known = set()
+    for form in names.init():
+        if form.head() == 'kf':
+            known.add(literal_parts(form.rest()[0]))
+        elif form.head() in ('kx', 'kw'):
+            for literal in form.rest():
+                part = literal_parts(literal)
+                known.update({part, part and (part[0], not part[1])})
+        elif form.head() == 'lcw':
+            known.add((form.rest()[0].head(), False))
+    return known
+
+
+def learnt(names, action):
+    """What an action may tell or let one learn, predicates with signs."""
+    found = set()
+    for add in names.section(action, 'knows'):
+        item = add.parts[-1] if add.head() == 'if' else add
+        if item.head() == 'kf':
+            found.add(literal_parts(item.rest()[0]))
+        elif item.head() == 'kw':
+            for literal in item.rest():
+                part = literal_parts(literal)
+                found.update({part, part and (part[0], not part[1])})
+        elif item.head() == 'lcw':
+            found.add((item.rest()[0].head(), False))
+    for effect in adds.effects(names, action):
+        if effect.conditions:
+            for literal in effect.conditions:
+                part = literal_parts(literal)
+                found.update({part, part and (part[0], not part[1])})
+            if effect.verb != 'assign':
+                found.update({(effect.subject(), True), (effect.subject(), False)})
+    return found
+
+
+def asked(queries):
+    """The predicates, with signs, that queries `(k ..)` need."""
+    for query in queries:
+        while query.head() in ('at-start', 'always', 'once'):
+            query = query.rest()[0]
+        if query.head() == 'k':
+            part = literal_parts(query.rest()[0])
+            if part:
+                yield part, query
+
+
+def never_known(names):
+    """Queries of the goal, and of actions, that nothing can make known."""
+    known, done, grown = start_known(names), set(), True
+    while grown:
+        grown = False
+        for name, action in names.actions.items():
+            needs = [part for part, _ in asked(names.section(action, 'pre'))]
+            if name not in done and all(part in known for part in needs):
+                done.add(name)
+                known |= learnt(names, action)
+                grown = True
+    goal = [q for part, q in asked(names.section(names.problem, 'goal')) if part not in known]
+    blocked = {name: [q for part, q in asked(names.section(action, 'pre')) if part not in known]
+               for name, action in names.actions.items() if name not in done}
+    return goal, blocked
+
+
+def remarks(names):
+    """What to say of an accepted file; an empty list where nothing stands out."""
+    said = []
+    for name, effect in untold(names):
+        said.append(f'The action `{name}` has the effect `{effect.form.text()}`, and its `knows` '
+                    f'says nothing of `{effect.subject()}`: the agent won\'t know of it. '
+                    f'{cure(effect)}')
+    goal, blocked = never_known(names)
+    for query in goal:
+        said.append(f'The goal asks for `{query.text()}`, and neither the start nor an action that '
+                    'can be reached seems to make it known. If so, there is no plan of any depth.')
+    for name, queries in blocked.items():
+        texts = ', '.join(f'`{q.text()}`' for q in queries)
+        said.append(f'The action `{name}` can never be done, as it seems: nothing makes {texts} '
+                    'known. Is a fact missing in `init`?')
+    return said[:MANY]
+
+
+def cure(effect):
+    target = effect.target[0].text()
+    if effect.verb == 'set':
+        return f'If it should, add `(kf {target})`.'
+    if effect.verb == 'unset':
+        return f'If it should, add `(kf (not {target}))`.'
+    if effect.verb == 'clear':
+        return f'If it should, add `(lcw {target})`.'
+    return f'If it should, add `(kf (= {target} {effect.target[1].text()}))`.'

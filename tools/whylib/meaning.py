@@ -1,0 +1,258 @@
+"""Explains the codes of meaning, 200 to 211, and those of the world, 301 to 311."""
+
+from . import grammar
+from .names import count, is_term, listed, near
+from .shape import FOREIGN
+
+LIMITS = {
+    'types': (16, 'types', 'leave out those that no object needs'),
+    'objects': (64, 'objects', 'in version 2, `(pks 2)`, there may be 256; else leave out those '
+                               'that play no part'),
+    'predicates': (32, 'predicates', 'give one predicate an argument in place of several without'),
+    'functions': (32, 'functions', 'give one function an argument in place of several without'),
+    'domain': (64, 'actions', 'give one action a parameter in place of several without'),
+    'params': (4, 'parameters of an action', 'split the action in two, the first of which leaves '
+                                             'a fact or a value for the second'),
+    'pre': (16, 'preconditions of an action', 'split the action, or set one fact for several'),
+    'effects': (16, 'effects of an action', 'split the action; `clear` unsets many at once'),
+    'senses': (16, 'senses of an action', 'split the action; `sense-all` senses many at once'),
+    'knows': (16, 'adds of an action', 'split the action, or leave out what nothing asks for'),
+    'goal': (16, 'queries of a goal', 'let a last action, whose preconditions are these queries, '
+                                      'set one fact, and ask for that'),
+    'kx': (16, 'literals of a group', 'use a function with these as its values, of which an object '
+                                      'may have any number; or groups of groups'),
+    'kw': (4, 'literals of a formula', 'name a part of it by a predicate of its own'),
+    'sense': (4, 'literals of a sense', 'sense parts of it one by one'),
+    'when': (4, 'literals of a condition', 'name a part of it by a predicate of its own'),
+    'if': (4, 'queries of an `if`', 'put some of them into `pre`'),
+    'predicate': (3, 'arguments of a predicate', 'use two predicates, or a function for one of the '
+                                                 'arguments'),
+    'function': (2, 'arguments of a function', 'use two functions, or one object for a pair'),
+    'cost': (9999, 'cost', 'give all costs in a larger unit'),
+}
+
+
+def undeclared(names, form):
+    """203 and 301."""
+    word = form.word
+    kind, known = kind_of(names, form)
+    said = [f'`{word}` isn\'t declared as {kind} before this place. Declared: {listed(known)}.']
+    close = near(word, known)
+    if close:
+        said.append(f'Is `{close}` meant?')
+    for other, table in (('a predicate', names.predicates), ('a function', names.functions),
+                         ('an object', names.objects), ('a type', names.types)):
+        if word in table and other != kind:
+            said.append(f'There is {other} of that name, but here {kind} is wanted.')
+    if word in FOREIGN:
+        said.append(FOREIGN[word])
+    if word in grammar.QUERIES + grammar.ITEMS and kind == 'a predicate':
+        inner = form.parent.rest()[0].text() if form.parent.rest() else '..'
+        said.append(f'Here stands a literal alone, which is about the world and not about what is '
+                    f'known: write `{inner}`.')
+    return said
+
+
+def kind_of(names, form):
+    """What is wanted where a word stands, and the names of that kind."""
+    parent = form.parent
+    own = grammar.role(parent) if parent is not None and parent.parent is not None else None
+    if own in ('kind', 'objects', 'predicates', 'functions', 'parameter'):
+        return 'a type', names.types
+    if form.index() == 0 and parent.is_list() and own != 'value':
+        if is_term(parent) or is_value_place(parent):
+            return 'a function', names.functions
+        return 'a predicate', names.predicates
+    return 'an object', names.objects
+
+
+def is_value_place(form):
+    """Whether a fact of the world is the place of a value."""
+    return (form.parent is not None and form.parent.parent is not None
+            and form.parent.parent.head() == 'values' and form.index() == 0)
+
+
+def parameter(names, form):
+    """204."""
+    action = names.action_of(form)
+    if action is None:
+        return ['A parameter stands outside of an action, where only objects may stand.']
+    own = names.params(action)
+    name = action.parts[1].text()
+    said = [f'`{form.word}` isn\'t among the params of the action `{name}`, which are: '
+            f'{listed(own)}.']
+    close = near(form.word, own)
+    said.append(f'Is `{close}` meant, or is' if close else 'Is')
+    said[-1] += f' `({form.word} TYPE)` missing in its `params`?'
+    return said
+
+
+def arguments(names, form):
+    """205, and 302 at a list."""
+    if is_value_place(form):
+        kind, types = 'function', names.functions.get(form.head(), ([], None))[0]
+    else:
+        kind, types = names.signature(form)
+    types = types or []
+    declared = '(' + ' '.join([form.head() or '?'] + types) + ')'
+    return [f'`{form.text()}` has {count(len(form.rest()), "argument")}; the {kind} '
+            f'`{form.head()}` has {count(len(types), "argument")}: it is declared as `{declared}`.']
+
+
+def types_of(names, form):
+    """206, and 302 at a word."""
+    parent, action = form.parent, names.action_of(form)
+    own = names.type_of(form, action)
+    if parent.head() == '=':
+        left = parent.parts[1]
+        return [f'The sides of an equation must have one type'
+                + (' (or one type below the other)' if names.version == 2 else '')
+                + f': `{left.text()}` is of type `{names.type_of(left, action)}`, '
+                  f'`{form.text()}` of type `{own}`.']
+    if parent.head() == 'assign' and form.index() == 2:
+        place = parent.parts[1]
+        return [f'`{place.text()}` has values of type `{names.type_of(place, action)}`, and '
+                f'`{form.text()}` is of type `{own}`.']
+    if parent.parts[0].is_list():
+        place = parent.parts[0]
+        return [f'`{place.text()}` has values of type `{names.type_of(place, action)}`, and '
+                f'`{form.text()}` is of type `{own}`.']
+    types = (names.functions.get(parent.head(), ([], None))[0] if is_value_place(parent)
+             else names.signature(parent)[1]) or []
+    at = form.index()
+    wanted = types[at - 1] if at - 1 < len(types) else '?'
+    said = [f'`{form.text()}` is of type `{own}`; argument {at} of `{parent.head()}` must be of '
+            f'type `{wanted}`: it is declared as `({" ".join([parent.head()] + types)})`.']
+    given = [names.type_of(p, action) for p in parent.rest()]
+    if sorted(map(str, given)) == sorted(map(str, types)):
+        said.append('The arguments seem to stand in another order than declared.')
+    if names.version == 1 and wanted in names.types:
+        said.append('In version 1 a type fits itself alone; in version 2 a type may have a parent, '
+                    '`(types thing (item thing))`, and fits it.')
+    return said
+
+
+def height(form):
+    """207."""
+    return [f'`{form.text()}` is too deep: a function may have a value of a function as its '
+            'argument, such as `(f (g a))` or `(f ?x)`, and no deeper; a parameter counts as a '
+            'level.',
+            'Give the inner value a function of its own that an action assigns, or ask for it by a '
+            'literal of its own.']
+
+
+def limit(names, form):
+    """208."""
+    parent = form.parent
+    head = parent.head()
+    own = grammar.role(parent) if parent.parent is not None else None
+    if own in ('predicates', 'functions') and form.index() > 0:
+        key = 'predicate' if own == 'predicates' else 'function'
+    elif own in ('predicates', 'functions', 'objects', 'kind', 'parameter'):
+        key = {'kind': 'types', 'parameter': 'params'}.get(own, own)
+    elif own == 'literals':
+        key = 'when'
+    elif own == 'queries':
+        key = 'if'
+    elif head == 'action' and form.index() == 1:
+        key = 'domain'
+    else:
+        key = head
+    if key not in LIMITS:
+        return ['A limit of docs/FORMAT.md section 3 is passed here.']
+    most, what, cure = LIMITS[key]
+    if key == 'objects' and names.version == 2:
+        most = 256
+    return [f'This is the first one past a limit: there may be {most} {what} at most.' if key != 'cost'
+            else 'A cost may be 9,999 at most.', f'What to do: {cure}.']
+
+
+def group(form):
+    """210."""
+    return [f'`{form.text()}` stands in this group twice. Of a group exactly one member is true, '
+            'and members are counted by their places: take one away.']
+
+
+def wildcards(form):
+    """211."""
+    return [f'A pattern may have two wildcards: in `{form.parent.text()}` write an object or a '
+            'parameter in place of one.']
+
+
+def twice(names, form, text):
+    """202."""
+    first = next((f for f in words_like(names.domain, form)), None)
+    line = f', in line {text.place(first.start)[0]}' if first else ''
+    return [f'`{form.word}` was declared before{line}. Give one of the two another name, or take '
+            'one away.']
+
+
+def words_like(root, form):
+    """Earlier words of the same spelling in the same section and role."""
+    section = form
+    while section.parent is not None and section.parent.head() != 'domain':
+        section = section.parent
+    scope = names_scope(form, section)
+    stack = [scope]
+    while stack:
+        top = stack.pop()
+        if top.word == form.word and top.start < form.start:
+            yield top
+        stack += reversed(top.parts or [])
+
+
+def names_scope(form, section):
+    if grammar.role(form.parent) == 'parameter':
+        return form.parent.parent
+    return section.parent if section.head() == 'action' else section
+
+
+# The world
+
+def missing_values(names):
+    """303."""
+    have = {v.parts[0].text() for v in names.section(names.world, 'values')
+            if v.is_list() and v.parts}
+    lacks = [p for p in names.places() if p not in have]
+    said = [f'The world must give every place a value; without one: {listed(lacks)}.']
+    if lacks:
+        name = lacks[0].strip('()').split(' ')[0]
+        first = next(iter(names.of_type(names.functions[name][1])), 'OBJECT')
+        said.append(f'Add to `values`, for example: `({lacks[0]} {first})`.')
+    return said
+
+
+def item(names, number):
+    """311: what the item is, and why the world breaks it."""
+    items = names.init()
+    if number > len(items):
+        return ['The world breaks an item of `init`.']
+    form = items[number - 1]
+    true = {f.text() for f in names.section(names.world, 'true')}
+    said = [f'Item {number} of `init` is `{form.text()}`, and it isn\'t so in this world.']
+    if form.head() == 'kf':
+        said.append(literal_in_world(form.rest()[0], true))
+    elif form.head() == 'kx':
+        held = [m.text() for m in form.rest() if holds(m, true)]
+        said.append('Of a group exactly one member must be true; true here: '
+                    f'{listed(held)}.')
+    elif form.head() == 'lcw':
+        said.append('Each true atom that meets the pattern must stand in `init` as '
+                    f'`(kf ..)`: look at the atoms of `{form.rest()[0].head()}` in `true`.')
+    return said + ['Change the world, or what `init` says.']
+
+
+def holds(literal, true):
+    """Whether a literal without functions is true where these atoms are."""
+    if literal.head() == 'not':
+        return not holds(literal.rest()[0], true)
+    return literal.text() in true
+
+
+def literal_in_world(literal, true):
+    atom = literal.rest()[0] if literal.head() == 'not' else literal
+    if atom.head() == '=':
+        return 'Look at the values that `values` gives to its terms.'
+    if literal.head() == 'not':
+        return f'`{atom.text()}` must not stand in `true`.'
+    return f'`{atom.text()}` doesn\'t stand in `true`, and what isn\'t listed there is false.'

@@ -1,0 +1,118 @@
+"""What a file declares, and the types of its terms."""
+
+import difflib
+import itertools
+
+
+class Names:
+    """The declarations of a domain, as far as they can be read."""
+
+    def __init__(self, text):
+        self.version = 2 if text.forms and text.forms[0].text() == '(pks 2)' else 1
+        self.types, self.objects, self.predicates, self.functions = {}, {}, {}, {}
+        self.actions = {}
+        self.domain = next((f for f in text.forms if f.head() == 'domain'), None)
+        self.problem = next((f for f in text.forms if f.head() == 'problem'), None)
+        self.world = next((f for f in text.forms if f.head() == 'world'), None)
+        for section in self.domain.parts[1:] if self.domain else []:
+            self.declare(section)
+
+    def declare(self, section):
+        head = section.head()
+        if head == 'action' and len(section.parts) > 1 and section.parts[1].word:
+            self.actions.setdefault(section.parts[1].word, section)
+        for entry in section.parts[1:] if section.is_list() else []:
+            words = [p.word for p in entry.parts if p.word] if entry.is_list() else [entry.word]
+            if not words:
+                continue
+            if head == 'types':
+                self.types.setdefault(words[0], words[1] if len(words) > 1 else None)
+            elif head == 'objects':
+                for name in words[1:]:
+                    self.objects.setdefault(name, words[0])
+            elif head == 'predicates':
+                self.predicates.setdefault(words[0], words[1:])
+            elif head == 'functions':
+                self.functions.setdefault(words[0], (words[1:-1], words[-1]))
+
+    def section(self, form, head):
+        """The parts of a section of a domain, an action, a problem or a world."""
+        for part in form.parts[1:] if form else []:
+            if part.head() == head:
+                return part.rest()
+        return []
+
+    def init(self):
+        return self.section(self.problem, 'init')
+
+    def action_of(self, form):
+        while form is not None and form.head() != 'action':
+            form = form.parent
+        return form
+
+    def params(self, action):
+        """The parameters of an action with their types."""
+        found = {}
+        for p in self.section(action, 'params'):
+            if p.is_list() and len(p.parts) == 2 and p.parts[0].word:
+                found.setdefault(p.parts[0].word, p.parts[1].word)
+        return found
+
+    def fits(self, own, wanted):
+        for _ in range(20):
+            if own == wanted:
+                return True
+            own = self.types.get(own)
+        return False
+
+    def of_type(self, wanted):
+        return [o for o, t in self.objects.items() if self.fits(t, wanted)]
+
+    def type_of(self, form, action):
+        """The type of a term, or None."""
+        if form.word:
+            if form.word.startswith('?'):
+                return self.params(action).get(form.word) if action else None
+            return self.objects.get(form.word)
+        return self.functions.get(form.head(), (None, None))[1]
+
+    def signature(self, form):
+        """Of an atom, pattern or place: 'predicate' or 'function', and the types."""
+        head = form.head()
+        if head in self.predicates and not is_term(form):
+            return 'predicate', self.predicates[head]
+        if head in self.functions:
+            return 'function', self.functions[head][0]
+        if head in self.predicates:
+            return 'predicate', self.predicates[head]
+        return None, None
+
+    def places(self):
+        """Every place of the signature, as texts."""
+        for name, (types, _) in self.functions.items():
+            for values in itertools.product(*(self.of_type(t) for t in types)):
+                yield '(' + ' '.join((name,) + values) + ')'
+
+
+def is_term(form):
+    """Whether a list stands where a term or a place does."""
+    from . import grammar
+    return grammar.role(form) in ('term', 'place')
+
+
+def listed(names, limit=12):
+    names = list(names)
+    if not names:
+        return 'none'
+    more = f' and {len(names) - limit} more' if len(names) > limit else ''
+    return ', '.join(f'`{n}`' for n in names[:limit]) + more
+
+
+def near(word, names):
+    """The name that looks most like a word, or None."""
+    close = difflib.get_close_matches(word, list(names), 1, 0.6)
+    return close[0] if close else None
+
+
+def count(number, what):
+    return f'{number} {what}' + ('' if number == 1 else 's')

@@ -1,0 +1,307 @@
+"""Explains the codes of shape: 120 to 124, and 300 for the world."""
+
+from . import grammar
+from .forms import VAR, gained_parenthesis, lost_parenthesis
+from .names import count, near
+
+FOREIGN = {
+    'and': 'There is no `and`: the parts simply stand one behind the other.',
+    'or': 'There is no `or`. Make two actions of it; of what is exactly one of several, `(kx ..)`.',
+    'forall': 'There is no `forall`. `(clear (p _))` unsets all, `(sense-all (p _))` senses all; '
+              'else write one form for each object.',
+    'exists': 'There is no `exists`: make it a parameter of the action.',
+    'imply': 'There is no `imply`.',
+    'oneof': '`oneof` is `(kx ..)` here, in `init`.',
+    'unknown': 'What isn\'t listed is unknown: leave it out.',
+    'observe': '`observe` is `(sense ..)` in `senses`, with `(kw ..)` in `knows`.',
+    'precondition': '`precondition` is `pre` here, and its parts are queries such as `(k (p))`.',
+    'preconditions': '`preconditions` is `pre` here, and its parts are queries such as `(k (p))`.',
+    'parameters': '`parameters` is `params` here: `(params (?x type) ..)`.',
+    'effect': '`effect` is `effects` here: `(effects (set (p)) ..)`.',
+    'constants': '`constants` is `objects` here, in the domain.',
+    'requirements': 'There is no `requirements`; `(pks 2)` in place of `(pks 1)` gives costs, '
+                    'parents of types and aims over time.',
+    'not-k': 'To ask that something isn\'t known write `(not-derived (k ..))`.',
+    'define': 'There is no `define`: write `(domain ..)` and then `(problem ..)`, without names.',
+}
+
+
+WHERE = {
+    'if': 'in `knows`, and not within another `if`: put all queries into one list',
+    'when': 'in `effects`, and not within another `when`: put all conditions into one list',
+    'not-derived': 'in `pre` and in the list of an `if`, and not within another',
+    'kx': 'in `init`', 'lcw': 'in `knows` and `init`', 'kf': 'in `knows` and `init`',
+    'k': 'in `pre`, in `goal` and in the list of an `if`',
+    'set': 'in `effects`', 'unset': 'in `effects`', 'clear': 'in `effects`',
+    'assign': 'in `effects`', 'sense': 'in `senses`', 'sense-value': 'in `senses`',
+    'sense-all': 'in `senses`', 'at-start': 'in `goal`', 'always': 'in `goal`',
+    'once': 'in `goal`',
+}
+
+
+def shape(text, form, version):
+    """What is said of a form at which the walk over the grammar stopped."""
+    if form is None:
+        return ['The text ends where a form is missing.']
+    if form.parent is None:
+        return top(form)
+    hint = grammar.version_hint(form, version)
+    if hint:
+        return [hint]
+    parts = wrong_number(form)
+    if parts:
+        return parts
+    said = specific(form) or []
+    return said + expected(form, bool(said))
+
+
+def wrong_number(form):
+    """For a list whose head is right at its place: it has too few parts, or too many."""
+    head, heads = form.head(), grammar.allowed(grammar.role(form))
+    if grammar.role(form) == 'section':
+        right = head in grammar.SECTIONS[form.parent.head()] and not grammar.order_fault(form)
+        return number(form) if right else None
+    if heads and head in heads or head in ('=', 'not') and grammar.role(form) == 'literal':
+        return number(form)
+    return None
+
+
+TOPS = ('pks', 'domain', 'problem', 'world', 'define')
+
+
+def top(form):
+    head = form.head()
+    if head in grammar.SHAPES:
+        lacks = lacking(form)
+        return lacks or [f'A list `({head} ..)` is {grammar.SHAPES[head]}.']
+    return [f'`({head} ..)` is incomplete.' if head else 'Here a list must stand.']
+
+
+def lacking(form):
+    """For a list that fails for the number of its parts."""
+    head = form.head()
+    if head == 'problem':
+        heads = [p.head() for p in form.parts[1:]]
+        if 'goal' not in heads:
+            return ['The problem has no `(goal ..)`; it needs one, behind `init`.']
+    return None
+
+
+def expected(form, hinted):
+    kind = grammar.role(form)
+    parent = form.parent
+    if kind == 'section':
+        order = ', '.join(f'`({h} ..)`' for h in grammar.SECTIONS[parent.head()])
+        where = 'the action' if parent.head() == 'action' else f'`{parent.head()}`'
+        return [f'In {where} there may stand, in this order: {order}.']
+    if kind in grammar.EXAMPLES:
+        where = f', in `({parent.head()} ..)`,' if parent.head() else ''
+        return [f'Here{where} there may stand: {grammar.EXAMPLES[kind]}.']
+    return [] if hinted else ['This form isn\'t what the grammar has here.']
+
+
+def specific(form):
+    """A hint for this very form, or None."""
+    kind, head = grammar.role(form), form.head()
+    if grammar.role(form.parent) == 'fact' and form.parent.head() == 'not':
+        return ['A world lists what is true; what isn\'t listed is false, so leave this out.']
+    if kind == 'section' and head in grammar.SECTIONS[form.parent.head()]:
+        return [grammar.order_fault(form)]
+    if kind == 'section' and head and head.lower() in grammar.SECTIONS[form.parent.head()]:
+        return [f'Capital letters count: write `{head.lower()}`.']
+    if head and head.lower() in FOREIGN:
+        return [FOREIGN[head.lower()]]
+    if kind == 'section' and head in WHERE:
+        return belongs(head, [])
+    heads = grammar.allowed(kind)
+    if heads and head:
+        return swapped(form, kind) or belongs(head, heads) or looks_like(form, kind, heads)
+    return literal_hint(form, kind) or word_hint(form, kind) or list_hint(form, kind)
+
+
+def belongs(head, heads):
+    """Where a head may stand that is wrong here, or the head that looks like it."""
+    if head.lower() in heads:
+        return [f'Capital letters count: write `{head.lower()}`.']
+    return [f'`{head}` may stand only {WHERE[head]}.'] if head in WHERE else None
+
+
+def looks_like(form, kind, heads):
+    """For a list that may be a literal, or have a misspelled head."""
+    said = literal_hint(form, kind) or []
+    close = near(form.head(), heads)
+    if close and len(form.head()) > 2:
+        said = [f'Is `{close}` meant in place of `{form.head()}`?'] + said
+    return said or None
+
+
+SWAPS = {('add', 'k'): 'kf', ('item', 'k'): 'kf', ('start', 'k'): 'kf', ('query', 'kf'): 'k',
+         ('plain', 'kf'): 'k', ('aim', 'kf'): 'k', ('sense', 'k'): 'sense',
+         ('sense', 'kw'): 'sense', ('sense', 'kv'): 'sense-value'}
+
+
+def swapped(form, kind):
+    """For a head that has another one's meaning here."""
+    own = SWAPS.get((kind, form.head()))
+    if own is None:
+        return None
+    inner = ' '.join(p.text() for p in form.rest())
+    why = ('`k` asks whether something is known, `kf` tells that it is.'
+           if kind != 'sense' else 'a sense finds out, and `knows` tells of it.')
+    return [f'Here it is `({own} {inner})`: {why}']
+
+
+def literal_hint(form, kind):
+    """Where a literal stands and a query, an effect, a sense or an item should."""
+    head = form.head()
+    if kind in ('query', 'plain', 'aim') and head == 'not':
+        inner = form.rest()[0].text() if form.rest() else '..'
+        return [f'A query is negated as `(not-derived {inner})`: this asks that it isn\'t known. '
+                'To ask that something is known to be false write `(k (not ..))`.']
+    if kind in ('effect', 'target') and head == 'not':
+        inner = form.rest()[0].text() if form.rest() else '..'
+        return [f'To make an atom false write `(unset {inner})`.']
+    if kind == 'atom' and head == 'not':
+        inner = form.rest()[0].text() if form.rest() else '..'
+        return [f'`set` makes true and `unset` makes false: write `(unset {inner})`.']
+    wraps = {'query': 'k', 'plain': 'k', 'aim': 'k', 'effect': 'set', 'target': 'set',
+             'sense': 'sense', 'add': 'kf', 'item': 'kf', 'start': 'kf'}
+    if kind in wraps and grammar.is_literal(form):
+        return [f'A literal alone stands here; write `({wraps[kind]} {form.text()})`.']
+    return None
+
+
+def word_hint(form, kind):
+    """Where a word stands: too few parentheses, or no name."""
+    word = form.word
+    if not word:
+        return None
+    own = grammar.role_of_list(form.parent)
+    if own in ('literals', 'queries'):
+        return [f'One pair of parentheses is missing: `({form.parent.text()})`. Here stands '
+                f'{grammar.EXAMPLES[own]}.']
+    if word == '_':
+        return ['A wildcard stands in patterns alone: in `clear`, `sense-all` and `lcw`.']
+    if word == '-':
+        return ['Types have no `-` before them: `(?x room)`, `(cup item)`; a type with its parent '
+                'is `(room place)`, in version 2.']
+    if kind == 'number':
+        return ['A cost is a number in digits, not `0` and without a leading zero.']
+    if kind == 'name' and own in ('predicates', 'functions') and VAR.match(word):
+        return ['Predicates and functions are declared by types alone: `(in item room)`.']
+    if kind in ('name', 'term') and word[0].isdigit():
+        return [f'`{word}` is no name: a name begins with a letter.']
+    if kind == 'parameter' and own == 'parameter':
+        return ['The parameter stands first, then its type: `(?x room)`.']
+    if kind in ('parameter', 'objects', 'predicates', 'functions'):
+        return ['Each entry stands in parentheses of its own.']
+    if kind in ('fact', 'place', 'atom', 'literal', 'pattern'):
+        return [f'`{word}` needs parentheses of its own: `({word})`, with its arguments if it has '
+                'any.']
+    return None
+
+
+def list_hint(form, kind):
+    """Where a list stands that has another kind or number of parts."""
+    if kind == 'parameter' and '-' in [p.word for p in form.parts]:
+        return [f'A type has no `-` before it: `({form.parts[0].text()} {form.parts[-1].text()})`.']
+    if kind == 'name' and form.parent.head() == 'action' and form.index() == 1:
+        return ['The name of the action is missing: `(action NAME ..)`.']
+    return number(form)
+
+
+def number(form):
+    """For a list with a right head that has the wrong number of parts."""
+    head = form.head()
+    lacks = lacking(form)
+    if lacks:
+        return lacks
+    if head in grammar.SHAPES:
+        said = [f'This list has {count(len(form.rest()), "part")} behind `{head}`; it is '
+                f'{grammar.SHAPES[head]}.']
+        if head in ('k', 'kf', 'set', 'unset') and len(form.rest()) > 1:
+            each = ' '.join(p.text() if p.head() in WHERE else f'({head} {p.text()})'
+                            for p in form.rest())
+            said.append(f'Write one for each: `{each}`.')
+        if head in ('when', 'if') and len(form.rest()) > 2:
+            each = ' '.join(f'({head} {form.parts[1].text()} {p.text()})' for p in form.parts[2:])
+            said.append(f'Write one for each: `{each}`.')
+        return said
+    if form.is_list() and not form.parts:
+        return ['An empty list stands here.']
+    return None
+
+
+def beginning(text, code):
+    """Codes 120 to 123."""
+    heads = [f.head() or '' for f in text.forms]
+    if code == 120:
+        said = ['A file begins with `(pks 1)`, or with `(pks 2)` where it has costs, parents of '
+                'types, aims over time or more than 64 objects.']
+        if heads[:1] == ['pks']:
+            said.insert(0, f'There is no such version: {text.forms[0].text()}.')
+        elif heads[:1] == ['domain']:
+            said.insert(0, 'The version is missing before the domain.')
+        return said + pddl(heads[:1])
+    if code == 121:
+        return ['Behind the version stands `(domain ..)`, without a name.'] + pddl(heads[1:2])
+    if code == 122:
+        said = ['Behind the domain stands `(problem (init ..) (goal ..))`, without a name.']
+        if heads[2:3] == ['action']:
+            said.append('An action stands outside of the domain: the domain was closed too early.')
+        return said + pddl(heads[2:3])
+    return ['Behind the problem there may stand `(world (true ..) (values ..))`, and nothing else.']
+
+
+def pddl(heads):
+    return [FOREIGN['define']] if heads == ['define'] else []
+
+
+def by_indentation(text):
+    """A list that by the indentation lost a parenthesis, and one that gained one; or None."""
+    lost, gained = lost_parenthesis(text), gained_parenthesis(text)
+    if lost and text.begins_line(lost[0]) == 1 and lost[2].head() not in TOPS:
+        return None, None
+    if lost and (not gained or lost[1] <= gained[1]):
+        return lost[:2], None
+    return None, gained
+
+
+def suspect(text):
+    """The line that by the indentation lacks a parenthesis or has one too many, or None."""
+    lost, gained = by_indentation(text)
+    if lost:
+        return previous(text, lost[1])
+    return text.place(gained[0].end - 1)[0] if gained else None
+
+
+def parentheses(text):
+    """What the indentation tells of a parenthesis that is missing or too many."""
+    lost, gained = by_indentation(text)
+    if lost:
+        outer, line = lost
+        start = text.place(outer.start)[0]
+        return [f'By the indentation the list `{opening(text, outer)}` of line {start} lost a `)`: '
+                f'line {line} begins as if it were closed, and it isn\'t. '
+                f'Look at the end of line {previous(text, line)}:',
+                '    ' + text.line(previous(text, line)).strip('\r')]
+    if gained:
+        outer, line = gained
+        start, end = text.place(outer.start)[0], text.place(outer.end - 1)[0]
+        return [f'By the indentation the list `{opening(text, outer)}` of line {start} gained a '
+                f'`)`: line {line} is indented as a part of it, but it was closed in line {end}:',
+                '    ' + text.line(end).strip('\r')]
+    return []
+
+
+def previous(text, line):
+    """The last line before this one that isn't blank or a comment."""
+    line -= 1
+    while line > 1 and (not text.line(line).strip() or text.line(line).strip().startswith(';')):
+        line -= 1
+    return line
+
+
+def opening(text, form):
+    words = [p.word for p in form.parts[:2] if p.word]
+    return '(' + ' '.join(words)
