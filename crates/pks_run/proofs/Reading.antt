@@ -4,6 +4,9 @@ use Rattle.pks_terms.specs.Printed.{Text}
 use Rattle.pks_text.specs.Lines.{line_column_of}
 use Rattle.pks_terms.specs.Answers.{Place, Reading, ReadAs, Faulty, File}
 use Rattle.pks_grammar.specs.Files.{Fault}
+use Rattle.pks_reader.specs.declared.refusal.Refusal.{Refusal}
+use Rattle.pks_reader.specs.declared.refusal.Turned.{Turned}
+use Rattle.pks_reader.specs.declared.refusal.Turned.TheVariants.{Refused, Memory}
 use Rattle.pks_file.specs.Inputs.{line_and_column, IsFaulty, too_long, too_high, refused, IsRead, Reads}
 
 -- as this file alone
@@ -17,6 +20,10 @@ one_fault input fault none same (ReadAs g) r = absurd (none g r)
 one_fault input fault none same (Faulty at code) (byte, other, e) =
     let is : (byte, code) ≡ fault = same (byte, code) other in
     ap (λ a. Faulty a code) e ∙ (λ i. Faulty (line_and_column input (is i).0) (is i).1)
+
+-- a refusal isn't want of memory
+pub isnt_memory : {end : Turned} (r : Refusal) → Refused r ≡ end → end ≡ Memory → ⊥
+isnt_memory r refused memory = let bad : Refused r ≡ Memory = refused ∙ memory in cc
 
 -- an input that is too long is that fault alone
 pub long_file : (input : Text) → 262144 < length input → (g : File) → IsRead input g → ⊥

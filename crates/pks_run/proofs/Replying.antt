@@ -1,5 +1,5 @@
 -- Answers and replies: to a text that was read as a file the answers are the replies to the job, and to a first fault its refusal.
-use Rattle.std.proofs.Common.{◌≡◌, ℕ, true, false, List, [], Some, None, Option, IfSome, inl, inr, refl, sym, ap, ◌∙◌, subst}
+use Rattle.std.proofs.Common.{◌≡◌, ℕ, true, false, List, [], ◌∷◌, Some, None, Option, IfSome, inl, inr, refl, sym, ap, ◌∙◌, subst}
 use Rattle.pks_terms.specs.Jobs.{Job, Check, Plan, Exec, Bench, Recall, Agent, Explain, Derive, Shared, IsInBounds, usage_text}
 use Rattle.pks_terms.specs.Printed.{Text, refusal_text}
 use Rattle.pks_terms.specs.Answers as answers
