@@ -23,7 +23,7 @@ one_fault input fault none same (Faulty at code) (byte, other, e) =
 
 -- a refusal isn't want of memory
 pub isnt_memory : {end : Turned} (r : Refusal) → Refused r ≡ end → end ≡ Memory → ⊥
-isnt_memory r refused memory = let bad : Refused r ≡ Memory = refused ∙ memory in cc
+isnt_memory r this memory = let bad : Refused r ≡ Memory = this ∙ memory in cc
 
 -- an input that is too long is that fault alone
 pub long_file : (input : Text) → 262144 < length input → (g : File) → IsRead input g → ⊥

@@ -1,4 +1,4 @@
-use Rattle.std.proofs.Common.{◌≡◌, sym, subst}
+use Rattle.std.proofs.Common.{◌≡◌, refl, sym, subst}
 use Rattle.pks_reader.specs.Turning.{Turns}
 use Rattle.pks_file.specs.Views.{file_of}
 use Rattle.pks_run.proofs.Reading.{one_file, one_fault, isnt_memory}
@@ -6,7 +6,7 @@ use Rattle.pks_run.proofs.answer.answer.Goals as goal
 
 pub about_file-requires-clause-one : goal.about_file-requires-clause-one
 about_file-requires-clause-one c =
-    one_file c.args.input.now (file_of c.in-Ok.file) (λ g read. sym (c.in-Ok.ensures.only_read g read).0) (λ fault is. (c.in-Ok.ensures.only_faulty fault is).0 tt)
+    one_file c.args.input.now (file_of c.in-Ok.file) (λ g read. sym (c.in-Ok.ensures.only_read g read).0) (λ fault is. (c.in-Ok.ensures.only_faulty fault is).0 refl)
 
 pub about_fault-requires-clause-one : goal.about_fault-requires-clause-one
 about_fault-requires-clause-one c =
