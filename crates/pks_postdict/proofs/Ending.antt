@@ -42,6 +42,7 @@ module _ (p : Problem) (h f g : History) (same : f ≡ h) (end : IsLastFamily p 
       (settled_closed p h (tidied_history g) (settles_at none)).1
 
   pub least_over : HasValues p.signature → clashes p.signature g ≡ false → (k : History) → k ≡ tidied_history g → IsLeastOver p h k
+  unfolding settles_at settles_by
   least_over inhabited none k says = record {
     family = settle_rounds p end.count h;
     says = says ∙ ap tidied_history reached_from;
