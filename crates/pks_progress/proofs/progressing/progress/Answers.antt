@@ -23,7 +23,12 @@ returns-clause-keeps_truth c =
 
 pub returns-clause-arguments_agree : goal.returns-clause-arguments_agree
 returns-clause-arguments_agree c =
-    let p = problem_of c.args.p.now in
-    let d = five_of c.args.d.now in
-    let i = instance_of c.args.i.now in
-    λ w w' m. arguments_alike w w' p d m.values i c.requires.choice
+    λ w w' m. arguments_alike w w' (problem_of c.args.p.now) (five_of c.args.d.now) m.values (instance_of c.args.i.now) c.requires.choice
+
+pub returns-in_err-five-clause-arguments_agree : goal.returns-in_err-five-clause-arguments_agree
+returns-in_err-five-clause-arguments_agree c =
+    λ w w' m. arguments_alike w w' (problem_of c.args.p.now) (five_of c.args.d.now) m.values (instance_of c.args.i.now) c.requires.choice
+
+pub returns-in_err-step-clause-arguments_agree : goal.returns-in_err-step-clause-arguments_agree
+returns-in_err-step-clause-arguments_agree c =
+    λ w w' m. arguments_alike w w' (problem_of c.args.p.now) (five_of c.args.d.now) m.values (instance_of c.args.i.now) c.requires.choice
