@@ -79,11 +79,13 @@ fn best_unmet(
     if failures.tells(h, n, limit) {
         return Ok(None);
     }
-    let found = best_of_choices(alloc, p, h, n - 1, limit, failures)?;
-    if found.is_none() {
-        failures.note(h, n, limit);
+    match best_of_choices(alloc, p, h, n - 1, limit, failures)? {
+        Some(t) => Ok(Some(t)),
+        None => {
+            failures.note(h, n, limit);
+            Ok(None)
+        }
     }
-    Ok(found)
 }
 
 /// The same where the goal isn't met, with `n` for what follows a choice: over the choices in order, where a later tree is

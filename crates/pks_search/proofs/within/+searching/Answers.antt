@@ -16,6 +16,7 @@ use Rattle.pks_plan.specs.TreeViews.{tree_of, chain_of}
 use Rattle.pks_branch.specs.declared.choosing.Choice.TheVariants as choice_is
 use Rattle.pks_branch.specs.ChoiceOrder.{choice_cmp}
 use Rattle.pks_branch.specs.ChoiceViews.{choice_of, side_of}
+use Rattle.pks_failures.specs.Failing.{HasNoTree}
 use Rattle.pks_search.specs.Ready.{IsReady}
 use Rattle.pks_search.specs.Limits.{IsBestWithin, IsCheapBy, IsCheapAmong, IsFoundAmong, IsBestAfter, IsBestTaking, AreBestCheapCases}
 use Rattle.pks_failures.proofs.Costs.{costs_at_most}
@@ -283,8 +284,24 @@ best_within-returns-then-n-eq0-clause-best t c =
     let unmet = sym c.met.ensures ∙ c.if-met.false in
     elim c.then-n-eq0.branch [
       | best_within-then-n-eq0-via-then-n-eq0 w ↦ subst (λ n. IsBestWithin p (At c.args.h.now) n c.args.limit None) (sym w.if-n-eq0.true) (none_at_depth p c.args.h.now c.args.limit unmet)
-      | best_within-then-n-eq0-via-else-n-eq0+then-limit-eq0 w ↦ subst (λ l. IsBestWithin p (At c.args.h.now) c.args.n l None) (sym w.if-limit-eq0.true) (none_at_cost p c.requires.valid.says c.args.h.now c.args.n unmet)
+      | best_within-then-n-eq0-via-else-n-eq0+then-limit-eq0 w ↦ subst (λ l. IsBestWithin p (At c.args.h.now) c.args.n l None) (sym w.if-limit-eq0.true) (none_at_cost p c.requires.ready.valid.says c.args.h.now c.args.n unmet)
     ]
 
 pub best_unmet-returns-then-tells-clause-best : goal.best_unmet-returns-then-tells-clause-best
 best_unmet-returns-then-tells-clause-best t c = c.tells.ensures.told c.if-tells.true (problem_of c.args.p.now) c.requires.ready.valid.says c.requires.right
+
+pub best_unmet-returns-then-tells-clause-right : goal.best_unmet-returns-then-tells-clause-right
+best_unmet-returns-then-tells-clause-right t c = c.tells.ensures.right (problem_of c.args.p.now) c.requires.right
+
+pub best_unmet-best_of_choices-requires : goal.best_unmet-best_of_choices-requires
+best_unmet-best_of_choices-requires t c =
+    let same : c.args.n ≡ c.args.n - 1 + 1 = omega (arith, c.requires.some) in
+    let less : (c.args.n - 1) * 32 + 31 < t = omega (arith, c.decreases, c.requires.some) in
+    (less, (subst (IsReady c.args.p.now c.args.h.now) same c.requires.ready, (c.requires.unmet, c.tells.ensures.right (problem_of c.args.p.now) c.requires.right)))
+
+pub best_unmet-returns-in-None-clause-right : goal.best_unmet-returns-in-None-clause-right
+best_unmet-returns-in-None-clause-right t c =
+    let p = problem_of c.args.p.now in
+    let same : c.args.n - 1 + 1 ≡ c.args.n = omega (arith, c.requires.some) in
+    let none : IsBestWithin p (At c.args.h.now) (c.args.n - 1 + 1) c.args.limit None = subst (λ o. IsBestWithin p (At c.args.h.now) (c.args.n - 1 + 1) c.args.limit (option_map tree_of o)) c.in-None.is c.in_ok-t.ensures.best in
+    c.note.ensures p (subst (λ k. HasNoTree p c.args.h.now k c.args.limit) same none) c.in_ok-t.ensures.right
