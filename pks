@@ -36,7 +36,7 @@ fail() {
 }
 
 build() {
-    say "proving and building the program: up to half an hour from nothing on four cores. Later calls run it at once."
+    say "proving and building the program: half an hour to an hour from nothing on four cores. Later calls run it at once."
     say "./pks try WORDS < FILE runs it unproved, in about a minute."
     rm -f "$program"
     python3 "$top/tools/prove.py" "$crate" </dev/null || fail
