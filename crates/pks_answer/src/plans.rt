@@ -7,7 +7,7 @@ ghost use Rattle.pks_terms.specs.Printed.{tree_text, run_text, bench_text, none_
 ghost use Rattle.pks_world.specs.Contents.{world_of};
 ghost use Rattle.pks_normal.specs.Fives.{five_of};
 ghost use Rattle.pks_plan.specs.TreeViews.{tree_of};
-ghost use Rattle.pks_answer.specs.Objections.{Begins};
+ghost use Rattle.pks_answer.specs.Accepting.{Begins};
 ghost use Rattle.pks_answer.specs.Replies.{Plans};
 
 use crate::reply::Verdict;

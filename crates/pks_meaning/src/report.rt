@@ -1,18 +1,20 @@
 //! The least fault of meaning so far.
-ghost use Rattle.std.specs.Prelude.{◌≡◌, ℕ, List, [], ◌∷◌, None, if◌then◌else◌};
+ghost use Rattle.std.specs.Prelude.{◌≡◌, ℕ, List, [], ◌∷◌, None, IfSome, if◌then◌else◌};
+ghost use Rattle.pks_grammar.specs.Refusals.{IsPlain, refusing};
 ghost use Rattle.pks_meaning.specs.Tables.{too_long};
 ghost use Rattle.pks_meaning.specs.Meaning.{is_before, noted, all_noted};
 ghost use Rattle.pks_meaning.specs.Views.{found_of};
 
-use pks_grammar::report::Fault;
+use pks_grammar::report::Refusal;
 
-/// The least fault so far.
-#[derive(Clone, Copy, Debug)]
+/// The refusal of the least fault so far, which says nothing but its place and its code.
+#[derive(Clone, Copy)]
 pub struct Report {
-    pub least: Option<Fault>,
+    least: Option<Refusal>,
+    ghost plain: { IfSome least IsPlain },
 }
 
-fn is_before(f: Fault, g: Fault) -> bool
+fn is_before(f: Refusal, g: Refusal) -> bool
     ensures { result ≡ is_before (f.at, f.code) (g.at, g.code) }
 {
     f.at < g.at || (f.at == g.at && f.code < g.code)
@@ -26,11 +28,18 @@ impl Report {
         Report { least: None }
     }
 
+    /// The refusal of the least fault, where one was found.
+    pub fn refusal(&self) -> Option<Refusal>
+        ensures { result ≡ refusing (found_of self.now) }
+    {
+        self.least
+    }
+
     /// Keeps the fault where it comes before the one that was kept.
     pub fn note(&mut self, at: u32, code: u16)
         ensures { found_of self.new ≡ noted (found_of self.old) (at, code) }
     {
-        let fault = Fault { at, code };
+        let fault = Refusal::plain(at, code);
         match self.least {
             None => self.least = Some(fault),
             Some(other) => {

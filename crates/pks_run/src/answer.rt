@@ -11,9 +11,9 @@ ghost use Rattle.pks_run.specs.Answer.{IsReplyTo};
 ghost use Rattle.pks_run.specs.Replied.{status_for};
 
 use crate::status::Status;
-use pks_answer::line::{Place, refusal_line};
+use pks_answer::line::refusal_line;
 use pks_answer::reply::{Verdict, reply_about};
-use pks_file::{InputFile, place, read_file};
+use pks_file::{InputFile, read_file};
 use pks_reader::{Refusal, Turned};
 use pks_words::Job;
 use std::alloc::{AllocError, Global};
@@ -29,16 +29,6 @@ fn status_for(verdict: Verdict) -> Status
     }
 }
 
-// The line of a refusal of an input.
-fn refusal_of(alloc: Global, input: &[u8], r: Refusal) -> Result<Vec<u8>, AllocError>
-    requires { length input.now ≤ 262144 }
-    ensures { IfOk result (λ text. text.items ≡ refusal_text (refusal (line_and_column input.now r.at) r.code [])) }
-{
-    let (line, column) = place(input, r.at);
-    let text = refusal_line(alloc, Place { line, column }, r.code, "")?;
-    Ok(text)
-}
-
 // What is answered to words that ask for no job.
 pub fn usage(alloc: Global) -> Result<Vec<u8>, AllocError>
     ensures { IfOk result (λ text. text.items ≡ usage_text modes) }
@@ -47,11 +37,11 @@ pub fn usage(alloc: Global) -> Result<Vec<u8>, AllocError>
     Ok(text)
 }
 
-// What is answered to an input of too many bytes.
+// What is answered to an input of too many bytes, at the first of them.
 pub fn too_long(alloc: Global) -> Result<Vec<u8>, AllocError>
-    ensures { IfOk result (λ text. text.items ≡ refusal_text (refusal (record { line = 1; column = 1 }) 100 [])) }
+    ensures { IfOk result (λ text. text.items ≡ refusal_text (refusal (line_and_column [] 0) 100 [])) }
 {
-    let text = refusal_line(alloc, Place { line: 1, column: 1 }, 100, "")?;
+    let text = refusal_line(alloc, &[], Refusal::plain(0, 100), "")?;
     Ok(text)
 }
 
@@ -86,7 +76,7 @@ fn about_fault(
     requires one { (x : Reading) → Reads input.now x → x ≡ Faulty (line_and_column input.now r.at) r.code }
     ensures { IfOk result (λ a. (given : Text) → text_for (job_of job) given ≡ input.now → IsReplyTo (job_of job) given a.0 a.1.items) }
 {
-    let text = refusal_of(alloc, input, r)?;
+    let text = refusal_line(alloc, input, r, "")?;
     Ok((Status::Refused, text))
 }
 
