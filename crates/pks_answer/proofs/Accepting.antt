@@ -10,7 +10,7 @@ use Rattle.pks_terms.specs.Answers.{Stated, NoWorld, BadWorld, GivenWorld, File,
 use Rattle.pks_grammar.specs.declared.report.Turned.{Turned}
 use Rattle.pks_grammar.specs.declared.report.Turned.TheVariants.{Refused, Memory}
 use Rattle.pks_laws.proofs.Unique.{closes_one}
-use Rattle.pks_world.specs.declared.world.World.{World}
+use Rattle.pks_world.specs.declared.worlds.World.{World}
 use Rattle.pks_file.specs.declared.input.InputFile.{InputFile}
 use Rattle.pks_file.specs.Views.{file_of}
 use Rattle.pks_answer.specs.Accepting.{printed_of, IfRefused, RefusesFirst, IsFaultless, IsUnbroken, IsFit, Begins, Accepts}

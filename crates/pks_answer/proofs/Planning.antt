@@ -8,7 +8,7 @@ use Rattle.pks_terms.specs.Jobs.{Plan, Exec, Bench}
 use Rattle.pks_terms.specs.Printed.{Text, nodes_of, tree_text, run_text, bench_text}
 use Rattle.pks_terms.specs.Answers.{Stated, GivenWorld, File, RefusesFile, NoneApplies}
 use Rattle.pks_world.specs.Contents.{world_of}
-use Rattle.pks_world.specs.declared.world.World.{World}
+use Rattle.pks_world.specs.declared.worlds.World.{World}
 use Rattle.pks_bench.proofs.Sizes.{plans_small}
 use Rattle.pks_answer.specs.declared.reply.Verdict.{Verdict}
 use Rattle.pks_answer.specs.declared.reply.Verdict.TheVariants.{Done, NoPlan, Refused}

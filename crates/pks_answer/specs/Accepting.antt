@@ -13,7 +13,7 @@ use Rattle.pks_grammar.specs.declared.report.Refusal.{Refusal}
 use Rattle.pks_grammar.specs.declared.report.Turned.{Turned}
 use Rattle.pks_grammar.specs.declared.report.Turned.TheVariants.{Refused, Memory}
 use Rattle.pks_world.specs.Contents.{world_of}
-use Rattle.pks_world.specs.declared.world.World.{World}
+use Rattle.pks_world.specs.declared.worlds.World.{World}
 use Rattle.pks_file.specs.declared.input.InputFile.{InputFile}
 use Rattle.pks_file.specs.Inputs.{line_and_column}
 use Rattle.pks_file.specs.Views.{file_of}

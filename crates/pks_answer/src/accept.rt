@@ -10,14 +10,14 @@ ghost use Rattle.pks_file.specs.Views.{file_of, IsWhole};
 ghost use Rattle.pks_answer.specs.Accepting.{printed_of, IfRefused, RefusesFirst, RefusesAnyRun, Begins, IsUnbroken, IsFit, IsRunIn, Accepts};
 
 use pks_closing::closing::CloseEnd;
-use pks_exec::compatible::compatible;
+use pks_exec::compatible;
 use pks_file::{InputFile, add_at, init_at, problem_at, stated_world, world_at};
 use pks_justify::{Unjustified, justify};
 use pks_query::databases::Db;
 use pks_reader::{Extra, Refusal, Turned};
 use pks_terms::ids::ItemNo;
 use pks_words::Job;
-use pks_world::world::World;
+use pks_world::World;
 use std::alloc::Global;
 
 /// What a job about an accepted file is done with.

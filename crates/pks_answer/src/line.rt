@@ -8,7 +8,7 @@ ghost use Rattle.pks_file.specs.Views.{IsWhole};
 ghost use Rattle.pks_answer.specs.Accepting.{rest_of, printed_of};
 
 use pks_file::{InputFile, place};
-use pks_plan::names::action_name;
+use pks_plan::action_name;
 use pks_reader::{Extra, Refusal};
 use pks_terms::ids::{ActId, ItemNo};
 use pks_terms::problem::Problem;
@@ -64,11 +64,7 @@ fn rest(alloc: Global, p: &Problem<'_>, extra: Extra) -> Result<String, AllocErr
 }
 
 /// The line that refuses a file.
-pub(crate) fn file_line(
-    alloc: Global,
-    f: &InputFile<'_>,
-    r: Refusal,
-) -> Result<Vec<u8>, AllocError>
+pub(crate) fn file_line(alloc: Global, f: &InputFile<'_>, r: Refusal) -> Result<Vec<u8>, AllocError>
     requires { IsWhole f.now }
     ensures { IfOk result (λ text. text.items ≡ refusal_text (printed_of f.now r)) }
 {

@@ -12,14 +12,12 @@ ghost use Rattle.pks_answer.specs.Replies.{Plans};
 
 use crate::reply::Verdict;
 use pks_bench::bench_line;
-use pks_exec::exec::exec;
-use pks_exec::print::print_run;
-use pks_plan::body::print_tree;
-use pks_plan::tree::Tree;
+use pks_exec::{exec, print_run};
+use pks_plan::{Tree, print_tree};
 use pks_query::databases::Db;
 use pks_search::searching::best_from;
 use pks_terms::problem::Problem;
-use pks_world::world::World;
+use pks_world::World;
 use std::alloc::{AllocError, Global};
 
 // The depth to which the generated file is planned.

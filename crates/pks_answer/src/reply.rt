@@ -14,7 +14,7 @@ use crate::plans::{bench, plan, plan_and_run};
 use pks_file::InputFile;
 use pks_reader::Turned;
 use pks_words::Job;
-use pks_world::world::World;
+use pks_world::World;
 use std::alloc::{AllocError, Global};
 
 /// What a reply says of the job.
@@ -70,11 +70,7 @@ fn concluded(
 }
 
 /// The reply to a job about the file.
-fn replied(
-    alloc: Global,
-    job: Job,
-    f: &InputFile<'_>,
-) -> Result<(Verdict, Vec<u8>), AllocError>
+fn replied(alloc: Global, job: Job, f: &InputFile<'_>) -> Result<(Verdict, Vec<u8>), AllocError>
     requires whole { IsWhole f.now }
     requires bounds { IsInBounds (job_of job) }
     requires about { IsAbout (job_of job) f.now.source.now }

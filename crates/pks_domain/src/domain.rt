@@ -35,7 +35,10 @@ pub struct Domain<'s> {
 }
 
 #[tactic(auto, using(crate::proofs::Steps::types_few))]
-fn first_types<'s>(alloc: Global, forms: &[Form<'s>]) -> Result<(Types<'s>, Option<Refusal>), Memory>
+fn first_types<'s>(
+    alloc: Global,
+    forms: &[Form<'s>],
+) -> Result<(Types<'s>, Option<Refusal>), Memory>
     ensures table { IfOk result (λ r. names_of r.0 ≡ types_in (forms_view forms.now)) }
     ensures few { IfOk result (λ r. length (names_of r.0) ≤ 16) }
     ensures refusal { IfOk result (λ r. r.1 ≡ refusing (least (types_section (forms_view forms.now)))) }

@@ -27,7 +27,7 @@ use pks_meaning::report::Report;
 use pks_meaning::scope::{Declared, Scope};
 use pks_terms::problem::Problem;
 use pks_text::{Form, Forms, place_of};
-use pks_world::world::World;
+use pks_world::World;
 use std::alloc::Global;
 
 // The refusal of the world for a fault of its own.

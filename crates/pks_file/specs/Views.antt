@@ -9,7 +9,7 @@ use Rattle.pks_stated.specs.Spans.{named_of}
 use Rattle.pks_grammar.specs.Refusals.{Turns}
 use Rattle.pks_grammar.specs.declared.report.Turned.{Turned}
 use Rattle.pks_world.specs.Contents.{world_of}
-use Rattle.pks_world.specs.declared.world.World.{World}
+use Rattle.pks_world.specs.declared.worlds.World.{World}
 use Rattle.pks_facts.specs.Stated.{declared_by}
 use Rattle.pks_file.specs.declared.input.InputFile.{InputFile}
 use Rattle.pks_file.specs.Inputs.{line_and_column, file_in}

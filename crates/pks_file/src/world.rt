@@ -8,7 +8,7 @@ ghost use Rattle.pks_file.specs.Views.{file_of, stated_as, IsWhole, IsBadWorld};
 use crate::input::InputFile;
 use pks_reader::{Turned, read_world};
 use pks_text::{Form, Forms};
-use pks_world::world::World;
+use pks_world::World;
 use std::alloc::Global;
 
 /// The form of the world, which is the fourth.
