@@ -1,19 +1,21 @@
 -- From the acceptance of a file to that no refusal applies, and from parts of a refusal to the whole.
-use Rattle.std.proofs.Common.{◌≡◌, ℕ, List, [], ◌∷◌, ◌⊎◌, inl, inr, Option, sym, ◌∙◌}
+use Rattle.std.proofs.Common.{◌≡◌, ℕ, List, [], ◌∷◌, ◌⊎◌, inl, inr, Option, Some, None, Result, Ok, Err, OnOk, IfOk, IfErr, sym, ap, subst, ◌∙◌}
 use Rattle.pks_terms.specs.Databases.{Five}
 use Rattle.pks_terms.specs.Syntax.{Literal}
 use Rattle.pks_terms.specs.Closure.{Next, Clash}
 use Rattle.pks_terms.specs.Problems.{Problem, initial}
 use Rattle.pks_terms.specs.Jobs.{Job, Check, Plan, Exec, Bench, Recall, Agent, Explain, Derive, Shared}
 use Rattle.pks_terms.specs.Printed as printed
-use Rattle.pks_terms.specs.Answers.{Stated, NoWorld, BadWorld, GivenWorld, File, unjustified, RefusesAdd, RefusesStart, RefusesWorld, RefusesRun, RefusesFor, NoneApplies, RefusesFile}
+use Rattle.pks_terms.specs.Answers.{Stated, NoWorld, BadWorld, GivenWorld, File, refusal, unjustified, RefusesAdd, RefusesStart, RefusesWorld, RefusesRun, RefusesFor, NoneApplies, RefusesFile}
+use Rattle.pks_grammar.specs.declared.report.Extra.{Extra}
 use Rattle.pks_grammar.specs.declared.report.Turned.{Turned}
 use Rattle.pks_grammar.specs.declared.report.Turned.TheVariants.{Refused, Memory}
 use Rattle.pks_laws.proofs.Unique.{closes_one}
 use Rattle.pks_world.specs.declared.worlds.World.{World}
 use Rattle.pks_file.specs.declared.input.InputFile.{InputFile}
-use Rattle.pks_file.specs.Views.{file_of}
-use Rattle.pks_answer.specs.Accepting.{printed_of, IfRefused, RefusesFirst, IsFaultless, IsUnbroken, IsFit, Begins, Accepts}
+use Rattle.pks_file.specs.Inputs.{line_and_column}
+use Rattle.pks_file.specs.Views.{file_of, stated_as, IsBadWorld}
+use Rattle.pks_answer.specs.Accepting.{rest_of, printed_of, IfRefused, RefusesFirst, RefusesAnyRun, IsFaultless, IsUnbroken, IsFit, Begins, Accepts}
 
 -- ---- what doesn't apply
 
@@ -83,3 +85,31 @@ first_refuses j f e refused = refused_as f (RefusesFirst (file_of f)) (RefusesFi
 pub world_refuses : (j : Job) (f : InputFile) (d : Five) (e : Turned) → Begins (file_of f).problem d → IfRefused f (RefusesFor j (file_of f)) e → IfRefused f (RefusesFile j (file_of f)) e
 world_refuses j f d e begins refused =
     refused_as f (RefusesFor j (file_of f)) (RefusesFile j (file_of f)) e (λ r a. inr (no_add (file_of f) begins.justified, inr (no_clash (file_of f) d begins, a))) refused
+
+-- ---- the world of a file
+
+stated_faultless : (w : Option World) (s : Stated) → s ≡ stated_as w → IsFaultless s
+stated_faultless None s e = subst IsFaultless (sym e) tt
+stated_faultless (Some v) s e = subst IsFaultless (sym e) tt
+
+bad_world : (f : InputFile) (e : Turned) → IsBadWorld f e → IfRefused f (RefusesWorld (file_of f) (file_of f).world) e
+bad_world f (Refused r) bad =
+    subst (λ (w : Stated). RefusesWorld (file_of f) w (printed_of f r)) (sym bad.0) (ap (λ (x : Extra). refusal (line_and_column f.source.now r.at) r.code (rest_of (file_of f).names x)) bad.1)
+bad_world f Memory bad = tt
+
+-- the world that was read has no fault, or is refused for it
+pub sound_fits : (f : InputFile) (r : Result (Option World) Turned) → IfOk r (λ w. (file_of f).world ≡ stated_as w) → OnOk r (IsFaultless (file_of f).world)
+sound_fits f (Ok w) says = stated_faultless w (file_of f).world says
+sound_fits f (Err e) says = tt
+
+pub sound_refused : (f : InputFile) (r : Result (Option World) Turned) → IfErr r (IsBadWorld f) → IfErr r (IfRefused f (RefusesWorld (file_of f) (file_of f).world))
+sound_refused f (Ok w) bad = tt
+sound_refused f (Err e) bad = bad_world f e bad
+
+pub any_world : (r : Result (Option World) Turned) → IfOk r (λ w. Unit {0})
+any_world (Ok w) = tt
+any_world (Err e) = tt
+
+-- so a run is refused, too
+pub run_refuses : (f : InputFile) (e : Turned) → IsBadWorld f e → IfRefused f (RefusesAnyRun (file_of f)) e
+run_refuses f e bad = refused_as f (RefusesWorld (file_of f) (file_of f).world) (RefusesAnyRun (file_of f)) e (λ r a. inl a) (bad_world f e bad)

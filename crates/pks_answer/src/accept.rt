@@ -2,12 +2,12 @@
 ghost use Rattle.std.specs.Prelude.{◌≡◌, ◌++◌, [], codes, decimal, OnOk, IfOk, IfErr};
 ghost use Rattle.pks_terms.specs.Printed.{name_in};
 ghost use Rattle.pks_terms.specs.Views.{problem_of};
-ghost use Rattle.pks_terms.specs.Answers.{GivenWorld, refusal, RefusesFor, RefusesFile};
+ghost use Rattle.pks_terms.specs.Answers.{GivenWorld, refusal, RefusesWorld, RefusesFor, RefusesFile};
 ghost use Rattle.pks_world.specs.Contents.{world_of};
 ghost use Rattle.pks_normal.specs.Fives.{five_of};
 ghost use Rattle.pks_words.specs.JobViews.{job_of};
 ghost use Rattle.pks_file.specs.Views.{file_of, IsWhole};
-ghost use Rattle.pks_answer.specs.Accepting.{printed_of, IfRefused, RefusesFirst, RefusesAnyRun, Begins, IsUnbroken, IsFit, IsRunIn, Accepts};
+ghost use Rattle.pks_answer.specs.Accepting.{printed_of, IfRefused, RefusesFirst, RefusesAnyRun, Begins, IsFaultless, IsUnbroken, IsFit, IsRunIn, Accepts};
 
 use pks_closing::closing::CloseEnd;
 use pks_exec::compatible;
@@ -101,6 +101,15 @@ fn run_world(alloc: Global, f: &InputFile<'_>) -> Result<World, Turned>
     }
 }
 
+/// The world that the file states, where it has no fault.
+fn sound_world(alloc: Global, f: &InputFile<'_>) -> Result<Option<World>, Turned>
+    requires { IsWhole f.now }
+    ensures fits { OnOk result (IsFaultless (file_of f.now).world) }
+    ensures refused { IfErr result (IfRefused f.now (RefusesWorld (file_of f.now) (file_of f.now).world)) }
+{
+    stated_world(alloc, f)
+}
+
 /// The world that a job asks for.
 fn world_for(alloc: Global, job: Job, f: &InputFile<'_>) -> Result<Option<World>, Turned>
     requires { IsWhole f.now }
@@ -109,8 +118,8 @@ fn world_for(alloc: Global, job: Job, f: &InputFile<'_>) -> Result<Option<World>
     ensures refused { IfErr result (IfRefused f.now (RefusesFor (job_of job) (file_of f.now))) }
 {
     match job {
-        Job::Check => stated_world(alloc, f),
-        Job::Plan(_) => stated_world(alloc, f),
+        Job::Check => sound_world(alloc, f),
+        Job::Plan(_) => sound_world(alloc, f),
         Job::Exec(_) => match run_world(alloc, f) {
             Ok(w) => Ok(Some(w)),
             Err(turned) => Err(turned),
