@@ -65,7 +65,7 @@ fn place_at(top: &[Form<'_>], i: usize) -> u32
 }
 
 // The world that a list states, which has the shape of one.
-#[tactic(auto, unfolding(crate::specs::Stated::contents_fault), using(crate::proofs::Refused::this_found, crate::proofs::Refused::this_plain))]
+#[tactic(auto, unfolding(crate::specs::Stated::contents_fault), using(crate::proofs::Refused::this_found, crate::proofs::Refused::this_plain, pks_grammar::proofs::Refusing::none_refused))]
 fn stated(
     alloc: Global,
     p: &Problem<'_>,
@@ -143,7 +143,7 @@ fn declared(
 ///
 /// `Refused` has the first fault of the file's world, and comes exactly where there is one, unless memory is wanting: 310
 /// where there is no world, 300 for its shape, then 301, 302 and 304 for its facts, and then 303. `docs/FORMAT.md`.
-#[tactic(auto, unfolding(crate::specs::Stated::world_fault, crate::specs::Stated::world_by), using(crate::proofs::Refused::this_found, crate::proofs::Refused::this_plain))]
+#[tactic(auto, unfolding(crate::specs::Stated::world_fault, crate::specs::Stated::world_by), using(crate::proofs::Refused::this_found, crate::proofs::Refused::this_plain, pks_grammar::proofs::Refusing::none_refused))]
 pub fn read_world(alloc: Global, p: &Problem<'_>, forms: &Forms<'_>) -> Result<World, Turned>
     requires valid { IsValidSignature (signature_of p.now.signature) }
     requires stated { signature_of p.now.signature ≡ signature_in (declared_by (map form_view forms.now.top.items)) }

@@ -31,7 +31,7 @@ use pks_text::{Form, Forms, forms};
 use std::alloc::Global;
 
 // The problem that a domain and a problem of the grammar state, or their first fault of meaning.
-#[tactic(auto, using(pks_facts::proofs::Refused::this_found, pks_facts::proofs::Refused::this_plain))]
+#[tactic(auto, using(pks_facts::proofs::Refused::this_found, pks_facts::proofs::Refused::this_plain, pks_grammar::proofs::Refusing::none_refused))]
 fn meant<'s>(
     alloc: Global,
     version: Version,
@@ -69,7 +69,7 @@ fn form_at<'f, 's>(top: &'f [Form<'s>], i: usize) -> &'f Form<'s>
 /// `docs/FORMAT.md` says. `forms` are those that `source` spells, which has at most 262,144 bytes.
 ///
 /// `Refused` comes exactly where there is a fault, and the problem is valid; `Memory` may come at any forms.
-#[tactic(auto, using(pks_facts::proofs::Refused::this_found, pks_facts::proofs::Refused::this_plain))]
+#[tactic(auto, using(pks_facts::proofs::Refused::this_found, pks_facts::proofs::Refused::this_plain, pks_grammar::proofs::Refusing::none_refused))]
 pub fn problem_of<'s>(
     alloc: Global,
     source: &'s str,

@@ -29,6 +29,15 @@ fn status_for(verdict: Verdict) -> Status
     }
 }
 
+// The line of a refusal of an input, which says nothing but its place and its code.
+fn refusal_of(alloc: Global, input: &[u8], r: Refusal) -> Result<Vec<u8>, AllocError>
+    requires { length input.now ≤ 262144 }
+    ensures { IfOk result (λ text. text.items ≡ refusal_text (refusal (line_and_column input.now r.at) r.code [])) }
+{
+    let text = refusal_line(alloc, input, r, "")?;
+    Ok(text)
+}
+
 // What is answered to words that ask for no job.
 pub fn usage(alloc: Global) -> Result<Vec<u8>, AllocError>
     ensures { IfOk result (λ text. text.items ≡ usage_text modes) }
@@ -41,7 +50,7 @@ pub fn usage(alloc: Global) -> Result<Vec<u8>, AllocError>
 pub fn too_long(alloc: Global) -> Result<Vec<u8>, AllocError>
     ensures { IfOk result (λ text. text.items ≡ refusal_text (refusal (line_and_column [] 0) 100 [])) }
 {
-    let text = refusal_line(alloc, &[], Refusal::plain(0, 100), "")?;
+    let text = refusal_of(alloc, &[], Refusal::plain(0, 100))?;
     Ok(text)
 }
 
@@ -76,7 +85,7 @@ fn about_fault(
     requires one { (x : Reading) → Reads input.now x → x ≡ Faulty (line_and_column input.now r.at) r.code }
     ensures { IfOk result (λ a. (given : Text) → text_for (job_of job) given ≡ input.now → IsReplyTo (job_of job) given a.0 a.1.items) }
 {
-    let text = refusal_line(alloc, input, r, "")?;
+    let text = refusal_of(alloc, input, r)?;
     Ok((Status::Refused, text))
 }
 
