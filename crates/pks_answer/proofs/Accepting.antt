@@ -2,12 +2,18 @@
 use Rattle.std.proofs.Common.{◌≡◌, ℕ, List, [], ◌∷◌, ◌⊎◌, inl, inr, Option, Some, None, Result, Ok, Err, OnOk, IfOk, IfErr, sym, ap, subst, ◌∙◌}
 use Rattle.pks_terms.specs.Databases.{Five}
 use Rattle.pks_terms.specs.Syntax.{Literal}
-use Rattle.pks_terms.specs.Closure.{Next, Clash}
+use Rattle.pks_terms.specs.Closure.{Next, Clash, Closes}
 use Rattle.pks_terms.specs.Problems.{Problem, initial}
 use Rattle.pks_terms.specs.Jobs.{Job, Check, Plan, Exec, Bench, Recall, Agent, Explain, Derive, Shared}
 use Rattle.pks_terms.specs.Printed as printed
 use Rattle.pks_terms.specs.Answers.{Stated, NoWorld, BadWorld, GivenWorld, File, refusal, unjustified, RefusesAdd, RefusesStart, RefusesWorld, RefusesRun, RefusesFor, NoneApplies, RefusesFile}
+use Rattle.pks_terms.specs.Views.{literal_of}
+use Rattle.pks_terms.specs.declared.literal.Literal.{Literal as CodeLiteral}
+use Rattle.pks_closing.specs.Closing.{IfClash}
+use Rattle.pks_closing.specs.declared.closing.CloseEnd.{CloseEnd}
+use Rattle.pks_closing.specs.declared.closing.CloseEnd.TheVariants as end_is
 use Rattle.pks_grammar.specs.declared.report.Extra.{Extra}
+use Rattle.pks_grammar.specs.declared.report.Refusal.{Refusal}
 use Rattle.pks_grammar.specs.declared.report.Turned.{Turned}
 use Rattle.pks_grammar.specs.declared.report.Turned.TheVariants.{Refused, Memory}
 use Rattle.pks_laws.proofs.Unique.{closes_one}
@@ -85,6 +91,12 @@ first_refuses j f e refused = refused_as f (RefusesFirst (file_of f)) (RefusesFi
 pub world_refuses : (j : Job) (f : InputFile) (d : Five) (e : Turned) → Begins (file_of f).problem d → IfRefused f (RefusesFor j (file_of f)) e → IfRefused f (RefusesFile j (file_of f)) e
 world_refuses j f d e begins refused =
     refused_as f (RefusesFor j (file_of f)) (RefusesFile j (file_of f)) e (λ r a. inr (no_add (file_of f) begins.justified, inr (no_clash (file_of f) d begins, a))) refused
+
+-- first databases that clash
+pub clash_refuses : (f : InputFile) (end : CloseEnd) (l : CodeLiteral) (r : Refusal) → unjustified (file_of f).problem ≡ [] → end ≡ end_is.Clash l
+    → IfClash (λ l. Closes (file_of f).problem.signature (initial (file_of f).problem) (Clash (literal_of l))) end → printed_of f r ≡ refusal (file_of f).init_at 270 [] → RefusesFirst (file_of f) (printed_of f r)
+clash_refuses f end l r none is clashes says =
+    inr (no_add (file_of f) none, (literal_of l, subst (IfClash (λ l. Closes (file_of f).problem.signature (initial (file_of f).problem) (Clash (literal_of l)))) is clashes, says))
 
 -- ---- the world of a file
 
