@@ -1,9 +1,12 @@
 -- What is replied to a job about a file that was read.
-use Rattle.std.specs.Prelude.{◌≡◌, ℕ, Some, None}
+use Rattle.std.specs.Prelude.{◌≡◌, ◌++◌, ℕ, List, Some, None}
 use Rattle.pks_terms.specs.Problems.{Problem}
 use Rattle.pks_terms.specs.Trees.{Tree, IsBest}
 use Rattle.pks_terms.specs.Jobs.{Job}
-use Rattle.pks_terms.specs.Printed.{Text, Refusal, none_text, refusal_text}
+use Rattle.pks_terms.specs.Printed.{Text, Names, Refusal, tree_text, none_text, refusal_text}
+use Rattle.pks_terms.specs.Settling.{State}
+use Rattle.pks_terms.specs.Recalled.{IsRecalled, recall_text}
+use Rattle.pks_terms.specs.Nodes.{Node, IsShared, shared_text}
 use Rattle.pks_terms.specs.Answers.{File, RefusesFile, NoneApplies, IsDone, IsUnplanned, text_for}
 use Rattle.pks_answer.specs.Goodness.{HasGoodPlan}
 use Rattle.pks_answer.specs.declared.reply.Verdict.{Verdict}
@@ -13,11 +16,23 @@ use Rattle.pks_answer.specs.declared.reply.Verdict.TheVariants.{Done, NoPlan, Re
 abbrev pub IsAbout : Job → Text → Type 0
 IsAbout j text = text_for j text ≡ text
 
--- the best plan to the depth as a text, or that there is none
-abbrev pub Plans : Problem → ℕ → (Tree → Text) → Verdict → Text → Type 0
-Plans p n shown Done text = (t : Tree) × IsBest p n (Some t) × (text ≡ shown t)
-Plans p n shown NoPlan text = IsBest p n None × (text ≡ none_text n)
-Plans p n shown Refused text = ⊥
+-- a text that is made of the plan alone
+abbrev pub Says : (Tree → Text) → Text → Tree → Type 0
+Says shown text t = text ≡ shown t
+
+-- the plan, and what each of its leaves knows of every moment
+abbrev pub SaysRecalled : Problem → Names → Text → Tree → Type 0
+SaysRecalled p names text t = (xs : List State) × IsRecalled p t xs × (text ≡ tree_text names t ++ recall_text names xs)
+
+-- the plan with its equal parts once
+abbrev pub SaysShared : Names → Text → Tree → Type 0
+SaysShared names text t = (nodes : List Node) × IsShared t nodes × (text ≡ shared_text names nodes)
+
+-- the best plan to the depth, of which the text says this, or that there is none
+abbrev pub Plans : Problem → ℕ → (Text → Tree → Type 0) → Verdict → Text → Type 0
+Plans p n S Done text = (t : Tree) × IsBest p n (Some t) × S text t
+Plans p n S NoPlan text = IsBest p n None × (text ≡ none_text n)
+Plans p n S Refused text = ⊥
 
 -- verdict and text are the reply, whatever stands in the input behind the file
 abbrev pub IsReply : Job → File → Verdict → Text → Type 0

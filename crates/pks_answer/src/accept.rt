@@ -97,8 +97,7 @@ fn world_fault(job: Job, p: &Problem<'_>, world: &Stated) -> Option<Objection>
     ensures { MatchOption result (IsFit (job_of job) (problem_of p.now) (stated_of world.now)) (Breaks (job_of job) (problem_of p.now) (stated_of world.now)) }
 {
     match job {
-        Job::Check => fault_of(world),
-        Job::Plan(_) => fault_of(world),
+        Job::Check | Job::Plan(_) | Job::Recall(_) | Job::Derive | Job::Shared(_) => fault_of(world),
         Job::Exec(_) => run_fault(p, world),
         Job::Bench(_) => None,
     }

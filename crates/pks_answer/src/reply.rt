@@ -13,7 +13,8 @@ ghost use Rattle.pks_answer.specs.Replies.{IsReply, IsAbout, RepliesTo};
 
 use crate::accept::{AcceptEnd, Stated, accept};
 use crate::line::{objection_line, placed};
-use crate::plans::{bench, plan, plan_and_run};
+use crate::plans::{bench, plan, plan_and_recall, plan_and_run, plan_shared};
+use pks_derive::derive;
 use pks_facts::WorldEnd;
 use pks_file::{InputFile, place, stated_world};
 use pks_query::databases::Db;
@@ -88,6 +89,9 @@ fn concluded(
         Job::Plan(depth) => plan(alloc, &f.problem, first, depth),
         Job::Exec(depth) => plan_and_run(alloc, &f.problem, given(world), first, depth),
         Job::Bench(n) => bench(alloc, &f.problem, f.source.as_bytes(), first, n),
+        Job::Recall(depth) => plan_and_recall(alloc, &f.problem, first, depth),
+        Job::Derive => Ok((Verdict::Done, derive(alloc, &f.problem)?)),
+        Job::Shared(depth) => plan_shared(alloc, &f.problem, first, depth),
     }
 }
 
