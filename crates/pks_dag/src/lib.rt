@@ -1,0 +1,10 @@
+//! Plans whose equal parts stand once: their nodes, and their text.
+#![tactic(auto)]
+
+pub mod nodes;
+mod printing;
+mod sharing;
+
+pub use nodes::{CaseNode, CaseNodes, Dag, Node};
+pub use printing::print_dag;
+pub use sharing::share;

@@ -1,0 +1,1 @@
+//! The laws of derived adds, each the clause of a function that does nothing.

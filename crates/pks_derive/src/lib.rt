@@ -1,0 +1,7 @@
+//! Knowledge effects that follow from the text of actions.
+#![tactic(auto)]
+
+mod actions;
+pub mod laws;
+
+pub use actions::derive;
