@@ -1,7 +1,7 @@
 //! Modes.
 
-ghost use Rattle.std.specs.Prelude.{◌≡◌, ◌↔◌, [], ◌∷◌, ◌++◌, codes, decimal, option_map, IsTrue, IfSome, IfNone};
-ghost use Rattle.pks_terms.specs.Jobs.{IsInBounds};
+ghost use Rattle.std.specs.Prelude.{◌≡◌, ◌↔◌, [], ◌∷◌, ◌++◌, codes, decimal, option_map, Some, IsTrue, IfSome, IfNone};
+ghost use Rattle.pks_terms.specs.Jobs.{IsInBounds, number_of_job};
 ghost use Rattle.pks_words.specs.Command.{text_of, given};
 ghost use Rattle.pks_words.specs.JobViews.{AreSpelled, AreWordsOf, AreNoWords, job_of};
 
@@ -12,6 +12,7 @@ use crate::number::number_of;
 #[tactic(auto, using(crate::proofs::Spelling::no_mode))]
 fn with_number(mode: &str, number: u8) -> Option<Job>
     ensures found { IfSome result (λ job. AreSpelled (mode.now ∷ decimal number ∷ []) (job_of job)) }
+    ensures number { IfSome result (λ job. number_of_job (job_of job) ≡ Some number) }
     ensures none { IfNone result (AreNoWords (mode.now ∷ decimal number ∷ [])) }
 {
     match mode {
