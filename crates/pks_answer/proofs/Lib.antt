@@ -1,4 +1,4 @@
+pub mod Accepting
 pub mod Lasting
 pub mod OneReply
-pub mod Objecting
 pub mod Planning

@@ -1,3 +1,3 @@
-pub mod Objections
+pub mod Accepting
 pub mod Goodness
 pub mod Replies

@@ -8,7 +8,7 @@ use Rattle.pks_terms.specs.Settling.{State}
 use Rattle.pks_terms.specs.Recalled.{IsRecalled, recall_text}
 use Rattle.pks_terms.specs.Nodes.{Node, IsShared, shared_text}
 use Rattle.pks_terms.specs.Answers.{File, RefusesFile, NoneApplies, IsDone, IsUnplanned, text_for}
-use Rattle.pks_answer.specs.Goodness.{HasGoodPlan}
+use Rattle.pks_answer.specs.Goodness.{HasGoodPlan, TellsTruth}
 use Rattle.pks_answer.specs.declared.reply.Verdict.{Verdict}
 use Rattle.pks_answer.specs.declared.reply.Verdict.TheVariants.{Done, NoPlan, Refused}
 
@@ -40,8 +40,9 @@ IsReply j f Refused text = (r : Refusal) × RefusesFile j f r × (text ≡ refus
 IsReply j f NoPlan text = NoneApplies (RefusesFile j f) × IsUnplanned j f text
 IsReply j f Done text = NoneApplies (RefusesFile j f) × ((input : Text) → IsDone j input f text)
 
--- verdict and text are the reply, no other is, and the plan of a job that is done is good
+-- verdict and text are the reply, no other is, and of a job that is done the plan is good and what is told of the past was so
 pub record RepliesTo (j : Job) (f : File) (v : Verdict) (text : Text) : Type 0 where
   pub reply : IsReply j f v text
   pub only : (other : Verdict) (t : Text) → IsReply j f other t → (other ≡ v) × (t ≡ text)
   pub good : v ≡ Done → HasGoodPlan j f
+  pub told : v ≡ Done → TellsTruth j f text

@@ -1,138 +1,146 @@
 //! Whether a file is accepted for a job, in the order of refusals. `docs/FORMAT.md` has the order.
-ghost use Rattle.std.specs.Prelude.{◌≡◌, ◌⊎◌, IfOk, IfErr, MatchOption};
-ghost use Rattle.pks_terms.specs.Meaning.{IsWorld};
+ghost use Rattle.std.specs.Prelude.{◌≡◌, ◌++◌, [], codes, decimal, OnOk, IfOk, IfErr};
+ghost use Rattle.pks_terms.specs.Printed.{name_in};
+ghost use Rattle.pks_terms.specs.Views.{problem_of};
+ghost use Rattle.pks_terms.specs.Answers.{GivenWorld, refusal, RefusesWorld, RefusesFor, RefusesFile};
 ghost use Rattle.pks_world.specs.Contents.{world_of};
-ghost use Rattle.pks_terms.specs.ValidProblems.{IsValidProblem};
-ghost use Rattle.pks_terms.specs.Views.{problem_of, signature_of};
-ghost use Rattle.pks_terms.specs.Answers.{GivenWorld};
 ghost use Rattle.pks_normal.specs.Fives.{five_of};
 ghost use Rattle.pks_words.specs.JobViews.{job_of};
-ghost use Rattle.pks_answer.specs.Objections.{stated_of, IsStatedIn, IsFault, IsBroken, Breaks, IsFaultless, IsUnbroken, IsFit, Begins, IsFalseStart, IsObjection, Accepts, IfRefused};
+ghost use Rattle.pks_file.specs.Views.{file_of, IsWhole};
+ghost use Rattle.pks_answer.specs.Accepting.{printed_of, IfRefused, RefusesFirst, RefusesAnyRun, Begins, IsFaultless, IsUnbroken, IsFit, IsRunIn, Accepts};
 
-use crate::line::Place;
 use pks_closing::closing::CloseEnd;
-use pks_exec::compatible::compatible;
+use pks_exec::compatible;
+use pks_file::{InputFile, add_at, init_at, problem_at, stated_world, world_at};
 use pks_justify::{Unjustified, justify};
 use pks_query::databases::Db;
+use pks_reader::{Extra, Refusal, Turned};
 use pks_terms::ids::ItemNo;
-use pks_terms::problem::Problem;
 use pks_words::Job;
-use pks_world::world::World;
+use pks_world::World;
 use std::alloc::Global;
 
-/// What a file states of a world.
+/// What a job about an accepted file is done with.
 #[derive(Drop)]
-pub enum Stated {
-    /// There is none.
-    Missing,
-    /// The first fault in it, by its place and its code.
-    Faulty(Place, u16),
-    /// The world.
-    Given(World),
+pub struct Accepted {
+    /// The first databases.
+    pub first: Db,
+    /// The world of the file, where the job asks for it and it is there: a run always has it.
+    pub world: Option<World>,
 }
 
-/// Why a file without a fault up to meaning is refused for a job.
-#[derive(Clone, Copy)]
-pub enum Objection {
-    /// The add has no case (260).
-    Unjustified(Unjustified),
-    /// The initial databases clash (270).
-    Clash,
-    /// The stated world has a fault, with its own place and code (300 to 304).
-    BadWorld(Place, u16),
-    /// The run wants a world, and there is none (310).
-    NoWorld,
-    /// The world breaks this initial item (311).
-    Broken(ItemNo),
-}
-
-/// Why there are no first databases to answer from.
-#[derive(Clone, Copy)]
-pub enum AcceptEnd {
-    /// The file is refused.
-    Refused(Objection),
-    /// Memory ran out.
-    Memory,
-}
-
-/// The fault of the world.
-fn fault_of(world: &Stated) -> Option<Objection>
-    ensures { MatchOption result (IsFaultless (stated_of world.now)) (IsFault (stated_of world.now)) }
+/// An add that has no case (260).
+fn unjustified(f: &InputFile<'_>, add: Unjustified) -> Refusal
+    ensures { printed_of f.now result ≡ refusal ((file_of f.now).add_at add.action.0 add.effect) 260 (codes " action " ++ (name_in (file_of f.now).names.actions add.action.0 ++ (codes " effect " ++ decimal add.effect))) }
 {
-    match world {
-        Stated::Faulty(at, code) => Some(Objection::BadWorld(*at, *code)),
-        Stated::Missing | Stated::Given(_) => None,
+    Refusal {
+        code: 260,
+        at: add_at(f, add.action, add.effect),
+        extra: Extra::Effect {
+            action: add.action,
+            number: add.effect,
+        },
     }
 }
 
-/// Why there is no run in this world.
-fn broken_by(p: &Problem<'_>, w: &World) -> Option<Objection>
-    requires valid { IsValidProblem p.now }
-    requires world { IsWorld (signature_of p.now.signature) (world_of w.now) }
-    ensures { MatchOption result (IsUnbroken (problem_of p.now) (GivenWorld (world_of w.now))) (IsBroken (problem_of p.now) (GivenWorld (world_of w.now))) }
+/// First databases that clash (270).
+fn clash(f: &InputFile<'_>) -> Refusal
+    ensures { printed_of f.now result ≡ refusal (file_of f.now).init_at 270 [] }
 {
-    match compatible(p, w) {
-        Some(item) => Some(Objection::Broken(item)),
-        None => None,
-    }
+    Refusal::plain(init_at(f), 270)
 }
 
-/// Why there is no run.
-fn run_fault(p: &Problem<'_>, world: &Stated) -> Option<Objection>
-    requires valid { IsValidProblem p.now }
-    requires world { IsStatedIn (signature_of p.now.signature) (stated_of world.now) }
-    ensures { MatchOption result (IsUnbroken (problem_of p.now) (stated_of world.now)) (λ x. IsFault (stated_of world.now) x ⊎ IsBroken (problem_of p.now) (stated_of world.now) x) }
+/// A run without a world (310).
+fn no_world(f: &InputFile<'_>) -> Refusal
+    ensures { printed_of f.now result ≡ refusal (file_of f.now).problem_at 310 [] }
 {
-    match world {
-        Stated::Missing => Some(Objection::NoWorld),
-        Stated::Faulty(at, code) => Some(Objection::BadWorld(*at, *code)),
-        Stated::Given(w) => broken_by(p, w),
-    }
+    Refusal::plain(problem_at(f), 310)
 }
 
-/// Why the job can't have the world.
-fn world_fault(job: Job, p: &Problem<'_>, world: &Stated) -> Option<Objection>
-    requires valid { IsValidProblem p.now }
-    requires world { IsStatedIn (signature_of p.now.signature) (stated_of world.now) }
-    ensures { MatchOption result (IsFit (job_of job) (problem_of p.now) (stated_of world.now)) (Breaks (job_of job) (problem_of p.now) (stated_of world.now)) }
+/// A run in a world that breaks an initial item (311).
+fn broken(f: &InputFile<'_>, item: ItemNo) -> Refusal
+    ensures { printed_of f.now result ≡ refusal (file_of f.now).world_at 311 (codes " item " ++ decimal item.0) }
 {
-    match job {
-        Job::Check | Job::Plan(_) | Job::Recall(_) | Job::Derive | Job::Shared(_) => fault_of(world),
-        Job::Exec(_) => run_fault(p, world),
-        Job::Bench(_) => None,
+    Refusal {
+        code: 311,
+        at: world_at(f),
+        extra: Extra::Item(item),
     }
 }
 
 /// The first databases of a problem whose adds all have a case.
-fn begin(alloc: Global, p: &Problem<'_>) -> Result<Db, AcceptEnd>
-    requires { IsValidProblem p.now }
-    ensures begins { IfOk result (λ db. Begins (problem_of p.now) (five_of db)) }
-    ensures refused { IfErr result (IfRefused (IsFalseStart (problem_of p.now))) }
+fn begin(alloc: Global, f: &InputFile<'_>) -> Result<Db, Turned>
+    requires { IsWhole f.now }
+    ensures begins { IfOk result (λ db. Begins (problem_of f.now.problem) (five_of db)) }
+    ensures refused { IfErr result (IfRefused f.now (RefusesFirst (file_of f.now))) }
 {
-    match justify(p) {
-        Err(first) => Err(AcceptEnd::Refused(Objection::Unjustified(first))),
-        Ok(()) => match Db::first(alloc, p) {
+    match justify(&f.problem) {
+        Err(first) => Err(Turned::Refused(unjustified(f, first))),
+        Ok(()) => match Db::first(alloc, &f.problem) {
             Ok(db) => Ok(db),
-            Err(CloseEnd::Clash(_)) => Err(AcceptEnd::Refused(Objection::Clash)),
-            Err(CloseEnd::Memory) => Err(AcceptEnd::Memory),
+            Err(CloseEnd::Clash(_)) => Err(Turned::Refused(clash(f))),
+            Err(CloseEnd::Memory) => Err(Turned::Memory),
         },
     }
 }
 
-/// The first databases of a valid problem, with the world that its file states, which is one of the problem's signature where
-/// it is given. The file is refused exactly where one of the codes 260 to 311 applies for the job, by the first of them in the
-/// order of `docs/FORMAT.md`, or memory ran out.
-pub fn accept(alloc: Global, job: Job, p: &Problem<'_>, world: &Stated) -> Result<Db, AcceptEnd>
-    requires valid { IsValidProblem p.now }
-    requires world { IsStatedIn (signature_of p.now.signature) (stated_of world.now) }
-    ensures accepts { IfOk result (λ db. Accepts (job_of job) (problem_of p.now) (stated_of world.now) (five_of db)) }
-    ensures refused { IfErr result (IfRefused (IsObjection (job_of job) (problem_of p.now) (stated_of world.now))) }
+/// The world that a run is in.
+fn run_world(alloc: Global, f: &InputFile<'_>) -> Result<World, Turned>
+    requires { IsWhole f.now }
+    ensures given { IfOk result (λ w. (file_of f.now).world ≡ GivenWorld (world_of w)) }
+    ensures unbroken { OnOk result (IsUnbroken (problem_of f.now.problem) (file_of f.now).world) }
+    ensures refused { IfErr result (IfRefused f.now (RefusesAnyRun (file_of f.now))) }
 {
-    match begin(alloc, p) {
-        Ok(first) => match world_fault(job, p, world) {
-            Some(why) => Err(AcceptEnd::Refused(why)),
-            None => Ok(first),
+    match stated_world(alloc, f) {
+        Ok(None) => Err(Turned::Refused(no_world(f))),
+        Ok(Some(w)) => match compatible(&f.problem, &w) {
+            Some(item) => Err(Turned::Refused(broken(f, item))),
+            None => Ok(w),
         },
-        Err(end) => Err(end),
+        Err(turned) => Err(turned),
+    }
+}
+
+/// The world that the file states, where it has no fault.
+fn sound_world(alloc: Global, f: &InputFile<'_>) -> Result<Option<World>, Turned>
+    requires { IsWhole f.now }
+    ensures fits { OnOk result (IsFaultless (file_of f.now).world) }
+    ensures refused { IfErr result (IfRefused f.now (RefusesWorld (file_of f.now) (file_of f.now).world)) }
+{
+    stated_world(alloc, f)
+}
+
+/// The world that a job asks for.
+fn world_for(alloc: Global, job: Job, f: &InputFile<'_>) -> Result<Option<World>, Turned>
+    requires { IsWhole f.now }
+    ensures fits { OnOk result (IsFit (job_of job) (problem_of f.now.problem) (file_of f.now).world) }
+    ensures run { IfOk result (λ w. IsRunIn (job_of job) (file_of f.now).world w) }
+    ensures refused { IfErr result (IfRefused f.now (RefusesFor (job_of job) (file_of f.now))) }
+{
+    match job {
+        Job::Check | Job::Plan(_) | Job::Recall(_) | Job::Derive | Job::Shared(_) => {
+            sound_world(alloc, f)
+        }
+        Job::Exec(_) => match run_world(alloc, f) {
+            Ok(w) => Ok(Some(w)),
+            Err(turned) => Err(turned),
+        },
+        Job::Bench(_) => Ok(None),
+    }
+}
+
+/// The first databases of a file as `read_file` gives it, and the world that the job asks for. The file is refused exactly where
+/// one of the codes 260 to 311 applies for the job, by the first of them in the order of `docs/FORMAT.md`, or memory ran out.
+pub fn accept(alloc: Global, job: Job, f: &InputFile<'_>) -> Result<Accepted, Turned>
+    requires { IsWhole f.now }
+    ensures accepts { IfOk result (λ a. Accepts (job_of job) (file_of f.now) (five_of a.first) a.world) }
+    ensures refused { IfErr result (IfRefused f.now (RefusesFile (job_of job) (file_of f.now))) }
+{
+    match begin(alloc, f) {
+        Ok(first) => match world_for(alloc, job, f) {
+            Ok(world) => Ok(Accepted { first, world }),
+            Err(turned) => Err(turned),
+        },
+        Err(turned) => Err(turned),
     }
 }

@@ -1,45 +1,46 @@
 //! The lines of refusals.
-ghost use Rattle.std.specs.Prelude.{◌≡◌, ◌++◌, codes, decimal, string_bytes, IfOk};
+ghost use Rattle.std.specs.Prelude.{◌≡◌, ◌≤◌, ◌++◌, codes, decimal, string_bytes, length, IfOk};
 ghost use Rattle.pks_terms.specs.Printed.{name_in, refusal_text};
 ghost use Rattle.pks_terms.specs.Answers.{refusal};
 ghost use Rattle.pks_terms.specs.Views.{names_of};
-ghost use Rattle.pks_file.specs.Views.{file_of, place_at, IsWhole};
-ghost use Rattle.pks_answer.specs.Objections.{place_of, place_for, code_of, rest_of, refusal_for};
+ghost use Rattle.pks_file.specs.Inputs.{line_and_column};
+ghost use Rattle.pks_file.specs.Views.{IsWhole};
+ghost use Rattle.pks_answer.specs.Accepting.{rest_of, printed_of};
 
-use crate::accept::Objection;
-use pks_file::{InputFile, add_place, init_place, problem_place, world_place};
-use pks_justify::Unjustified;
-use pks_plan::names::action_name;
-use pks_terms::ids::ItemNo;
+use pks_file::{InputFile, place};
+use pks_plan::action_name;
+use pks_reader::{Extra, Refusal};
+use pks_terms::ids::{ActId, ItemNo};
 use pks_terms::problem::Problem;
 use std::alloc::{AllocError, Global};
 
-/// A place in the text, lines and columns counted from 1.
-#[derive(Clone, Copy)]
-pub struct Place {
-    /// The line.
-    pub line: u32,
-    /// The column.
-    pub column: u32,
-}
-
-/// The line of a refusal: its place, its code, and the rest of the line (`docs/FORMAT.md`, refusals). It errs only where
-/// memory runs out.
-pub fn refusal_line(alloc: Global, at: Place, code: u16, rest: &str) -> Result<Vec<u8>, AllocError>
-    ensures { IfOk result (λ text. text.items ≡ refusal_text (refusal (place_of at) code rest.now)) }
+/// The line of a refusal of an input of at most 262,144 bytes: the line and the column of its place, its code, and the rest
+/// (`docs/FORMAT.md`, refusals). It errs only where memory runs out.
+pub fn refusal_line(
+    alloc: Global,
+    input: &[u8],
+    r: Refusal,
+    rest: &str,
+) -> Result<Vec<u8>, AllocError>
+    requires { length input.now ≤ 262144 }
+    ensures { IfOk result (λ text. text.items ≡ refusal_text (refusal (line_and_column input.now r.at) r.code rest.now)) }
 {
-    let line = at.line;
-    let column = at.column;
+    let (line, column) = place(input, r.at);
+    let code = r.code;
     let text = format!(in alloc; "refused {line}:{column} {code}{rest}\n")?;
     Ok(text.into_bytes())
 }
 
 /// What a refusal says of an add: its action, and its number in the action.
-fn add_rest(alloc: Global, p: &Problem<'_>, add: Unjustified) -> Result<String, AllocError>
-    ensures { IfOk result (λ text. string_bytes text ≡ codes " action " ++ (name_in (names_of p.now).actions add.action.0 ++ (codes " effect " ++ decimal add.effect))) }
+fn add_rest(
+    alloc: Global,
+    p: &Problem<'_>,
+    action: ActId,
+    number: u32,
+) -> Result<String, AllocError>
+    ensures { IfOk result (λ text. string_bytes text ≡ codes " action " ++ (name_in (names_of p.now).actions action.0 ++ (codes " effect " ++ decimal number))) }
 {
-    let name = action_name(p, add.action);
-    let number = add.effect;
+    let name = action_name(p, action);
     format!(in alloc; " action {name} effect {number}")
 }
 
@@ -52,63 +53,22 @@ fn item_rest(alloc: Global, item: ItemNo) -> Result<String, AllocError>
 }
 
 /// What a refusal says behind its code.
-fn rest(alloc: Global, p: &Problem<'_>, why: Objection) -> Result<String, AllocError>
-    ensures { IfOk result (λ text. string_bytes text ≡ rest_of (names_of p.now) why) }
+fn rest(alloc: Global, p: &Problem<'_>, extra: Extra) -> Result<String, AllocError>
+    ensures { IfOk result (λ text. string_bytes text ≡ rest_of (names_of p.now) extra) }
 {
-    match why {
-        Objection::Unjustified(add) => add_rest(alloc, p, add),
-        Objection::Broken(item) => item_rest(alloc, item),
-        Objection::Clash | Objection::BadWorld(_, _) | Objection::NoWorld => Ok(String::new(alloc)),
-    }
-}
-
-/// The code of a refusal.
-fn code(why: Objection) -> u16
-    ensures { result ≡ code_of why }
-{
-    match why {
-        Objection::Unjustified(_) => 260,
-        Objection::Clash => 270,
-        Objection::BadWorld(_, own) => own,
-        Objection::NoWorld => 310,
-        Objection::Broken(_) => 311,
-    }
-}
-
-/// The place of a line and a column.
-pub(crate) fn placed(at: (u32, u32)) -> Place
-    ensures { place_of result ≡ place_at at }
-{
-    Place {
-        line: at.0,
-        column: at.1,
-    }
-}
-
-/// The place that a refusal names.
-fn refused_at(f: &InputFile<'_>, why: Objection) -> Place
-    requires { IsWhole f.now }
-    ensures { place_of result ≡ place_for (file_of f.now) why }
-{
-    match why {
-        Objection::Unjustified(add) => placed(add_place(f, add.action, add.effect)),
-        Objection::Clash => placed(init_place(f)),
-        Objection::BadWorld(own, _) => own,
-        Objection::NoWorld => placed(problem_place(f)),
-        Objection::Broken(_) => placed(world_place(f)),
+    match extra {
+        Extra::Plain => Ok(String::new(alloc)),
+        Extra::Effect { action, number } => add_rest(alloc, p, action, number),
+        Extra::Item(item) => item_rest(alloc, item),
     }
 }
 
 /// The line that refuses a file.
-pub(crate) fn objection_line(
-    alloc: Global,
-    f: &InputFile<'_>,
-    why: Objection,
-) -> Result<Vec<u8>, AllocError>
+pub(crate) fn file_line(alloc: Global, f: &InputFile<'_>, r: Refusal) -> Result<Vec<u8>, AllocError>
     requires { IsWhole f.now }
-    ensures { IfOk result (λ text. text.items ≡ refusal_text (refusal_for (file_of f.now) why)) }
+    ensures { IfOk result (λ text. text.items ≡ refusal_text (printed_of f.now r)) }
 {
-    let rest = rest(alloc, &f.problem, why)?;
-    let text = refusal_line(alloc, refused_at(f, why), code(why), rest.as_str())?;
+    let rest = rest(alloc, &f.problem, r.extra)?;
+    let text = refusal_line(alloc, f.source.as_bytes(), r, rest.as_str())?;
     Ok(text)
 }

@@ -9,21 +9,19 @@ ghost use Rattle.pks_terms.specs.Printed.{tree_text, run_text, bench_text, none_
 ghost use Rattle.pks_world.specs.Contents.{world_of};
 ghost use Rattle.pks_normal.specs.Fives.{five_of};
 ghost use Rattle.pks_plan.specs.TreeViews.{tree_of};
-ghost use Rattle.pks_answer.specs.Objections.{Begins};
+ghost use Rattle.pks_answer.specs.Accepting.{Begins};
 ghost use Rattle.pks_answer.specs.Replies.{Plans, Says, SaysRecalled, SaysShared};
 
 use crate::reply::Verdict;
 use pks_bench::bench_line;
 use pks_dag::{print_dag, share};
-use pks_exec::exec::exec;
-use pks_exec::print::print_run;
-use pks_plan::body::print_tree;
-use pks_plan::tree::Tree;
+use pks_exec::{exec, print_run};
+use pks_plan::{Tree, print_tree};
 use pks_query::databases::Db;
 use pks_recall::recall;
 use pks_search::searching::best_from;
 use pks_terms::problem::Problem;
-use pks_world::world::World;
+use pks_world::World;
 use std::alloc::{AllocError, Global};
 
 // The depth to which the generated file is planned.

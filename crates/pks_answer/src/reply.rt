@@ -1,25 +1,21 @@
 //! The reply to a job about a file that was read. `docs/FORMAT.md` has all texts.
-ghost use Rattle.std.specs.Prelude.{◌≡◌, IfOk};
-ghost use Rattle.pks_terms.specs.Views.{signature_of, problem_of};
+ghost use Rattle.std.specs.Prelude.{◌≡◌, Some, IsSome, IfOk};
 ghost use Rattle.pks_terms.specs.Printed.{accepted_text};
 ghost use Rattle.pks_terms.specs.Jobs.{IsInBounds};
-ghost use Rattle.pks_terms.specs.Answers.{GivenWorld};
-ghost use Rattle.pks_world.specs.Contents.{world_of};
 ghost use Rattle.pks_normal.specs.Fives.{five_of};
 ghost use Rattle.pks_words.specs.JobViews.{job_of};
 ghost use Rattle.pks_file.specs.Views.{file_of, IsWhole};
-ghost use Rattle.pks_answer.specs.Objections.{stated_of, IsStatedIn, IsGiven, Accepts};
+ghost use Rattle.pks_answer.specs.Accepting.{Accepts};
 ghost use Rattle.pks_answer.specs.Replies.{IsReply, IsAbout, RepliesTo};
 
-use crate::accept::{AcceptEnd, Stated, accept};
-use crate::line::{objection_line, placed};
+use crate::accept::{Accepted, accept};
+use crate::line::file_line;
 use crate::plans::{bench, plan, plan_and_recall, plan_and_run, plan_shared};
 use pks_derive::derive;
-use pks_facts::WorldEnd;
-use pks_file::{InputFile, place, stated_world};
-use pks_query::databases::Db;
+use pks_file::InputFile;
+use pks_reader::Turned;
 use pks_words::Job;
-use pks_world::world::World;
+use pks_world::World;
 use std::alloc::{AllocError, Global};
 
 /// What a reply says of the job.
@@ -33,31 +29,14 @@ pub enum Verdict {
     Refused,
 }
 
-/// What the file states of a world.
-fn stated(alloc: Global, f: &InputFile<'_>) -> Result<Stated, AllocError>
-    requires { IsWhole f.now }
-    ensures says { IfOk result (λ w. (file_of f.now).world ≡ stated_of w) }
-    ensures of_signature { IfOk result (λ w. IsStatedIn (signature_of f.now.problem.signature) (stated_of w)) }
-{
-    match stated_world(alloc, f) {
-        Ok(None) => Ok(Stated::Missing),
-        Ok(Some(w)) => Ok(Stated::Given(w)),
-        Err(WorldEnd::Refused(fault)) => {
-            let at = placed(place(f.source.as_bytes(), fault.at));
-            Ok(Stated::Faulty(at, fault.code))
-        }
-        Err(WorldEnd::Memory) => Err(AllocError),
-    }
-}
-
 /// The world that a run is in.
-fn given<'w>(world: &'w Stated) -> &'w World
-    requires { IsGiven (stated_of world.now) }
-    ensures { stated_of world.now ≡ GivenWorld (world_of result.now) }
+fn given<'w>(world: &'w Option<World>) -> &'w World
+    requires { IsSome world.now }
+    ensures { world.now ≡ Some result.now }
 {
     match world {
-        Stated::Given(w) => w,
-        Stated::Missing | Stated::Faulty(_, _) => unreachable!(),
+        Some(w) => w,
+        None => unreachable!(),
     }
 }
 
@@ -69,25 +48,24 @@ fn accepted_text(alloc: Global) -> Result<Vec<u8>, AllocError>
     Ok(text)
 }
 
-/// The reply where the file is accepted, from its first databases.
+/// The reply where the file is accepted.
 fn concluded(
     alloc: Global,
     job: Job,
     f: &InputFile<'_>,
-    world: &Stated,
-    first: Db,
+    accepted: Accepted,
 ) -> Result<(Verdict, Vec<u8>), AllocError>
     requires whole { IsWhole f.now }
     requires bounds { IsInBounds (job_of job) }
     requires about { IsAbout (job_of job) f.now.source.now }
-    requires world { (file_of f.now).world ≡ stated_of world.now }
-    requires accepted { Accepts (job_of job) (problem_of f.now.problem) (stated_of world.now) (five_of first) }
+    requires accepts { Accepts (job_of job) (file_of f.now) (five_of accepted.first) accepted.world }
     ensures { IfOk result (λ a. IsReply (job_of job) (file_of f.now) a.0 a.1.items) }
 {
+    let Accepted { first, world } = accepted;
     match job {
         Job::Check => Ok((Verdict::Done, accepted_text(alloc)?)),
         Job::Plan(depth) => plan(alloc, &f.problem, first, depth),
-        Job::Exec(depth) => plan_and_run(alloc, &f.problem, given(world), first, depth),
+        Job::Exec(depth) => plan_and_run(alloc, &f.problem, given(&world), first, depth),
         Job::Bench(n) => bench(alloc, &f.problem, f.source.as_bytes(), first, n),
         Job::Recall(depth) => plan_and_recall(alloc, &f.problem, first, depth),
         Job::Derive => Ok((Verdict::Done, derive(alloc, &f.problem)?)),
@@ -95,30 +73,23 @@ fn concluded(
     }
 }
 
-/// The reply to a job about the file that states this world.
-fn replied(
-    alloc: Global,
-    job: Job,
-    f: &InputFile<'_>,
-    world: &Stated,
-) -> Result<(Verdict, Vec<u8>), AllocError>
+/// The reply to a job about the file.
+fn replied(alloc: Global, job: Job, f: &InputFile<'_>) -> Result<(Verdict, Vec<u8>), AllocError>
     requires whole { IsWhole f.now }
     requires bounds { IsInBounds (job_of job) }
     requires about { IsAbout (job_of job) f.now.source.now }
-    requires world { (file_of f.now).world ≡ stated_of world.now }
-    requires of_signature { IsStatedIn (signature_of f.now.problem.signature) (stated_of world.now) }
     ensures { IfOk result (λ a. IsReply (job_of job) (file_of f.now) a.0 a.1.items) }
 {
-    match accept(alloc, job, &f.problem, world) {
-        Ok(first) => concluded(alloc, job, f, world, first),
-        Err(AcceptEnd::Refused(why)) => Ok((Verdict::Refused, objection_line(alloc, f, why)?)),
-        Err(AcceptEnd::Memory) => Err(AllocError),
+    match accept(alloc, job, f) {
+        Ok(accepted) => concluded(alloc, job, f, accepted),
+        Err(Turned::Refused(r)) => Ok((Verdict::Refused, file_line(alloc, f, r)?)),
+        Err(Turned::Memory) => Err(AllocError),
     }
 }
 
 /// The reply to a job about a file as `read_file` gives it: its verdict and its text, as `docs/FORMAT.md` says, and no
 /// other reply fits. A plan that is printed or run is good in every compatible world, and what its histories know of earlier
-/// moments was so then. It asks for a job whose number is within its bounds, and, for `bench`, for the generated file. It errs
+/// moments was so then, as is what is told of them. It asks for a job whose number is within its bounds, and, for `bench`, for the generated file. It errs
 /// only where memory runs out.
 pub fn reply_about(
     alloc: Global,
@@ -130,7 +101,6 @@ pub fn reply_about(
     requires about { IsAbout (job_of job) f.now.source.now }
     ensures { IfOk result (λ a. RepliesTo (job_of job) (file_of f.now) a.0 a.1.items) }
 {
-    let world = stated(alloc, f)?;
-    let answer = replied(alloc, job, f, &world)?;
+    let answer = replied(alloc, job, f)?;
     Ok(answer)
 }

@@ -6,7 +6,7 @@ ghost use Rattle.pks_terms.specs.Trees.{depth};
 ghost use Rattle.pks_plan.specs.TreeViews.{tree_of};
 
 use crate::size::nodes;
-use pks_plan::tree::{Tree, depth};
+use pks_plan::{Tree, depth};
 use std::alloc::{AllocError, Global};
 
 /// The line that tells of a plan over the generated file: the file's number of objects, its bytes, the plan's depth

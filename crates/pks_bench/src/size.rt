@@ -4,7 +4,7 @@ ghost use Rattle.std.specs.Prelude.{◌≡◌, ◌<◌, ◌^◌};
 ghost use Rattle.pks_terms.specs.Printed.{nodes_of, nodes_in};
 ghost use Rattle.pks_plan.specs.TreeViews.{tree_of, chain_of};
 
-use pks_plan::tree::{CaseChain, Tree};
+use pks_plan::{CaseChain, Tree};
 
 /// How many actions, branches, cases and leaves the tree has. It asks that they can be counted (docs/FORMAT.md,
 /// "Texts").

@@ -6,7 +6,7 @@ ghost use Rattle.pks_plan.specs.TreeViews.{tree_of};
 ghost use Rattle.pks_dag.specs.NodeViews.{nodes_of};
 
 use crate::nodes::Dag;
-use pks_plan::tree::Tree;
+use pks_plan::Tree;
 use std::alloc::{AllocError, Global};
 
 /// The nodes of a tree: each of its subtrees once, in the order in which a walk that takes children from left to right

@@ -8,8 +8,10 @@ ghost use Rattle.pks_meaning.specs.Parts.{each, only, past, all_but_last};
 ghost use Rattle.pks_meaning.specs.Declarations.{first_or, first_in, second_in, name_of, name_faults, surplus_faults, past_names, type_faults, type_named, parent_named, types_named};
 ghost use Rattle.pks_meaning.specs.Meaning.{all_noted};
 ghost use Rattle.pks_meaning.specs.Views.{found_of, names_of, seen};
+ghost use Rattle.pks_grammar.specs.declared.report.Turned.TheVariants as turned;
 
 use indexmap::IndexMap;
+use pks_grammar::report::Turned;
 use pks_meaning::parts::{behind_head, parts_of, text_of};
 use pks_meaning::report::Report;
 use pks_meaning::scope::{entry, name_in, number};
@@ -34,6 +36,14 @@ impl From<AllocError> for Memory {
 impl<T: Drop> From<AllocFailed<T>> for Memory {
     fn from(_e: AllocFailed<T>) -> Memory {
         Memory
+    }
+}
+
+impl From<Memory> for Turned {
+    ghost from_gives = { λ _ e. e ≡ turned.Memory };
+
+    fn from(_e: Memory) -> Turned {
+        Turned::Memory
     }
 }
 

@@ -1,9 +1,9 @@
 //! What a domain declares, and the first fault of meaning of a file.
-ghost use Rattle.std.specs.Prelude.{◌≡◌, ℕ, ◌≤◌, [], length, IfOk, option_map, codes};
+ghost use Rattle.std.specs.Prelude.{◌≡◌, ℕ, ◌≤◌, [], length, IfOk, codes};
 ghost use Rattle.pks_terms.specs.Views.{shape_of};
 ghost use Rattle.pks_text.specs.FormViews.{forms_view};
 ghost use Rattle.pks_grammar.specs.Files.{or_else};
-ghost use Rattle.pks_grammar.specs.FaultViews.{fault_view};
+ghost use Rattle.pks_grammar.specs.Refusals.{refusing};
 ghost use Rattle.pks_meaning.specs.Parts.{section};
 ghost use Rattle.pks_meaning.specs.Sentences.{problem_faults};
 ghost use Rattle.pks_meaning.specs.Declarations.{types_in, types_section, objects_from, objects_faults, most_objects, predicates_in, predicates_section, functions_in, functions_section, actions_section};
@@ -17,7 +17,7 @@ use crate::declaring::{Memory, Types};
 use crate::functions::functions;
 use crate::sections::{objects, predicates, types};
 use indexmap::IndexMap;
-use pks_grammar::report::Fault;
+use pks_grammar::report::Refusal;
 use pks_grammar::shape::or_else;
 use pks_meaning::parts::section;
 use pks_meaning::report::Report;
@@ -27,22 +27,25 @@ use pks_terms::problem::Shape;
 use pks_text::Form;
 use std::alloc::Global;
 
-/// What a domain declares, and the first fault of its declarations or of the whole file.
+/// What a domain declares, and the refusal of the first fault of its declarations or of the whole file.
 #[derive(Drop)]
 pub struct Domain<'s> {
     pub declared: Declared<'s>,
-    pub fault: Option<Fault>,
+    pub refusal: Option<Refusal>,
 }
 
 #[tactic(auto, using(crate::proofs::Steps::types_few))]
-fn first_types<'s>(alloc: Global, forms: &[Form<'s>]) -> Result<(Types<'s>, Option<Fault>), Memory>
+fn first_types<'s>(
+    alloc: Global,
+    forms: &[Form<'s>],
+) -> Result<(Types<'s>, Option<Refusal>), Memory>
     ensures table { IfOk result (λ r. names_of r.0 ≡ types_in (forms_view forms.now)) }
     ensures few { IfOk result (λ r. length (names_of r.0) ≤ 16) }
-    ensures fault { IfOk result (λ r. option_map fault_view r.1 ≡ least (types_section (forms_view forms.now))) }
+    ensures refusal { IfOk result (λ r. r.1 ≡ refusing (least (types_section (forms_view forms.now)))) }
 {
     let mut report = Report::new();
     let table = types(alloc, &mut report, forms)?;
-    Ok((table, report.least))
+    Ok((table, report.refusal()))
 }
 
 fn first_objects<'s>(
@@ -50,38 +53,38 @@ fn first_objects<'s>(
     types: &Types<'s>,
     n: usize,
     forms: &[Form<'s>],
-) -> Result<(IndexMap<&'s str, u8>, Option<Fault>), Memory>
+) -> Result<(IndexMap<&'s str, u8>, Option<Refusal>), Memory>
     requires { length (names_of types.now) ≤ 16 }
     ensures table { IfOk result (λ r. names_of r.0 ≡ objects_from (names_of types.now) n [] (forms_view forms.now)) }
-    ensures fault { IfOk result (λ r. option_map fault_view r.1 ≡ least (objects_faults (names_of types.now) n [] (forms_view forms.now))) }
+    ensures refusal { IfOk result (λ r. r.1 ≡ refusing (least (objects_faults (names_of types.now) n [] (forms_view forms.now)))) }
 {
     let mut report = Report::new();
     let table = objects(alloc, &mut report, types, n, forms)?;
-    Ok((table, report.least))
+    Ok((table, report.refusal()))
 }
 
 fn first_predicates<'s>(
     alloc: Global,
     types: &Types<'s>,
     forms: &[Form<'s>],
-) -> Result<(IndexMap<&'s str, Shape>, Option<Fault>), Memory>
+) -> Result<(IndexMap<&'s str, Shape>, Option<Refusal>), Memory>
     requires { length (names_of types.now) ≤ 16 }
     ensures table { IfOk result (λ r. seen shape_of (names_of r.0) ≡ predicates_in (names_of types.now) (forms_view forms.now)) }
-    ensures fault { IfOk result (λ r. option_map fault_view r.1 ≡ least (predicates_section (names_of types.now) (forms_view forms.now))) }
+    ensures refusal { IfOk result (λ r. r.1 ≡ refusing (least (predicates_section (names_of types.now) (forms_view forms.now)))) }
 {
     let mut report = Report::new();
     let table = predicates(alloc, &mut report, types, forms)?;
-    Ok((table, report.least))
+    Ok((table, report.refusal()))
 }
 
 fn first_functions<'s>(
     alloc: Global,
     declared: &Declared<'s>,
     forms: &[Form<'s>],
-) -> Result<(IndexMap<&'s str, Shape>, Option<Fault>), Memory>
+) -> Result<(IndexMap<&'s str, Shape>, Option<Refusal>), Memory>
     requires { length (names_of declared.now.types) ≤ 16 }
     ensures table { IfOk result (λ r. seen shape_of (names_of r.0) ≡ functions_in (names_of declared.now.types) (forms_view forms.now)) }
-    ensures fault { IfOk result (λ r. option_map fault_view r.1 ≡ least (functions_section (declared_view declared.now) (forms_view forms.now))) }
+    ensures refusal { IfOk result (λ r. r.1 ≡ refusing (least (functions_section (declared_view declared.now) (forms_view forms.now)))) }
 {
     let mut report = Report::new();
     let none = IndexMap::new(alloc);
@@ -90,7 +93,7 @@ fn first_functions<'s>(
         parameters: &none,
     };
     let table = functions(alloc, &mut report, &scope, forms)?;
-    Ok((table, report.least))
+    Ok((table, report.refusal()))
 }
 
 fn most_objects(version: u8) -> usize
@@ -101,14 +104,14 @@ fn most_objects(version: u8) -> usize
 
 /// What a domain of this version declares, and the first fault of its declarations. `domain` has its parts behind the
 /// head. Memory may be wanting.
-#[tactic(auto, unfolding(crate::specs::FirstFault::declarations_fault, pks_meaning::specs::Meaning::scope_of, pks_meaning::specs::Declarations::objects_section))]
+#[tactic(auto, unfolding(crate::specs::FirstFault::declarations_fault, pks_meaning::specs::Meaning::scope_of, pks_meaning::specs::Declarations::objects_section), using(pks_grammar::proofs::Refusing::both_refusing))]
 pub fn declarations<'s>(
     alloc: Global,
     version: u8,
     domain: &[Form<'s>],
 ) -> Result<Domain<'s>, Memory>
     ensures declared { IfOk result (λ d. declared_view d.declared ≡ scope_of version (forms_view domain.now)) }
-    ensures fault { IfOk result (λ d. option_map fault_view d.fault ≡ declarations_fault version (forms_view domain.now)) }
+    ensures refusal { IfOk result (λ d. d.refusal ≡ refusing (declarations_fault version (forms_view domain.now))) }
     ensures few { IfOk result (λ d. length (names_of d.declared.types) ≤ 16) }
 {
     let (types, first) = first_types(alloc, section("types", domain))?;
@@ -132,40 +135,41 @@ pub fn declarations<'s>(
         predicates: before.predicates,
         functions,
     };
-    let fault = or_else(first, or_else(second, or_else(third, fourth)));
-    Ok(Domain { declared, fault })
+    let refusal = or_else(first, or_else(second, or_else(third, fourth)));
+    Ok(Domain { declared, refusal })
 }
 
 fn first_action<'s>(
     alloc: Global,
     scope: &Scope<'_, 's>,
     domain: &[Form<'s>],
-) -> Result<Option<Fault>, Memory>
+) -> Result<Option<Refusal>, Memory>
     requires { length (scope_view scope.now).types ≤ 16 }
-    ensures { IfOk result (λ f. option_map fault_view f ≡ least (actions_section (scope_view scope.now) (forms_view domain.now))) }
+    ensures { IfOk result (λ f. f ≡ refusing (least (actions_section (scope_view scope.now) (forms_view domain.now)))) }
 {
     let mut report = Report::new();
     let _names = actions(alloc, &mut report, scope, domain)?;
-    Ok(report.least)
+    Ok(report.refusal())
 }
 
-fn first_problem<'s>(scope: &Scope<'_, 's>, forms: &[Form<'s>]) -> Option<Fault>
-    ensures { option_map fault_view result ≡ least (problem_faults (scope_view scope.now) (forms_view forms.now)) }
+fn first_problem<'s>(scope: &Scope<'_, 's>, forms: &[Form<'s>]) -> Option<Refusal>
+    ensures { result ≡ refusing (least (problem_faults (scope_view scope.now) (forms_view forms.now))) }
 {
     let mut report = Report::new();
     problem(&mut report, scope, forms);
-    report.least
+    report.refusal()
 }
 
 // The first fault behind the declarations.
+#[tactic(auto, using(pks_grammar::proofs::Refusing::both_refusing))]
 fn later_fault<'s>(
     alloc: Global,
     declared: &Declared<'s>,
     domain: &[Form<'s>],
     forms: &[Form<'s>],
-) -> Result<Option<Fault>, Memory>
+) -> Result<Option<Refusal>, Memory>
     requires { length (names_of declared.now.types) ≤ 16 }
-    ensures { IfOk result (λ f. option_map fault_view f ≡ or_else (least (actions_section (declared_view declared.now) (forms_view domain.now))) (least (problem_faults (declared_view declared.now) (forms_view forms.now)))) }
+    ensures { IfOk result (λ f. f ≡ refusing (or_else (least (actions_section (declared_view declared.now) (forms_view domain.now))) (least (problem_faults (declared_view declared.now) (forms_view forms.now))))) }
 {
     let none = IndexMap::new(alloc);
     let scope = Scope {
@@ -178,7 +182,7 @@ fn later_fault<'s>(
 
 /// What the domain of a file of this version declares, and the first fault of meaning of the file (200 to 211, as
 /// `docs/FORMAT.md` says). `domain` and `problem` have the parts behind their heads. Memory may be wanting.
-#[tactic(auto, unfolding(crate::specs::FirstFault::meaning_fault))]
+#[tactic(auto, unfolding(crate::specs::FirstFault::meaning_fault), using(pks_grammar::proofs::Refusing::both_refusing))]
 pub fn meaning<'s>(
     alloc: Global,
     version: u8,
@@ -186,13 +190,13 @@ pub fn meaning<'s>(
     problem: &[Form<'s>],
 ) -> Result<Domain<'s>, Memory>
     ensures declared { IfOk result (λ d. declared_view d.declared ≡ scope_of version (forms_view domain.now)) }
-    ensures fault { IfOk result (λ d. option_map fault_view d.fault ≡ meaning_fault version (forms_view domain.now) (forms_view problem.now)) }
+    ensures refusal { IfOk result (λ d. d.refusal ≡ refusing (meaning_fault version (forms_view domain.now) (forms_view problem.now))) }
 {
     let read = declarations(alloc, version, domain)?;
     let later = later_fault(alloc, &read.declared, domain, problem)?;
-    let fault = or_else(read.fault, later);
+    let refusal = or_else(read.refusal, later);
     Ok(Domain {
         declared: read.declared,
-        fault,
+        refusal,
     })
 }

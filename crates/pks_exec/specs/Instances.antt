@@ -7,7 +7,7 @@ use Rattle.pks_terms.specs.Worlds.{World, value_of}
 use Rattle.pks_terms.specs.Meaning.{is_value_of}
 use Rattle.pks_terms.specs.Problems.{Start, Problem, known_start, atom_on}
 use Rattle.pks_terms.specs.Printed.{numbers_from}
-use Rattle.pks_exec.specs.declared.compatible.Few.{Few}
+use Rattle.pks_exec.specs.declared.compatibility.Few.{Few}
 
 -- up to three objects
 abbrev pub few_of : Few → List ℕ

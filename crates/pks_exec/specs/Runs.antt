@@ -5,10 +5,10 @@ use Rattle.pks_terms.specs.Knowledge.{Ending, AtGoal, AtImpossible, NoCase, Even
 use Rattle.pks_terms.specs.declared.ids.ObjId.{ObjId}
 use Rattle.pks_terms.specs.Views.{term_of, conj_of}
 use Rattle.pks_world.specs.Observed.{seen_of}
-use Rattle.pks_exec.specs.declared.run.End as ending
-use Rattle.pks_exec.specs.declared.run.End.TheVariants as ending_is
-use Rattle.pks_exec.specs.declared.run.Event as event
-use Rattle.pks_exec.specs.declared.run.Event.TheVariants as event_is
+use Rattle.pks_exec.specs.declared.runs.End as ending
+use Rattle.pks_exec.specs.declared.runs.End.TheVariants as ending_is
+use Rattle.pks_exec.specs.declared.runs.Event as event
+use Rattle.pks_exec.specs.declared.runs.Event.TheVariants as event_is
 
 -- an object as an argument
 abbrev pub argument_of : ObjId → Inner

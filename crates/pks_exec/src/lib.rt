@@ -2,7 +2,12 @@
 //! `docs/RULES.md` has the rules.
 #![tactic(auto)]
 
-pub mod compatible;
-pub mod exec;
-pub mod print;
-pub mod run;
+mod compatibility;
+mod print;
+mod running;
+mod runs;
+
+pub use compatibility::compatible;
+pub use print::print_run;
+pub use running::exec;
+pub use runs::{End, Event, Run};

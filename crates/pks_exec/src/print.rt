@@ -8,14 +8,13 @@ ghost use Rattle.pks_world.specs.Contents.{ground};
 ghost use Rattle.pks_world.specs.Observed.{objects_in, seen_of};
 ghost use Rattle.pks_exec.specs.Runs.{argument_of, ending_of, event_of};
 
-use crate::run::{End, Event, Run};
-use pks_plan::names::action_name;
-use pks_plan::text::{print_conj, print_literal, print_pattern, print_term};
+use crate::runs::{End, Event, Run};
+use pks_plan::{action_name, print_conj, print_literal, print_pattern, print_term};
 use pks_terms::ids::{ActId, ObjId, PredId};
 use pks_terms::literal::{Atom, Conj, Literal, PredAtom};
 use pks_terms::problem::Problem;
 use pks_terms::term::Term;
-use pks_world::observe::Seen;
+use pks_world::Seen;
 use std::alloc::{AllocError, Global};
 
 /// Appends the bytes.

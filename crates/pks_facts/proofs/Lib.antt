@@ -5,3 +5,4 @@ mod Steps
 mod Once
 mod Putting
 mod TypedFacts
+pub mod Refused

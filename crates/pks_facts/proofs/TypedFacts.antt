@@ -21,7 +21,7 @@ use Rattle.pks_meaning.specs.Declarations.{first_in, second_in}
 use Rattle.pks_meaning.specs.Terms.{wanted_by}
 use Rattle.pks_accepted.specs.Facts.{EachForm, HasShapes}
 use Rattle.pks_accepted.proofs.Numbers.{cons_nil, nil_parts, unless, known, numbered, each_got}
-use Rattle.pks_world.specs.declared.world.World.{World as DWorld}
+use Rattle.pks_world.specs.declared.worlds.World.{World as DWorld}
 use Rattle.pks_world.specs.Contents.{ground, places_of, has_place}
 use Rattle.pks_world.specs.First.{IsWorldOf}
 use Rattle.pks_facts.specs.Naming.{object_named, objects_named, atom_named, place_named}

@@ -23,7 +23,7 @@ use pks_meaning::parts::section;
 use pks_meaning::scope::Scope;
 use pks_terms::problem::Problem;
 use pks_text::Form;
-use pks_world::world::World;
+use pks_world::World;
 use std::alloc::{AllocError, Global};
 
 // Makes the atom of a fact true.

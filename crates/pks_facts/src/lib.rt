@@ -8,4 +8,4 @@ mod naming;
 mod places;
 mod read;
 
-pub use read::{WorldEnd, read_world};
+pub use read::read_world;

@@ -3,7 +3,6 @@ ghost use Rattle.std.specs.Prelude.{◌≡◌, None, Some, Option, map, IfOk, If
 ghost use Rattle.pks_terms.specs.Valid.{IsValidSignature};
 ghost use Rattle.pks_terms.specs.Views.{signature_of};
 ghost use Rattle.pks_text.specs.FormViews.{form_view, forms_view};
-ghost use Rattle.pks_grammar.specs.FaultViews.{fault_view};
 ghost use Rattle.pks_grammar.specs.Files.{or_else, world_shape_fault};
 ghost use Rattle.pks_meaning.specs.Scopes.{signature_in};
 ghost use Rattle.pks_meaning.specs.Parts.{behind_head};
@@ -15,52 +14,27 @@ ghost use Rattle.pks_world.specs.Contents.{world_of};
 ghost use Rattle.pks_world.specs.First.{IsWorldOf};
 ghost use Rattle.pks_facts.specs.Stated.{world_in, contents_fault, parts_at, place_at, declared_by, world_fault, world_by};
 ghost use Rattle.pks_facts.specs.Views.{IsRefusal};
-ghost use Rattle.pks_facts.specs.declared.read.WorldEnd.TheVariants as end;
 
 use crate::faults::facts;
 use crate::fill::filled;
 use crate::places::is_full;
 use indexmap::IndexMap;
 use pks_domain::declarations;
-use pks_grammar::report::Fault;
+use pks_grammar::report::{Refusal, Turned};
 use pks_grammar::shape::{version_of, world_shape_fault};
 use pks_meaning::parts::behind_head;
 use pks_meaning::report::Report;
 use pks_meaning::scope::{Declared, Scope};
 use pks_terms::problem::Problem;
 use pks_text::{Form, Forms, place_of};
-use pks_world::world::World;
-use std::alloc::{AllocError, Global};
+use pks_world::World;
+use std::alloc::Global;
 
-/// Why there is no world: its first fault, or want of memory.
-#[derive(Clone, Copy, Debug, PartialEq, Eq)]
-pub enum WorldEnd {
-    /// The first fault of the world of a file, with its code 300 to 304 or 310 (`docs/FORMAT.md`).
-    Refused(Fault),
-    /// Memory ran out.
-    Memory,
-}
-
-impl From<AllocError> for WorldEnd {
-    ghost from_gives = { λ _ e. e ≡ end.Memory };
-
-    fn from(_e: AllocError) -> WorldEnd {
-        WorldEnd::Memory
-    }
-}
-
-impl From<pks_domain::Memory> for WorldEnd {
-    ghost from_gives = { λ _ e. e ≡ end.Memory };
-
-    fn from(_e: pks_domain::Memory) -> WorldEnd {
-        WorldEnd::Memory
-    }
-}
-
-fn refused(at: u32, code: u16) -> WorldEnd
+// The refusal of the world for a fault of its own.
+fn refused(at: u32, code: u16) -> Turned
     ensures { IsRefusal (Some (at, code)) result }
 {
-    WorldEnd::Refused(Fault { at, code })
+    Turned::Refused(Refusal::plain(at, code))
 }
 
 // The top form with a number, counted from 0.
@@ -91,13 +65,13 @@ fn place_at(top: &[Form<'_>], i: usize) -> u32
 }
 
 // The world that a list states, which has the shape of one.
-#[tactic(auto, unfolding(crate::specs::Stated::contents_fault))]
+#[tactic(auto, unfolding(crate::specs::Stated::contents_fault), using(crate::proofs::Refused::this_found, crate::proofs::Refused::this_plain, pks_grammar::proofs::Refusing::none_refused))]
 fn stated(
     alloc: Global,
     p: &Problem<'_>,
     scope: &Scope<'_, '_>,
     form: &Form<'_>,
-) -> Result<World, WorldEnd>
+) -> Result<World, Turned>
     requires small { IsSmall (scope_view scope.now) }
     requires shapes { HasShapes (scope_view scope.now) }
     requires valid { IsValidSignature (signature_of p.now.signature) }
@@ -109,8 +83,8 @@ fn stated(
 {
     let mut report = Report::new();
     let given = facts(alloc, &mut report, scope, behind_head(form))?;
-    if let Some(fault) = report.least {
-        return Err(WorldEnd::Refused(fault));
+    if let Some(refusal) = report.refusal() {
+        return Err(Turned::Refused(refusal));
     }
     if !is_full(&p.signature, &given) {
         return Err(refused(place_of(form), 303));
@@ -125,7 +99,7 @@ fn among(
     p: &Problem<'_>,
     declared: &Declared<'_>,
     form: &Form<'_>,
-) -> Result<World, WorldEnd>
+) -> Result<World, Turned>
     requires small { IsSmall (declared_view declared.now) }
     requires shapes { HasShapes (declared_view declared.now) }
     requires valid { IsValidSignature (signature_of p.now.signature) }
@@ -151,7 +125,7 @@ fn declared(
     p: &Problem<'_>,
     top: &[Form<'_>],
     form: &Form<'_>,
-) -> Result<World, WorldEnd>
+) -> Result<World, Turned>
     requires valid { IsValidSignature (signature_of p.now.signature) }
     requires stated { signature_of p.now.signature ≡ signature_in (declared_by (map form_view top.now)) }
     ensures says { IfOk result (λ w. world_of w ≡ world_in (declared_by (map form_view top.now)) (behind_head (form_view form.now))) }
@@ -169,8 +143,8 @@ fn declared(
 ///
 /// `Refused` has the first fault of the file's world, and comes exactly where there is one, unless memory is wanting: 310
 /// where there is no world, 300 for its shape, then 301, 302 and 304 for its facts, and then 303. `docs/FORMAT.md`.
-#[tactic(auto, unfolding(crate::specs::Stated::world_fault, crate::specs::Stated::world_by))]
-pub fn read_world(alloc: Global, p: &Problem<'_>, forms: &Forms<'_>) -> Result<World, WorldEnd>
+#[tactic(auto, unfolding(crate::specs::Stated::world_fault, crate::specs::Stated::world_by), using(crate::proofs::Refused::this_found, crate::proofs::Refused::this_plain, pks_grammar::proofs::Refusing::none_refused))]
+pub fn read_world(alloc: Global, p: &Problem<'_>, forms: &Forms<'_>) -> Result<World, Turned>
     requires valid { IsValidSignature (signature_of p.now.signature) }
     requires stated { signature_of p.now.signature ≡ signature_in (declared_by (map form_view forms.now.top.items)) }
     ensures says { IfOk result (λ w. world_of w ≡ world_by (map form_view forms.now.top.items)) }
@@ -182,8 +156,8 @@ pub fn read_world(alloc: Global, p: &Problem<'_>, forms: &Forms<'_>) -> Result<W
     match top_at(top, 3) {
         None => Err(refused(place_at(top, 2), 310)),
         Some(form) => {
-            if let Some(fault) = world_shape_fault(top) {
-                return Err(WorldEnd::Refused(fault));
+            if let Some(refusal) = world_shape_fault(top) {
+                return Err(Turned::Refused(refusal));
             }
             let world = declared(alloc, p, top, form)?;
             Ok(world)

@@ -11,11 +11,11 @@ use Rattle.pks_text.specs.FormViews.{form_view, forms_view}
 use Rattle.pks_grammar.specs.Files.{Fault}
 use Rattle.pks_stated.specs.Spans.{named_of}
 use Rattle.pks_stated.specs.Stated.{Named}
-use Rattle.pks_reader.specs.declared.refusal.Turned.{Turned}
-use Rattle.pks_reader.specs.declared.refusal.Turned.TheVariants.{Memory}
+use Rattle.pks_grammar.specs.declared.report.Turned.{Turned}
+use Rattle.pks_grammar.specs.declared.report.Turned.TheVariants.{Memory}
 use Rattle.pks_reader.specs.Files.{FormsState}
 use Rattle.pks_reader.specs.Texts.{Reads as Spells, States, IsRefused}
-use Rattle.pks_reader.specs.Turning.{Turns}
+use Rattle.pks_grammar.specs.Refusals.{Turns}
 use Rattle.pks_reader.proofs.Parted.{listed, some_same}
 use Rattle.pks_reader.proofs.Deciding.{turns_as, err_as}
 use Rattle.pks_file.specs.Inputs.{first_high, file_in, IsFaulty, too_long, too_high, refused, IsRead}

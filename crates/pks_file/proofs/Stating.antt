@@ -14,7 +14,7 @@ use Rattle.pks_meaning.specs.Meaning.{scope_of}
 use Rattle.pks_stated.specs.Spans.{named_of}
 use Rattle.pks_stated.specs.Stated.{Named, problem_by}
 use Rattle.pks_facts.specs.Stated.{parts_at, declared_by}
-use Rattle.pks_reader.specs.declared.refusal.Turned.{Turned}
+use Rattle.pks_grammar.specs.declared.report.Turned.{Turned}
 use Rattle.pks_text.specs.FormViews.{forms_view}
 use Rattle.pks_reader.specs.Files.{FormsState}
 use Rattle.pks_reader.specs.Texts.{Reads}

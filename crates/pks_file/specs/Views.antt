@@ -6,11 +6,11 @@ use Rattle.pks_terms.specs.ValidProblems.{IsValidProblem}
 use Rattle.pks_text.specs.FormViews.{form_view}
 use Rattle.pks_meaning.specs.Scopes.{signature_in}
 use Rattle.pks_stated.specs.Spans.{named_of}
+use Rattle.pks_grammar.specs.Refusals.{Turns}
+use Rattle.pks_grammar.specs.declared.report.Turned.{Turned}
 use Rattle.pks_world.specs.Contents.{world_of}
-use Rattle.pks_world.specs.declared.world.World.{World}
+use Rattle.pks_world.specs.declared.worlds.World.{World}
 use Rattle.pks_facts.specs.Stated.{declared_by}
-use Rattle.pks_facts.specs.declared.read.WorldEnd.{WorldEnd}
-use Rattle.pks_facts.specs.declared.read.WorldEnd.TheVariants.{Refused, Memory}
 use Rattle.pks_file.specs.declared.input.InputFile.{InputFile}
 use Rattle.pks_file.specs.Inputs.{line_and_column, file_in}
 
@@ -28,12 +28,15 @@ pub record IsWhole (f : InputFile) : Type 0 where
 abbrev pub place_at : ℕ × ℕ → Place
 place_at p = record { line = p.0; column = p.1 }
 
+-- a byte of the file's text stands there
+abbrev pub IsAt : InputFile → ℕ → Place → Type 0
+IsAt f byte place = place ≡ line_and_column f.source.now byte
+
 -- the world, or that there is none
 abbrev pub stated_as : Option World → Stated
 stated_as None = NoWorld
 stated_as (Some w) = GivenWorld (world_of w)
 
--- the file's world has this fault, or memory was wanting
-abbrev pub IsBadWorld : InputFile → WorldEnd → Type 0
-IsBadWorld f (Refused fault) = (file_of f).world ≡ BadWorld (line_and_column f.source.now fault.at) fault.code
-IsBadWorld f Memory = Unit {0}
+-- it is the refusal of the fault in the file's world, which says nothing else, or want of memory
+abbrev pub IsBadWorld : InputFile → Turned → Type 0
+IsBadWorld f turned = Turns (λ fault. (file_of f).world ≡ BadWorld (line_and_column f.source.now fault.0) fault.1) turned

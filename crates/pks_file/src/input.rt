@@ -9,16 +9,16 @@ ghost use Rattle.pks_text.specs.FormViews.{form_view, forms_view};
 ghost use Rattle.pks_grammar.specs.Files as shaping;
 ghost use Rattle.pks_stated.specs.Spans.{named_of};
 ghost use Rattle.pks_stated.specs.Stated.{Named};
-ghost use Rattle.pks_reader.specs.declared.refusal.Turned.TheVariants.{Memory};
+ghost use Rattle.pks_grammar.specs.declared.report.Turned.TheVariants.{Memory};
 ghost use Rattle.pks_reader.specs.Files.{AreRefused, FormsState};
-ghost use Rattle.pks_reader.specs.Texts.{Reads, States, IsRefused, coded};
-ghost use Rattle.pks_reader.specs.Turning.{Turns};
+ghost use Rattle.pks_reader.specs.Texts.{Reads, States, IsRefused};
+ghost use Rattle.pks_grammar.specs.Refusals.{Turns};
 ghost use Rattle.pks_file.specs.Inputs.{first_high, IsFaulty, IsRead};
 ghost use Rattle.pks_file.specs.Views.{file_of, IsWhole};
 
-use pks_reader::{Extra, Refusal, Turned, problem_of};
+use pks_reader::{Refusal, Turned, problem_of, text_refused};
 use pks_terms::problem::Problem;
-use pks_text::{FormFault, Forms, forms};
+use pks_text::{Forms, forms};
 use std::alloc::Global;
 
 /// A file without a fault up to meaning: its text, the forms that the text spells, and the problem that they state, lent
@@ -48,26 +48,11 @@ fn first_high(input: &[u8]) -> Option<u32>
     None
 }
 
-fn refused(at: u32, code: u16) -> Turned
-    ensures { Turns (λ f. f ≡ (at, code)) result }
+// The refusal of a byte above 127.
+fn refused(at: u32) -> Turned
+    ensures { Turns (λ f. f ≡ (at, 101)) result }
 {
-    Turned::Refused(Refusal {
-        code,
-        at,
-        extra: Extra::Plain,
-    })
-}
-
-fn text_refused(fault: FormFault) -> Turned
-    ensures { Turns (λ f. coded fault ≡ Some f) result }
-{
-    match fault {
-        FormFault::BadByte(at) => refused(at, 110),
-        FormFault::Unclosed(at) => refused(at, 111),
-        FormFault::Unopened(at) => refused(at, 112),
-        FormFault::TooDeep(at) => refused(at, 113),
-        FormFault::Memory => Turned::Memory,
-    }
+    Turned::Refused(Refusal::plain(at, 101))
 }
 
 // The file of these forms, or their first fault, of shape or meaning.
@@ -130,7 +115,7 @@ pub fn read_file<'s>(alloc: Global, input: &'s [u8]) -> Result<InputFile<'s>, Tu
     ensures only_faulty { (fault : shaping.Fault) → IsFaulty input.now fault → (IsOk result → ⊥) × IfErr result (Turns (λ g. g ≡ fault)) }
 {
     match first_high(input) {
-        Some(at) => Err(refused(at, 101)),
+        Some(at) => Err(refused(at)),
         None => match std::str::from_utf8(input) {
             Ok(source) => read_text(alloc, source),
             Err(_) => unreachable!(),

@@ -7,5 +7,5 @@ mod places;
 mod world;
 
 pub use input::{InputFile, read_file};
-pub use places::{add_place, init_place, place, problem_place, world_place};
+pub use places::{add_at, init_at, place, problem_at, world_at};
 pub use world::stated_world;

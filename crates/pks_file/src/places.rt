@@ -1,11 +1,11 @@
-//! Places in an input, as refusals name them.
+//! Places in an input: the bytes that refusals name, and their lines and columns.
 ghost use Rattle.std.specs.Prelude.{◌≡◌, ◌≤◌, length, map, slice_get};
 ghost use Rattle.std.specs.Option.{option_map_or};
 ghost use Rattle.pks_text.specs.Forms.{place_of};
 ghost use Rattle.pks_text.specs.FormViews.{form_view};
 ghost use Rattle.pks_stated.specs.Spans.{bytes_in, adds_in};
 ghost use Rattle.pks_file.specs.Inputs.{line_and_column, add_begins};
-ghost use Rattle.pks_file.specs.Views.{file_of, place_at};
+ghost use Rattle.pks_file.specs.Views.{file_of, place_at, IsAt};
 
 use crate::input::InputFile;
 use crate::world::world_form;
@@ -47,46 +47,33 @@ fn add_begins(schemas: &[Schema<'_>], action: ActId, number: u32) -> u32
     }
 }
 
-/// Where an add of an action begins; adds are counted from 1. The text has at most 262,144 bytes.
-pub fn add_place(f: &InputFile<'_>, action: ActId, number: u32) -> (u32, u32)
-    requires { length f.now.source.now ≤ 262144 }
-    ensures { place_at result ≡ (file_of f.now).add_at action.0 number }
+/// The byte at which an add of an action begins; adds are counted from 1.
+pub fn add_at(f: &InputFile<'_>, action: ActId, number: u32) -> u32
+    ensures { IsAt f.now result ((file_of f.now).add_at action.0 number) }
 {
-    place(
-        f.source.as_bytes(),
-        add_begins(f.problem.schemas.as_slice(), action, number),
-    )
+    add_begins(f.problem.schemas.as_slice(), action, number)
 }
 
-/// Where the initial items begin; the first place where there are none. The text has at most 262,144 bytes.
-pub fn init_place(f: &InputFile<'_>) -> (u32, u32)
-    requires { length f.now.source.now ≤ 262144 }
-    ensures { place_at result ≡ (file_of f.now).init_at }
+/// The byte at which the initial items begin; the first one where there are none.
+pub fn init_at(f: &InputFile<'_>) -> u32
+    ensures { IsAt f.now result (file_of f.now).init_at }
 {
-    place(f.source.as_bytes(), f.problem.init_span.start)
+    f.problem.init_span.start
 }
 
-/// Where the problem begins. The text has at most 262,144 bytes.
-pub fn problem_place(f: &InputFile<'_>) -> (u32, u32)
-    requires { length f.now.source.now ≤ 262144 }
-    ensures { place_at result ≡ (file_of f.now).problem_at }
+/// The byte at which the problem begins.
+pub fn problem_at(f: &InputFile<'_>) -> u32
+    ensures { IsAt f.now result (file_of f.now).problem_at }
 {
-    place(f.source.as_bytes(), f.problem.problem_span.start)
+    f.problem.problem_span.start
 }
 
-fn world_begins(f: &InputFile<'_>) -> u32
-    ensures { result ≡ option_map_or place_of (slice_get (map form_view f.now.forms.top.items) 3) 0 }
+/// The byte at which the world begins; the first one where there is none.
+pub fn world_at(f: &InputFile<'_>) -> u32
+    ensures { IsAt f.now result (file_of f.now).world_at }
 {
     match world_form(&f.forms) {
         None => 0,
         Some(form) => place_of(form),
     }
-}
-
-/// Where the world begins; the first place where there is none. The text has at most 262,144 bytes.
-pub fn world_place(f: &InputFile<'_>) -> (u32, u32)
-    requires { length f.now.source.now ≤ 262144 }
-    ensures { place_at result ≡ (file_of f.now).world_at }
-{
-    place(f.source.as_bytes(), world_begins(f))
 }

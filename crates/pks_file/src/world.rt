@@ -6,9 +6,9 @@ ghost use Rattle.pks_world.specs.First.{IsWorldOf};
 ghost use Rattle.pks_file.specs.Views.{file_of, stated_as, IsWhole, IsBadWorld};
 
 use crate::input::InputFile;
-use pks_facts::{WorldEnd, read_world};
+use pks_reader::{Turned, read_world};
 use pks_text::{Form, Forms};
-use pks_world::world::World;
+use pks_world::World;
 use std::alloc::Global;
 
 /// The form of the world, which is the fourth.
@@ -20,9 +20,9 @@ pub fn world_form<'f, 's>(forms: &'f Forms<'s>) -> Option<&'f Form<'s>>
 
 /// The world that a file states, or that it states none. It asks for a file as `read_file` gives it.
 ///
-/// `Refused` has the first fault of the world, with its code 300 to 304, and comes exactly where there is one, unless memory is
-/// wanting. `docs/FORMAT.md`.
-pub fn stated_world(alloc: Global, f: &InputFile<'_>) -> Result<Option<World>, WorldEnd>
+/// A refusal is that of the first fault of the world, with its code 300 to 304, and says nothing else; it comes exactly where there
+/// is one, unless memory is wanting. `docs/FORMAT.md`.
+pub fn stated_world(alloc: Global, f: &InputFile<'_>) -> Result<Option<World>, Turned>
     requires { IsWhole f.now }
     ensures says { IfOk result (λ w. (file_of f.now).world ≡ stated_as w) }
     ensures of_signature { IfOk result (λ w. IfSome w (IsWorldOf (signature_of f.now.problem.signature))) }

@@ -157,9 +157,9 @@ of_file end (f ∷ d ∷ p ∷ rest) (v, states, domain, problem, may) =
 
 -- ---- a result in memory
 
-pub none_is : {X Y : Type 0} (view : X → Y) (o : Option X) (p : Option Y) → option_map view o ≡ p → (IsNone o → p ≡ None) × (p ≡ None → IsNone o)
-none_is view None p e = (λ none. sym e, λ none. refl)
-none_is {Y = Y} view (Some x) p e = (λ none. absurd (true≢false none), λ none. absurd (not_none (e ∙ none)))
+pub none_is : {X Y : Type 0} (view : Y → X) (o : Option X) (p : Option Y) → o ≡ option_map view p → (IsNone o → p ≡ None) × (p ≡ None → IsNone o)
+none_is view o None e = (λ none. refl, λ none. subst IsNone (sym e) refl)
+none_is {Y = Y} view o (Some y) e = (λ none. absurd (true≢false (subst IsNone e none)), λ none. absurd (not_none none))
   where
     not_none : {y : Y} → Some y ≡ None → ⊥
     not_none e = grind arith

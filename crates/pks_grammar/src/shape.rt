@@ -4,12 +4,12 @@ ghost use Rattle.std.specs.Prelude.{◌≡◌, ◌↔◌, ◌∷◌, [], IsNone,
 ghost use Rattle.pks_text.specs.Forms.{place_of};
 ghost use Rattle.pks_text.specs.FormViews.{form_view, forms_view};
 ghost use Rattle.pks_grammar.specs.Files.{is_word, are_words, is_list_of, stated, is_version, version_of, number_of, or_else, top_fault, rest_fault, shape_fault, walk_fault, world_shape_fault};
-ghost use Rattle.pks_grammar.specs.FaultViews.{fault_view};
+ghost use Rattle.pks_grammar.specs.Refusals.{refusing};
 ghost use Rattle.pks_grammar.specs.Language.{IsFile};
 ghost use Rattle.pks_grammar.specs.Walk.{is_headed};
 
 use crate::grammar::{Sort, Version};
-use crate::report::Fault;
+use crate::report::Refusal;
 use crate::walk::{fault_in, is_headed};
 use pks_text::{Form, place_of};
 
@@ -84,8 +84,8 @@ pub fn version_of(top: &[Form<'_>]) -> Version
 }
 
 /// The first fault, or the later one where there is none.
-pub fn or_else(first: Option<Fault>, later: Option<Fault>) -> Option<Fault>
-    ensures { option_map fault_view result ≡ or_else (option_map fault_view first) (option_map fault_view later) }
+pub fn or_else(first: Option<Refusal>, later: Option<Refusal>) -> Option<Refusal>
+    ensures { result ≡ or_else first later }
 {
     match first {
         None => later,
@@ -93,53 +93,44 @@ pub fn or_else(first: Option<Fault>, later: Option<Fault>) -> Option<Fault>
     }
 }
 
-fn version_fault(end: u32, form: Option<&Form<'_>>) -> Option<Fault>
-    ensures { option_map fault_view result ≡ top_fault 120 is_version end (option_map (λ f. form_view f.now) form.entry) }
+fn version_fault(end: u32, form: Option<&Form<'_>>) -> Option<Refusal>
+    ensures { result ≡ refusing (top_fault 120 is_version end (option_map (λ f. form_view f.now) form.entry)) }
 {
     match form {
-        None => Some(Fault { at: end, code: 120 }),
+        None => Some(Refusal::plain(end, 120)),
         Some(form) => match stated(form) {
             Some(_) => None,
-            None => Some(Fault {
-                at: place_of(form),
-                code: 120,
-            }),
+            None => Some(Refusal::plain(place_of(form), 120)),
         },
     }
 }
 
-fn head_fault(code: u16, head: &str, end: u32, form: Option<&Form<'_>>) -> Option<Fault>
-    ensures { option_map fault_view result ≡ top_fault code (is_headed head.now) end (option_map (λ f. form_view f.now) form.entry) }
+fn head_fault(code: u16, head: &str, end: u32, form: Option<&Form<'_>>) -> Option<Refusal>
+    ensures { result ≡ refusing (top_fault code (is_headed head.now) end (option_map (λ f. form_view f.now) form.entry)) }
 {
     match form {
-        None => Some(Fault { at: end, code }),
+        None => Some(Refusal::plain(end, code)),
         Some(form) => {
             if is_headed(head, form) {
                 None
             } else {
-                Some(Fault {
-                    at: place_of(form),
-                    code,
-                })
+                Some(Refusal::plain(place_of(form), code))
             }
         }
     }
 }
 
-fn fifth_fault(form: Option<&Form<'_>>) -> Option<Fault>
-    ensures { option_map fault_view result ≡ option_map (λ g. (place_of g, 123)) (option_map (λ f. form_view f.now) form.entry) }
+fn fifth_fault(form: Option<&Form<'_>>) -> Option<Refusal>
+    ensures { result ≡ refusing (option_map (λ g. (place_of g, 123)) (option_map (λ f. form_view f.now) form.entry)) }
 {
     match form {
         None => None,
-        Some(form) => Some(Fault {
-            at: place_of(form),
-            code: 123,
-        }),
+        Some(form) => Some(Refusal::plain(place_of(form), 123)),
     }
 }
 
-fn rest_fault(fourth: Option<&Form<'_>>, fifth: Option<&Form<'_>>) -> Option<Fault>
-    ensures { option_map fault_view result ≡ rest_fault (option_map (λ f. form_view f.now) fourth.entry) (option_map (λ f. form_view f.now) fifth.entry) }
+fn rest_fault(fourth: Option<&Form<'_>>, fifth: Option<&Form<'_>>) -> Option<Refusal>
+    ensures { result ≡ refusing (rest_fault (option_map (λ f. form_view f.now) fourth.entry) (option_map (λ f. form_view f.now) fifth.entry)) }
 {
     match fourth {
         None => None,
@@ -147,10 +138,7 @@ fn rest_fault(fourth: Option<&Form<'_>>, fifth: Option<&Form<'_>>) -> Option<Fau
             if is_headed("world", form) {
                 fifth_fault(fifth)
             } else {
-                Some(Fault {
-                    at: place_of(form),
-                    code: 123,
-                })
+                Some(Refusal::plain(place_of(form), 123))
             }
         }
     }
@@ -162,22 +150,22 @@ fn top_at<'f, 's>(top: &'f [Form<'s>], i: usize) -> Option<&'f Form<'s>>
     top.get(i)
 }
 
-fn walk_fault(code: u16, version: Version, sort: Sort, form: Option<&Form<'_>>) -> Option<Fault>
-    ensures { option_map fault_view result ≡ walk_fault code version sort (option_map (λ f. form_view f.now) form.entry) }
+fn walk_fault(code: u16, version: Version, sort: Sort, form: Option<&Form<'_>>) -> Option<Refusal>
+    ensures { result ≡ refusing (walk_fault code version sort (option_map (λ f. form_view f.now) form.entry)) }
 {
     match form {
         None => None,
         Some(form) => match fault_in(version, sort, form) {
             None => None,
-            Some(at) => Some(Fault { at, code }),
+            Some(at) => Some(Refusal::plain(at, code)),
         },
     }
 }
 
 // The tests of a file's shape in their order.
-#[tactic(auto, unfolding(crate::specs::Files::shape_fault))]
-fn first_fault(end: u32, top: &[Form<'_>]) -> Option<Fault>
-    ensures { option_map fault_view result ≡ shape_fault end (map form_view top.now) }
+#[tactic(auto, unfolding(crate::specs::Files::shape_fault), using(crate::proofs::Refusing::both_refusing))]
+fn first_fault(end: u32, top: &[Form<'_>]) -> Option<Refusal>
+    ensures { result ≡ refusing (shape_fault end (map form_view top.now)) }
 {
     let version = version_of(top);
     let walked = or_else(
@@ -192,16 +180,16 @@ fn first_fault(end: u32, top: &[Form<'_>]) -> Option<Fault>
 
 /// The first fault of shape, with its code from 120 to 124, of a text of `end` bytes that spells these top forms. There is
 /// none exactly where they are a version, a domain and a problem of the grammar, and then maybe a list headed `world`.
-pub fn shape_fault(end: u32, top: &[Form<'_>]) -> Option<Fault>
-    ensures fault { option_map fault_view result ≡ shape_fault end (map form_view top.now) }
+pub fn shape_fault(end: u32, top: &[Form<'_>]) -> Option<Refusal>
+    ensures fault { result ≡ refusing (shape_fault end (map form_view top.now)) }
     ensures none { IsNone result ↔ IsFile (map form_view top.now) }
 {
     first_fault(end, top)
 }
 
 /// The first form of the world, where there is one, that is not what the grammar has at its place, with the code 300.
-pub fn world_shape_fault(top: &[Form<'_>]) -> Option<Fault>
-    ensures { option_map fault_view result ≡ world_shape_fault (map form_view top.now) }
+pub fn world_shape_fault(top: &[Form<'_>]) -> Option<Refusal>
+    ensures { result ≡ refusing (world_shape_fault (map form_view top.now)) }
 {
     walk_fault(300, version_of(top), Sort::World, top_at(top, 3))
 }

@@ -1,11 +1,15 @@
 -- Noting faults one after the other.
 use Rattle.std.proofs.Common.{◌≡◌, ℕ, ◌+◌, List, [], ◌∷◌, ◌++◌, Option, Some, None, cond, refl, sym, ap, ◌∙◌, is_some, is_none, option_map, ◌<◌, length, drop, slice_index_or, add-one}
 use Rattle.std.proofs.Math.Seq.{drop-cons}
+use Rattle.std.specs.Option.{ForSome}
 use Rattle.pks_text.specs.Forms.{Form, Forms, form}
 use Rattle.pks_text.specs.declared.tree.Form.{Form as CodeForm}
 use Rattle.pks_text.specs.FormViews.{form_view, forms_view}
 use Rattle.pks_grammar.specs.Files.{Fault}
+use Rattle.pks_grammar.specs.declared.report.Refusal.{Refusal}
+use Rattle.pks_grammar.specs.Refusals.{IsPlain, refusing}
 use Rattle.pks_meaning.specs.Tables.{Table, declare, unknown}
+use Rattle.pks_meaning.specs.Views.{fault_of}
 use Rattle.pks_meaning.specs.Parts.{each}
 use Rattle.pks_meaning.specs.Declarations.{name_of, name_faults, table_from, entries_faults}
 use Rattle.pks_meaning.specs.Meaning.{noted, all_noted}
@@ -64,3 +68,8 @@ pub table_next : {X : Type 0} (named : Form → Form) (said : Form → X) (fs : 
     → table_from named said t (forms_view (drop i fs)) ≡ total → table_from named said u (forms_view (drop (i + 1) fs)) ≡ total
 table_next {X = X} named said fs i x t u total within is declared so_far =
     ap (λ (v : Table X). table_from named said v (forms_view (drop (i + 1) fs))) declared ∙ sym (ap (λ (gs : Forms). table_from named said t gs) (drop_view fs i x within is)) ∙ so_far
+
+-- a refusal that says nothing else is that of its place and its code
+pub plain_least : (least : Option Refusal) → ForSome least IsPlain → least ≡ refusing (option_map fault_of least)
+plain_least None plain = refl
+plain_least (Some r) plain = ap (λ extra. Some (record r { extra = extra })) (plain r refl)

@@ -4,15 +4,19 @@ use Rattle.std.specs.Borrow.{Bor}
 use Rattle.std.specs.HashMap.{HashMap}
 use Rattle.pks_terms.specs.Views.{shape_of}
 use Rattle.pks_grammar.specs.Files.{Fault}
-use Rattle.pks_grammar.specs.FaultViews.{fault_view}
+use Rattle.pks_grammar.specs.declared.report.Refusal.{Refusal}
 use Rattle.pks_meaning.specs.Tables.{Table}
 use Rattle.pks_meaning.specs.Scopes as scopes
 use Rattle.pks_meaning.specs.declared.report.Report.{Report}
 use Rattle.pks_meaning.specs.declared.scope.Scope.{Scope}
 
+-- the place and the code of a refusal
+abbrev pub fault_of : Refusal → Fault
+fault_of r = (r.at, r.code)
+
 -- the least fault so far
 abbrev pub found_of : Report → Option Fault
-found_of r = option_map fault_view r.least
+found_of r = option_map fault_of r.least
 
 -- names with what is said of them
 abbrev pub names_of : {X S : Type 0} → HashMap (Bor (List ℕ)) X S → Table X

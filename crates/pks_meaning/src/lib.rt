@@ -2,6 +2,7 @@
 //! declared (`docs/FORMAT.md`).
 #![tactic(auto)]
 
+mod keeping;
 pub mod parts;
 pub mod report;
 mod same;

@@ -1,61 +1,12 @@
 //! The least fault of meaning so far.
-ghost use Rattle.std.specs.Prelude.{◌≡◌, ℕ, List, [], ◌∷◌, None, if◌then◌else◌};
-ghost use Rattle.pks_meaning.specs.Tables.{too_long};
-ghost use Rattle.pks_meaning.specs.Meaning.{is_before, noted, all_noted};
-ghost use Rattle.pks_meaning.specs.Views.{found_of};
+ghost use Rattle.std.specs.Option.{ForSome};
+ghost use Rattle.pks_grammar.specs.Refusals.{IsPlain};
 
-use pks_grammar::report::Fault;
+use pks_grammar::report::Refusal;
 
-/// The least fault so far.
-#[derive(Clone, Copy, Debug)]
+/// The refusal of the least fault so far, which says nothing but its place and its code.
+#[derive(Clone, Copy)]
 pub struct Report {
-    pub least: Option<Fault>,
-}
-
-fn is_before(f: Fault, g: Fault) -> bool
-    ensures { result ≡ is_before (f.at, f.code) (g.at, g.code) }
-{
-    f.at < g.at || (f.at == g.at && f.code < g.code)
-}
-
-impl Report {
-    /// Nothing was found.
-    pub fn new() -> Report
-        ensures { found_of result ≡ None }
-    {
-        Report { least: None }
-    }
-
-    /// Keeps the fault where it comes before the one that was kept.
-    pub fn note(&mut self, at: u32, code: u16)
-        ensures { found_of self.new ≡ noted (found_of self.old) (at, code) }
-    {
-        let fault = Fault { at, code };
-        match self.least {
-            None => self.least = Some(fault),
-            Some(other) => {
-                if is_before(fault, other) {
-                    self.least = Some(fault);
-                }
-            }
-        }
-    }
-
-    /// A name of more than 64 bytes.
-    pub fn too_long(&mut self, name: &str, at: u32)
-        ensures { found_of self.new ≡ all_noted (found_of self.old) (too_long name.now at) }
-    {
-        if name.len() > 64 {
-            self.note(at, 200);
-        }
-    }
-
-    /// What a name stands for is not there.
-    pub fn unknown(&mut self, is_known: bool, at: u32, code: u16)
-        ensures { found_of self.new ≡ all_noted (found_of self.old) (if is_known then [] else (at, code) ∷ []) }
-    {
-        if !is_known {
-            self.note(at, code);
-        }
-    }
+    pub(crate) least: Option<Refusal>,
+    ghost plain: { ForSome least IsPlain },
 }

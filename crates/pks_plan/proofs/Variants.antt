@@ -4,9 +4,9 @@ use Rattle.pks_terms.specs.declared.schema.Instance.{Instance}
 use Rattle.pks_terms.specs.declared.literal.Conj.{Conj}
 use Rattle.pks_terms.specs.declared.term.Term.{Term}
 use Rattle.pks_terms.specs.Trees.{root_kind}
-use Rattle.pks_plan.specs.declared.tree.Tree as tree
-use Rattle.pks_plan.specs.declared.tree.Tree.TheVariants as tree_is
-use Rattle.pks_plan.specs.declared.tree.CaseChain as chain
+use Rattle.pks_plan.specs.declared.trees.Tree as tree
+use Rattle.pks_plan.specs.declared.trees.Tree.TheVariants as tree_is
+use Rattle.pks_plan.specs.declared.trees.CaseChain as chain
 use Rattle.pks_plan.specs.TreeViews.{tree_of}
 
 pub only_act : (u : tree.Tree) → 2 ≡ root_kind (tree_of u) → ((i : Instance) (x : Box tree.Tree Global) → u ≡ tree_is.Act i x → ⊥) → ⊥

@@ -1,8 +1,8 @@
 -- What the program's trees say, apart from how they lie in memory.
 use Rattle.pks_terms.specs.Trees.{Tree, Goal, Impossible, Do, Branch, Cases, Chain, End, More}
 use Rattle.pks_terms.specs.Views.{term_of, conj_of, instance_of}
-use Rattle.pks_plan.specs.declared.tree.Tree as tree
-use Rattle.pks_plan.specs.declared.tree.CaseChain as chain
+use Rattle.pks_plan.specs.declared.trees.Tree as tree
+use Rattle.pks_plan.specs.declared.trees.CaseChain as chain
 
 -- a tree, and the chain of its cases
 abbrev mutual

@@ -9,7 +9,7 @@ ghost use Rattle.pks_plan.specs.Indents.{indent};
 ghost use Rattle.pks_plan.specs.TreeViews.{tree_of, chain_of};
 
 use crate::lines::{branch_line, case_line, cases_line, depth_line, step_line, word_line};
-use crate::tree::{CaseChain, Tree, depth};
+use crate::trees::{CaseChain, Tree, depth};
 use pks_terms::problem::Problem;
 use std::alloc::{AllocError, Global};
 

@@ -1,12 +1,18 @@
 //! Conditional plans: their depth, their cost, which of two is better, and their text.
 #![tactic(auto)]
 
-pub mod body;
+mod body;
 mod bytes;
 pub mod laws;
 mod lines;
-pub mod names;
-pub mod order;
+mod names;
+mod order;
 mod parts;
-pub mod text;
-pub mod tree;
+mod text;
+mod trees;
+
+pub use body::print_tree;
+pub use names::action_name;
+pub use order::{action_cost, better, cost};
+pub use text::{print_conj, print_instance, print_literal, print_pattern, print_term};
+pub use trees::{CaseChain, Tree, depth};

@@ -10,7 +10,7 @@ ghost use Rattle.pks_terms.specs.Trees.{depth, chain_depth, cost, chain_cost, ob
 ghost use Rattle.pks_terms.specs.Views.{problem_of, instance_of};
 ghost use Rattle.pks_plan.specs.TreeViews.{tree_of, chain_of};
 
-use crate::tree::{CaseChain, Tree};
+use crate::trees::{CaseChain, Tree};
 use pks_terms::ids::ActId;
 use pks_terms::problem::Problem;
 use pks_terms::schema::Instance;

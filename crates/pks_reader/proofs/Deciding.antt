@@ -1,5 +1,5 @@
 -- Forms, and a text, state one problem or are refused with one fault.
-use Rattle.std.proofs.Common.{◌≡◌, ◌∙◌, ◌⊎◌, ◌↔◌, inl, inr, ℕ, List, Option, Some, None, IsNone, option_map, Result, Ok, Err, IsOk, IfOk, IfErr, length, refl, sym, ap, subst}
+use Rattle.std.proofs.Common.{◌≡◌, ◌∙◌, ◌⊎◌, inl, inr, ℕ, List, Option, Some, None, Result, Ok, Err, IsOk, IfOk, IfErr, length, refl, sym, ap, subst}
 use Rattle.std.proofs.lemmas.Option.{none-some}
 use Rattle.std.proofs.lemmas.Bool.{false≢true}
 use Rattle.pks_terms.specs.Problems.{Problem}
@@ -11,18 +11,16 @@ use Rattle.pks_text.specs.declared.tree.FormFault.{FormFault}
 use Rattle.pks_text.specs.declared.tree.FormFault.TheVariants as text
 use Rattle.pks_text.proofs.OneReading.{one_forms}
 use Rattle.pks_grammar.specs.declared.grammar.Version.{Version}
-use Rattle.pks_grammar.specs.declared.report.Fault as report
-use Rattle.pks_grammar.specs.FaultViews.{fault_view}
 use Rattle.pks_grammar.specs.Files.{Fault, number_of, shape_fault}
 use Rattle.pks_grammar.specs.Language.{IsFile}
 use Rattle.pks_meaning.specs.Parts.{behind_head}
 use Rattle.pks_stated.specs.Spans.{named_of}
 use Rattle.pks_stated.specs.Stated.{Named, problem_in, named_in}
-use Rattle.pks_reader.specs.declared.refusal.Turned.{Turned}
-use Rattle.pks_reader.specs.declared.refusal.Turned.TheVariants.{Refused, Memory}
+use Rattle.pks_grammar.specs.declared.report.Turned.{Turned}
+use Rattle.pks_grammar.specs.declared.report.Turned.TheVariants.{Refused, Memory}
 use Rattle.pks_reader.specs.Files.{IsFileOf, faults_by_section, AreRefused, by_shape, by_meaning, FormsState}
 use Rattle.pks_reader.specs.Texts.{IsRefused, by_text, by_forms, States, coded}
-use Rattle.pks_reader.specs.Turning.{Turns}
+use Rattle.pks_grammar.specs.Refusals.{Turns}
 use Rattle.pks_reader.proofs.Firsts.{first_fault, is_first, faultless}
 use Rattle.pks_reader.proofs.Parted.{some_same, same_parts, listed}
 
@@ -31,13 +29,6 @@ use Rattle.pks_reader.proofs.Parted.{some_same, same_parts, listed}
 -- a file has no fault of shape
 abbrev pub IsShaped : ℕ → List Form → Type 0
 IsShaped end fs = IsFile fs → shape_fault end fs ≡ None
-
-pub is_shaped : (end : ℕ) (fs : List Form) (o : Option report.Fault) → option_map fault_view o ≡ shape_fault end fs → (IsNone o ↔ IsFile fs) → IsShaped end fs
-is_shaped end fs None e decides = λ file. sym e
-is_shaped end fs (Some fault) e decides = λ file. absurd (not_none (decides.1 file))
-  where
-    not_none : IsNone (Some fault) → ⊥
-    not_none none = cc
 
 abbrev sections : Version → Form → Form → List (List Fault)
 sections v d p = faults_by_section (number_of v) (behind_head d) (behind_head p)

@@ -15,7 +15,7 @@ use Rattle.pks_domain.specs.FirstFault.{meaning_fault}
 use Rattle.pks_stated.specs.Sizes.{AreCounted}
 use Rattle.pks_stated.specs.Spans.{bytes_in, adds_in, named_of}
 use Rattle.pks_stated.specs.Stated.{Bytes, Named, all, bytes_of, add_places, problem_in, named_in, named_by}
-use Rattle.pks_reader.specs.declared.refusal.Turned.{Turned}
+use Rattle.pks_grammar.specs.declared.report.Turned.{Turned}
 use Rattle.pks_reader.specs.Files.{IsFileOf, faults_by_section, AreRefused, by_meaning, FormsState}
 use Rattle.pks_reader.proofs.Firsts.{first_is, no_faults, meaning_first}
 use Rattle.pks_reader.proofs.Numbering.{items_few, adds_few, adds_numbered}

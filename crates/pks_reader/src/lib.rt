@@ -1,4 +1,4 @@
-//! The problem that a text states, or the code and the place of its first fault (`docs/FORMAT.md`).
+//! The problem that a text states, and the world of a file, or the refusal of the first fault (`docs/FORMAT.md`).
 #![tactic(auto)]
 
 #[cfg(test)]
@@ -8,5 +8,7 @@ mod refusal;
 #[cfg(test)]
 mod tests;
 
+pub use pks_facts::read_world;
+pub use pks_grammar::report::{Extra, Refusal, Turned};
 pub use reading::{problem_of, read_problem};
-pub use refusal::{Extra, Refusal, Turned};
+pub use refusal::text_refused;

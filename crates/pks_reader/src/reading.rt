@@ -14,14 +14,15 @@ ghost use Rattle.pks_domain.specs.FirstFault.{meaning_fault};
 ghost use Rattle.pks_stated.specs.Sizes.{AreCounted};
 ghost use Rattle.pks_stated.specs.Spans.{named_of};
 ghost use Rattle.pks_stated.specs.Stated.{Named, problem_in, named_in};
-ghost use Rattle.pks_reader.specs.declared.refusal.Turned.TheVariants.{Memory};
+ghost use Rattle.pks_grammar.specs.declared.report.Turned.TheVariants.{Memory};
+ghost use Rattle.pks_grammar.specs.Refusals.{Turns};
 ghost use Rattle.pks_reader.specs.Files.{AreRefused, FormsState};
 ghost use Rattle.pks_reader.specs.Texts.{IsRefused, States};
-ghost use Rattle.pks_reader.specs.Turning.{Turns};
 
-use crate::refusal::{Turned, plain, text_refused};
+use crate::refusal::text_refused;
 use pks_domain::meaning;
 use pks_grammar::grammar::Version;
+use pks_grammar::report::Turned;
 use pks_grammar::shape::{shape_fault, version_of};
 use pks_meaning::parts::behind_head;
 use pks_stated::problem;
@@ -30,6 +31,7 @@ use pks_text::{Form, Forms, forms};
 use std::alloc::Global;
 
 // The problem that a domain and a problem of the grammar state, or their first fault of meaning.
+#[tactic(auto, using(pks_facts::proofs::Refused::this_found, pks_facts::proofs::Refused::this_plain, pks_grammar::proofs::Refusing::none_refused))]
 fn meant<'s>(
     alloc: Global,
     version: Version,
@@ -46,8 +48,8 @@ fn meant<'s>(
 {
     let number = version.number();
     let read = meaning(alloc, number, behind_head(domain), behind_head(form))?;
-    match read.fault {
-        Some(fault) => Err(Turned::Refused(plain(fault.at, fault.code))),
+    match read.refusal {
+        Some(refusal) => Err(Turned::Refused(refusal)),
         None => {
             let stated = problem(alloc, number, &read.declared, behind_head(domain), form)?;
             Ok(stated)
@@ -67,6 +69,7 @@ fn form_at<'f, 's>(top: &'f [Form<'s>], i: usize) -> &'f Form<'s>
 /// `docs/FORMAT.md` says. `forms` are those that `source` spells, which has at most 262,144 bytes.
 ///
 /// `Refused` comes exactly where there is a fault, and the problem is valid; `Memory` may come at any forms.
+#[tactic(auto, using(pks_facts::proofs::Refused::this_found, pks_facts::proofs::Refused::this_plain, pks_grammar::proofs::Refusing::none_refused))]
 pub fn problem_of<'s>(
     alloc: Global,
     source: &'s str,
@@ -88,7 +91,7 @@ pub fn problem_of<'s>(
 {
     let top = forms.top.as_slice();
     match shape_fault(source.len() as u32, top) {
-        Some(fault) => Err(Turned::Refused(plain(fault.at, fault.code))),
+        Some(refusal) => Err(Turned::Refused(refusal)),
         None => meant(alloc, version_of(top), form_at(top, 1), form_at(top, 2)),
     }
 }

@@ -104,8 +104,8 @@ get_first (x ∷ xs) ys zero h = refl
 get_first (x ∷ xs) ys (suc n) h = get_first xs ys n (omega (arith, h))
 
 get_behind : {X : Type 0} (xs ys : List X) (n : ℕ) → slice_get (xs ++ ys) (length xs + n) ≡ slice_get ys n
-get_behind [] ys n = refl
-get_behind (x ∷ xs) ys n = get_behind xs ys n
+get_behind [] ys n = let none : 0 + n ≡ n = omega arith in ap (λ m. slice_get ys m) none
+get_behind (x ∷ xs) ys n = let more : suc (length xs) + n ≡ suc (length xs + n) = omega arith in ap (λ m. slice_get (x ∷ (xs ++ ys)) m) more ∙ get_behind xs ys n
 
 -- the number is so much more than one that is there
 more_than : (k : ℕ) (o : Option ℕ) (n : ℕ) → option_map (λ m. k + m) o ≡ Some n → (m : ℕ) × (o ≡ Some m) × (k + m ≡ n)

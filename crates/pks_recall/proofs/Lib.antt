@@ -1,1 +1,5 @@
+pub mod Lengths
+pub mod Readiness
+pub mod Gathering
+pub mod Telling
 pub mod Leaves

@@ -8,7 +8,7 @@ use crate::states::{State, after, history, taking};
 use pks_branch::assuming::Side;
 use pks_branch::choosing::Choice;
 use pks_history::histories::History;
-use pks_plan::tree::{CaseChain, Tree};
+use pks_plan::{CaseChain, Tree};
 use pks_terms::problem::Problem;
 use pks_terms::term::Term;
 use std::alloc::{AllocError, Global};

@@ -13,7 +13,7 @@ use crate::bytes::{put, put_number};
 use crate::states::State;
 use pks_history::histories::History;
 use pks_kf::Kf;
-use pks_plan::text::print_literal;
+use pks_plan::print_literal;
 use pks_query::databases::Db;
 use pks_terms::literal::Literal;
 use pks_terms::problem::Problem;

@@ -14,7 +14,7 @@ use crate::print::print_leaves;
 use crate::states::State;
 use pks_closing::closing::CloseEnd;
 use pks_history::histories::History;
-use pks_plan::tree::Tree;
+use pks_plan::Tree;
 use pks_query::databases::Db;
 use pks_terms::problem::Problem;
 use std::alloc::{AllocError, Global};

@@ -2,11 +2,11 @@
 use Rattle.std.proofs.Common.{◌≡◌, ◌<◌, [], ◌∷◌, length, Option, Some, None, IfSome, refl, ap, ◌∙◌, arith}
 use Rattle.pks_terms.specs.Printed.{Text}
 use Rattle.pks_text.specs.Lines.{line_column_of}
-use Rattle.pks_terms.specs.Answers.{Place, Reading, ReadAs, Faulty, File}
+use Rattle.pks_terms.specs.Answers.{Reading, ReadAs, Faulty, File}
 use Rattle.pks_grammar.specs.Files.{Fault}
-use Rattle.pks_reader.specs.declared.refusal.Refusal.{Refusal}
-use Rattle.pks_reader.specs.declared.refusal.Turned.{Turned}
-use Rattle.pks_reader.specs.declared.refusal.Turned.TheVariants.{Refused, Memory}
+use Rattle.pks_grammar.specs.declared.report.Refusal.{Refusal}
+use Rattle.pks_grammar.specs.declared.report.Turned.{Turned}
+use Rattle.pks_grammar.specs.declared.report.Turned.TheVariants.{Refused, Memory}
 use Rattle.pks_file.specs.Inputs.{line_and_column, IsFaulty, too_long, too_high, refused, IsRead, Reads}
 
 -- as this file alone
@@ -35,7 +35,7 @@ long_fault input long _ (too_high short at h) = absurd (omega arith)
 long_fault input long _ (refused short h fault r) = absurd (omega arith)
 
 -- the first byte stands at the beginning
-pub begins_at : (input : Text) → ◌≡◌ {A = Place} (record { line = 1; column = 1 }) (line_and_column input 0)
+pub begins_at : (input : Text) → line_and_column [] 0 ≡ line_and_column input 0
 unfolding line_column_of
 begins_at [] = refl
 begins_at (b ∷ bytes) = refl

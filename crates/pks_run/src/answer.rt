@@ -11,9 +11,9 @@ ghost use Rattle.pks_run.specs.Answer.{IsReplyTo};
 ghost use Rattle.pks_run.specs.Replied.{status_for};
 
 use crate::status::Status;
-use pks_answer::line::{Place, refusal_line};
+use pks_answer::line::refusal_line;
 use pks_answer::reply::{Verdict, reply_about};
-use pks_file::{InputFile, place, read_file};
+use pks_file::{InputFile, read_file};
 use pks_reader::{Refusal, Turned};
 use pks_words::Job;
 use std::alloc::{AllocError, Global};
@@ -29,13 +29,12 @@ fn status_for(verdict: Verdict) -> Status
     }
 }
 
-// The line of a refusal of an input.
+// The line of a refusal of an input, which says nothing but its place and its code.
 fn refusal_of(alloc: Global, input: &[u8], r: Refusal) -> Result<Vec<u8>, AllocError>
     requires { length input.now ≤ 262144 }
     ensures { IfOk result (λ text. text.items ≡ refusal_text (refusal (line_and_column input.now r.at) r.code [])) }
 {
-    let (line, column) = place(input, r.at);
-    let text = refusal_line(alloc, Place { line, column }, r.code, "")?;
+    let text = refusal_line(alloc, input, r, "")?;
     Ok(text)
 }
 
@@ -47,11 +46,11 @@ pub fn usage(alloc: Global) -> Result<Vec<u8>, AllocError>
     Ok(text)
 }
 
-// What is answered to an input of too many bytes.
+// What is answered to an input of too many bytes, at the first of them.
 pub fn too_long(alloc: Global) -> Result<Vec<u8>, AllocError>
-    ensures { IfOk result (λ text. text.items ≡ refusal_text (refusal (record { line = 1; column = 1 }) 100 [])) }
+    ensures { IfOk result (λ text. text.items ≡ refusal_text (refusal (line_and_column [] 0) 100 [])) }
 {
-    let text = refusal_line(alloc, Place { line: 1, column: 1 }, 100, "")?;
+    let text = refusal_of(alloc, &[], Refusal::plain(0, 100))?;
     Ok(text)
 }
 

@@ -5,7 +5,7 @@ ghost use Rattle.pks_terms.specs.Trees.{Do, Branch, Cases};
 ghost use Rattle.pks_terms.specs.Views.{term_of, conj_of, instance_of};
 ghost use Rattle.pks_plan.specs.TreeViews.{tree_of, chain_of};
 
-use pks_plan::tree::{CaseChain, Tree};
+use pks_plan::{CaseChain, Tree};
 use pks_terms::literal::Conj;
 use pks_terms::schema::Instance;
 use pks_terms::term::Term;

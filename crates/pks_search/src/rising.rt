@@ -12,8 +12,7 @@ ghost use Rattle.pks_search.specs.Ready.{IsReady};
 use crate::within::best_within;
 use pks_failures::failures::Failures;
 use pks_history::histories::History;
-use pks_plan::order::cost;
-use pks_plan::tree::Tree;
+use pks_plan::{Tree, cost};
 use pks_terms::problem::Problem;
 use std::alloc::{AllocError, Global};
 

@@ -17,7 +17,7 @@ use crate::rising::best_rising;
 use pks_closing::closing::CloseEnd;
 use pks_failures::failures::Failures;
 use pks_history::histories::History;
-use pks_plan::tree::Tree;
+use pks_plan::Tree;
 use pks_query::databases::Db;
 use pks_terms::problem::Problem;
 use std::alloc::{AllocError, Global};

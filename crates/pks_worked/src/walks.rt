@@ -20,7 +20,7 @@ use pks_branch::leaving::left;
 use pks_history::histories::History;
 use pks_justify::justify;
 use pks_past::meeting::met;
-use pks_plan::text::{print_conj, print_instance, print_term};
+use pks_plan::{print_conj, print_instance, print_term};
 use pks_postdict::settling::{Settled, settle};
 use pks_progress::progressing::progress;
 use pks_query::databases::{Db, Step};

@@ -11,7 +11,7 @@ use Rattle.pks_terms.specs.Actions.{Clear}
 use Rattle.pks_terms.specs.declared.literal.PredAtom.{PredAtom}
 use Rattle.pks_terms.specs.Views.{atom_of, term_of}
 use Rattle.pks_terms.specs.declared.term.Term as term
-use Rattle.pks_world.specs.declared.world.World.{World as DWorld}
+use Rattle.pks_world.specs.declared.worlds.World.{World as DWorld}
 use Rattle.pks_world.specs.Contents.{ground, atom_eq, is_listed, world_of}
 use Rattle.pks_world.specs.Applied.{is_of_pattern, written_to}
 use Rattle.pks_world.proofs.Typing.{same_atom}

@@ -21,7 +21,7 @@ use Rattle.pks_terms.specs.Views.{object_of, term_of, shape_of}
 use Rattle.pks_terms.proofs.OrderLaws.{same_term}
 use Rattle.pks_terms.proofs.ListLaws.{in_mapped, any_in}
 use Rattle.pks_world.specs.Contents.{ground, is_listed, kept_at, value_elsewhere, world_of, places_of}
-use Rattle.pks_world.specs.declared.world.World.{World as DWorld}
+use Rattle.pks_world.specs.declared.worlds.World.{World as DWorld}
 use Rattle.pks_world.specs.First.{Kept, Writes, is_in_row, is_in_rows, WritesOnly, argument_range, WritesAll, first_of, least_value, first_world, AreLeast, AreFilled, AreAllPlaces}
 use Rattle.pks_world.proofs.Keeping.{chosen_more, found}
 

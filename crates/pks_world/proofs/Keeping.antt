@@ -15,7 +15,7 @@ use Rattle.pks_terms.specs.declared.term.Term.{Term}
 use Rattle.pks_terms.specs.declared.term.Term.TheVariants as term_is
 use Rattle.pks_terms.specs.declared.literal.PredAtom.{PredAtom}
 use Rattle.pks_terms.specs.Views.{object_of, inner_of, term_of, atom_of}
-use Rattle.pks_world.specs.declared.world.World.{World as DWorld}
+use Rattle.pks_world.specs.declared.worlds.World.{World as DWorld}
 use Rattle.pks_world.specs.First.{Writes}
 use Rattle.pks_world.specs.Applied.{StayListed}
 use Rattle.pks_world.specs.Contents.{ground, atom_eq, is_listed, value_elsewhere, places_of, world_of, with_truth, with_value}

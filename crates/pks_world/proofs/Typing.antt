@@ -11,7 +11,7 @@ use Rattle.pks_terms.specs.Meaning.{AreOfTypes, IsWorld}
 use Rattle.pks_terms.specs.Actions.{Set}
 use Rattle.pks_terms.specs.Typed.{AllMayStand, IsTypedTarget}
 use Rattle.pks_terms.proofs.OrderLaws.{atom_cmp_tells, same_term}
-use Rattle.pks_world.specs.declared.world.World.{World as DWorld}
+use Rattle.pks_world.specs.declared.worlds.World.{World as DWorld}
 use Rattle.pks_world.specs.Contents.{ground, atom_eq, with_truth, with_value, world_of, places_of}
 use Rattle.pks_world.specs.First.{AreAllPlaces, IsWorldOf}
 

@@ -11,7 +11,7 @@ use Rattle.pks_terms.specs.declared.ids.ObjId.{ObjId}
 use Rattle.pks_terms.specs.declared.term.Term as term
 use Rattle.pks_terms.specs.declared.literal.PredAtom.{PredAtom}
 use Rattle.pks_terms.specs.Views.{object_of, term_of, atom_of}
-use Rattle.pks_world.specs.declared.world.World.{World as DWorld}
+use Rattle.pks_world.specs.declared.worlds.World.{World as DWorld}
 
 -- p at the objects
 abbrev pub ground : ℕ → List ℕ → Atom

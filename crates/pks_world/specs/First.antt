@@ -10,7 +10,7 @@ use Rattle.pks_terms.specs.Meaning.{AreOfTypes, IsWorld}
 use Rattle.pks_terms.specs.declared.ids.ObjId.{ObjId}
 use Rattle.pks_terms.specs.declared.term.Term as term
 use Rattle.pks_terms.specs.Views.{object_of}
-use Rattle.pks_world.specs.declared.world.World.{World as DWorld}
+use Rattle.pks_world.specs.declared.worlds.World.{World as DWorld}
 use Rattle.pks_world.specs.Contents.{world_of, places_of, has_place, kept_at}
 
 -- the first number, or 0 where there is none

@@ -14,7 +14,7 @@ ghost use Rattle.pks_world.specs.Contents.{world_of, places_of, ground, with_tru
 ghost use Rattle.pks_world.specs.Applied.{is_of_pattern, written_to, written_by, IsNumbered, StayListed, AreArguments};
 ghost use Rattle.pks_world.specs.First.{IsWorldOf};
 
-use crate::world::{World, place};
+use crate::worlds::{World, place};
 use pks_terms::ids::{ActId, FnId, ObjId};
 use pks_terms::literal::{Conj, Pattern, PredAtom};
 use pks_terms::problem::Problem;

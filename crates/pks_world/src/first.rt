@@ -10,7 +10,7 @@ ghost use Rattle.pks_terms.specs.Views.{object_of, term_of, types_of, shape_of, 
 ghost use Rattle.pks_world.specs.Contents.{world_of, places_of, has_place, kept_at, value_elsewhere};
 ghost use Rattle.pks_world.specs.First.{first_of, least_value, first_world, AreAllPlaces, IsWorldOf, Writes, is_in_row, is_in_rows, argument_range, WritesOnly, WritesAll, AreLeast, AreFilled};
 
-use crate::world::{World, place};
+use crate::worlds::{World, place};
 use pks_terms::ids::{FnId, ObjId, TypeId};
 use pks_terms::problem::{Problem, Shape, Signature};
 use pks_terms::term::{Term, front};

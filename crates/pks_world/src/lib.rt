@@ -1,7 +1,10 @@
 //! Worlds, what actions do to them, and what is observed in them. `docs/RULES.md` has the rules.
 #![tactic(auto)]
 
-pub mod apply;
-pub mod first;
-pub mod observe;
-pub mod world;
+mod apply;
+mod first;
+mod observe;
+mod worlds;
+
+pub use observe::{Obs, Seen};
+pub use worlds::World;

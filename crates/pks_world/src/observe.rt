@@ -9,7 +9,7 @@ ghost use Rattle.pks_terms.specs.Views.{object_of, term_of, atom_of, pattern_of,
 ghost use Rattle.pks_world.specs.Contents.{ground, world_of};
 ghost use Rattle.pks_world.specs.Observed.{seen_of, AreGround, slot_range, true_at, row, plane, grid};
 
-use crate::world::World;
+use crate::worlds::World;
 use pks_terms::ids::{ActId, ObjId, PredId, TypeId};
 use pks_terms::literal::{AtomList, Conj, Pattern, PredAtom};
 use pks_terms::problem::{Problem, Signature};

@@ -1,8 +1,8 @@
-use Rattle.std.proofs.Common.{◌≡◌, ◌∙◌, Option, None, option_map, sym, ap}
+use Rattle.std.proofs.Common.{◌≡◌, ◌∙◌, Option, None, sym, ap}
 use Rattle.pks_text.specs.Forms.{Forms}
 use Rattle.pks_text.specs.FormViews.{forms_view}
 use Rattle.pks_grammar.specs.Files.{Fault}
-use Rattle.pks_grammar.specs.FaultViews.{fault_view}
+use Rattle.pks_grammar.proofs.Refusing.{none_refused}
 use Rattle.pks_meaning.specs.Meaning.{all_noted}
 use Rattle.pks_meaning.specs.Views.{found_of, scope_view}
 use Rattle.pks_meaning.proofs.Least.{least_none}
@@ -13,7 +13,7 @@ use Rattle.pks_facts.proofs.read.stated.Goals as goal
 pub filled-requires-clause-faultless : goal.filled-requires-clause-faultless
 filled-requires-clause-faultless c =
     let s = scope_view c.args.scope.now in
-    let none : found_of c.facts.new.report ≡ None = ap (option_map fault_view) c.in_default.is in
+    let none : found_of c.facts.new.report ≡ None = none_refused (found_of c.facts.new.report) (sym c.in_default.ensures) in
     least_none (world_faults s (forms_view c.behind_head-2.result.now))
     (ap (λ (fs : Forms). all_noted None (world_faults s fs)) (c.behind_head-2.ensures ∙ sym c.behind_head.ensures)
     ∙ ap (λ (o : Option Fault). all_noted o (world_faults s (forms_view c.behind_head.result.now))) (sym c.new-report.ensures)

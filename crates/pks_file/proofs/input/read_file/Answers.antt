@@ -6,9 +6,9 @@ use Rattle.pks_text.specs.FormViews.{forms_view}
 use Rattle.pks_grammar.specs.Files.{Fault}
 use Rattle.pks_stated.specs.Spans.{named_of}
 use Rattle.pks_stated.specs.Stated.{Named}
-use Rattle.pks_reader.specs.declared.refusal.Turned.TheVariants.{Memory}
+use Rattle.pks_grammar.specs.declared.report.Turned.TheVariants.{Memory}
 use Rattle.pks_reader.specs.Texts.{Reads, States, IsRefused}
-use Rattle.pks_reader.specs.Turning.{Turns}
+use Rattle.pks_grammar.specs.Refusals.{Turns}
 use Rattle.pks_file.specs.Inputs.{first_high}
 use Rattle.pks_file.proofs.Lows.{low_is_text}
 use Rattle.pks_file.proofs.Answered.{high_faulty, high_unread, high_only, reads, text_faulty, only_read, only_faulty}

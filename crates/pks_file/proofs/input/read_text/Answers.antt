@@ -33,7 +33,7 @@ returns-in-Err c =
     let fault = c.in-Err.fault in
     let e = c.text_refused.result in
     let is = c.in-Err.ensures.fault in
-    let turns = c.text_refused.ensures in
+    let turns = c.text_refused.ensures.refused in
     let only : (first : FormFault) → IsFirstFault text first → IsAnswered first fault = λ first first_is. (c.in-Err.ensures.only first first_is).0 in
     record {
       source = tt;

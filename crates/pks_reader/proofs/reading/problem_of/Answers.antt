@@ -2,6 +2,7 @@ use Rattle.std.proofs.Common.{◌≡◌, List, Some, None, length, map, refl, sy
 use Rattle.pks_text.specs.FormViews.{form_view}
 use Rattle.pks_text.specs.declared.tree.Form.{Form as CodeForm}
 use Rattle.pks_grammar.specs.Files.{number_of, shape_fault}
+use Rattle.pks_grammar.proofs.Refusing.{none_refused}
 use Rattle.pks_meaning.specs.Parts.{behind_head}
 use Rattle.pks_domain.specs.FirstFault.{meaning_fault}
 use Rattle.pks_reader.specs.Files.{IsFileOf, AreRefused}
@@ -19,7 +20,7 @@ returns-in-None c =
     let same = c.as_slice-top.ensures.value in
     let file : IsFileOf fs v d p =
     subst (λ (xs : List CodeForm). IsFileOf (map form_view xs) v d p) same (record { file = c.in-None.ensures.none.0 refl; version = sym c.version_of.ensures; domain = c.form_at.ensures; problem = c.form_at-in-None.ensures }) in
-    let shaped : IsShaped end fs = λ is. subst (λ (xs : List CodeForm). shape_fault end (map form_view xs) ≡ None) same (sym c.in-None.ensures.fault) in
+    let shaped : IsShaped end fs = λ is. subst (λ (xs : List CodeForm). shape_fault end (map form_view xs) ≡ None) same (none_refused (shape_fault end (map form_view c.as_slice-top.result.now)) (sym c.in-None.ensures.fault)) in
     let stated = forms_state fs v d p c.meant.result file c.meant.ensures.faultless c.meant.ensures.says c.meant.ensures.named in
     let refused = err_as (λ f. meaning_fault (number_of v) (behind_head d) (behind_head p) ≡ Some f) (AreRefused end fs) c.meant.result (λ f e. meaning_refuses end fs v d p f file e) c.meant.ensures.refused in
     record {
