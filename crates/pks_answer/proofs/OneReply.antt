@@ -16,7 +16,7 @@ use Rattle.pks_laws.proofs.Accepting as accepting
 use Rattle.pks_laws.proofs.BestTree.{best_one}
 use Rattle.pks_laws.proofs.Validity.{valid_typed}
 use Rattle.pks_recall.proofs.Leaves.{one_recalled, recalled_true}
-use Rattle.pks_dag.proofs.Unique.{one_shared}
+use Rattle.pks_dag.proofs.SharedOnce.{shared_one}
 use Rattle.pks_exec.proofs.Breaking.{one_broken}
 use Rattle.pks_words.specs.JobViews.{IsBuilt}
 use Rattle.pks_answer.specs.declared.reply.Verdict.{Verdict}
@@ -112,7 +112,7 @@ one_recall : (f : File) (t u : Tree) (xs ys : List State) → t ≡ u → IsReca
 one_recall f t u xs ys e a b = one_recalled f.problem u xs ys (subst (λ v. IsRecalled f.problem v xs) e a) b
 
 one_nodes : (t u : Tree) (xs ys : List Node) → t ≡ u → IsShared t xs → IsShared u ys → xs ≡ ys
-one_nodes t u xs ys e a b = one_shared u xs ys (subst (λ v. IsShared v xs) e a) b
+one_nodes t u xs ys e a b = shared_one u xs ys (subst (λ v. IsShared v xs) e a) b
 
 -- a mode that the program doesn't have
 unbuilt : {A : Type 0} → false ≡ true → A
