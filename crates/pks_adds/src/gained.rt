@@ -7,7 +7,7 @@ ghost use Rattle.pks_lcw.specs.Entries.{entries_of};
 ghost use Rattle.pks_adds.specs.Deeds.{AssignsToPlaces, listed, literals_from, formulas_from, values_from, regions_from, if_applied, given_by};
 
 use crate::deed::Deed;
-use pks_lcw::entry::Entry;
+use pks_lcw::Entry;
 use pks_terms::literal::{Conj, Literal};
 use pks_terms::schema::Adds;
 use pks_terms::term::Term;

@@ -9,8 +9,7 @@ ghost use Rattle.pks_adds.specs.Deeds.{signature_in, five_in, chosen_in, effects
 
 use crate::deed::Deed;
 use pks_closing::forms::normal_pattern;
-use pks_lcw::atoms::AtomSet;
-use pks_lcw::entry::Entry;
+use pks_lcw::{AtomSet, Entry};
 use pks_terms::literal::Pattern;
 use pks_terms::schema::{Adds, Item};
 use pks_terms::term::{Term, front};

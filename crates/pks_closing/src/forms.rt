@@ -10,8 +10,7 @@ ghost use Rattle.pks_terms.specs.Views.{term_of, literals_in, conj_of, atom_of, 
 ghost use Rattle.pks_kf.specs.Known.{literals_of};
 ghost use Rattle.pks_lcw.specs.Entries.{atoms_of, entry_of};
 
-use pks_lcw::atoms::AtomSet;
-use pks_lcw::entry::Entry;
+use pks_lcw::{AtomSet, Entry};
 use pks_normal::normals::Normals;
 use pks_set::set::SetOf;
 use pks_terms::group::{Group, put_in_order};

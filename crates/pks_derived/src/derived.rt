@@ -13,7 +13,7 @@ ghost use Rattle.pks_normal.specs.Fives.{five_of};
 use crate::forms::forms_of;
 use crate::ranges::is_foreign;
 use pks_kf::Kf;
-use pks_lcw::entry::Entry;
+use pks_lcw::Entry;
 use pks_normal::five::Five;
 use pks_normal::normals::Normals;
 use pks_terms::ids::PredId;

@@ -4,7 +4,7 @@ use Rattle.pks_terms.specs.Syntax.{Atom}
 use Rattle.pks_terms.specs.Databases.{Entry}
 use Rattle.pks_terms.specs.Views.{atom_of, pattern_of}
 use Rattle.pks_terms.specs.declared.literal.PredAtom.{PredAtom}
-use Rattle.pks_lcw.specs.declared.entry.Entry.{Entry as DEntry}
+use Rattle.pks_lcw.specs.declared.regions.Entry.{Entry as DEntry}
 
 -- the atoms that the values say
 abbrev pub atoms_of : List PredAtom → List Atom

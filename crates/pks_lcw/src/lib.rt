@@ -2,7 +2,7 @@
 #![tactic(auto)]
 
 pub mod atoms;
-pub mod entry;
+pub mod regions;
 
 ghost use Rattle.std.specs.Prelude.{◌≡◌, List, [], ◌∷◌, IfOk, length};
 ghost use Rattle.std.specs.Option.{option_map};
@@ -14,9 +14,10 @@ ghost use Rattle.pks_terms.specs.Sets.{IsOrdered, insert_in, added};
 ghost use Rattle.pks_pmap.specs.Keeping.{Keeps};
 ghost use Rattle.pks_set.specs.Members.{TakesEach, first_at_least, is_member, keys};
 
-use crate::entry::Entry;
+pub use atoms::{AtomSet, AtomSetItems};
 use pks_pmap::map::PMap;
 use pks_set::set::{Items, SetOf};
+pub use regions::Entry;
 use std::alloc::{AllocError, Global};
 use std::marker::Model;
 
@@ -29,7 +30,7 @@ pub struct Lcw {
 
 impl Model for Lcw {
     ghost use Rattle.std.specs.Prelude.{List};
-    ghost use Rattle.pks_lcw.specs.declared.entry.Entry.{Entry};
+    ghost use Rattle.pks_lcw.specs.declared.regions.Entry.{Entry};
 
     ghost Value = { List Entry };
 

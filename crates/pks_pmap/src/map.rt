@@ -136,6 +136,7 @@ impl<K: Ord + Drop, V: Drop> PMap<K, V> {
 
     /// The map without the entry at the key. Where there is none it is the same map, and no node is made.
     /// An error is want of memory, and the nodes that were made before it are counted too.
+    /// It makes no more nodes than `insert` may.
     pub fn remove(
         &self,
         alloc: Global,
@@ -143,6 +144,7 @@ impl<K: Ord + Drop, V: Drop> PMap<K, V> {
         steps: &mut Steps,
     ) -> Result<PMap<K, V>, AllocError>
         ensures entries { IfOk result (λ map. map ≡ remove K.cmp key.now self.now) }
+        ensures few { (h : ℕ) → IsGreatestHeight (length self.now) h → steps.new.made ≤ steps.old.made + (2 * h + 2) }
         ensures later { steps.old.made ≤ steps.new.made }
         ensures missing { IsNone (get K.cmp key.now self.now) → steps.new.made ≡ steps.old.made }
     {

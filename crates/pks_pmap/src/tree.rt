@@ -323,6 +323,7 @@ impl<K: Ord + Drop, V: Drop> Tree<K, V> {
     ) -> Result<(Rc<(K, V)>, Tree<K, V>), AllocError>
         requires { 0 < length self.now.0 }
         ensures first { IfOk result (λ p. IsTakingFirst self.now p.0.value p.1) }
+        ensures at_most { steps.new.made ≤ steps.old.made + 2 * self.now.1 }
         ensures later { steps.old.made ≤ steps.new.made }
     {
         let Link::Fork(node) = &self.link else {
@@ -348,6 +349,7 @@ impl<K: Ord + Drop, V: Drop> Tree<K, V> {
     ) -> Result<Tree<K, V>, AllocError>
         requires { IsAscending K.cmp (left.0 ++ pair.value ∷ right.0) }
         ensures joining { IfOk result (IsJoining left pair.value right) }
+        ensures near { DifferByAtMost 2 left.1 right.1 → steps.new.made ≤ steps.old.made + 3 }
         ensures later { steps.old.made ≤ steps.new.made }
     {
         let (l, r) = (left.height(), right.height());
@@ -383,6 +385,7 @@ impl<K: Ord + Drop, V: Drop> Tree<K, V> {
     ) -> Result<Tree<K, V>, AllocError>
         requires { IsAscending K.cmp (left.now.0 ++ right.now.0) }
         ensures gluing { IfOk result (IsGluing left.now right.now) }
+        ensures near { DifferByAtMost 1 left.now.1 right.now.1 → steps.new.made ≤ steps.old.made + (2 * right.now.1 + 3) }
         ensures later { steps.old.made ≤ steps.new.made }
     {
         let left = left.share()?;
@@ -425,8 +428,11 @@ impl<K: Ord + Drop, V: Drop> Tree<K, V> {
         steps: &mut Steps,
     ) -> Result<Tree<K, V>, AllocError>
         ensures removed { IfOk result (IsRemoval K.cmp key.now self.now) }
+        ensures at_most { steps.new.made ≤ steps.old.made + (2 * self.now.1 + 1) }
         ensures later { steps.old.made ≤ steps.new.made }
+        ensures full { IsFull self.now.1 (length self.now.0) }
     {
+        let _height = self.height();
         let Link::Fork(node) = &self.link else {
             return Ok(Tree::empty());
         };

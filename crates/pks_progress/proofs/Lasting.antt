@@ -9,7 +9,7 @@ use Rattle.pks_terms.specs.Syntax.{Atom, Pattern}
 use Rattle.pks_terms.specs.declared.literal.Literal.{Literal as DLiteral}
 use Rattle.pks_terms.specs.declared.literal.Conj.{Conj}
 use Rattle.pks_terms.specs.declared.term.Term.{Term as DTerm}
-use Rattle.pks_lcw.specs.declared.entry.Entry.{Entry as DEntry}
+use Rattle.pks_lcw.specs.declared.regions.Entry.{Entry as DEntry}
 use Rattle.pks_terms.specs.Orders.{term_cmp, literal_cmp, conj_cmp, atom_cmp}
 use Rattle.pks_terms.specs.Sets.{insert_in, added}
 use Rattle.pks_terms.specs.Signatures.{Signature}

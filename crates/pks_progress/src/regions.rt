@@ -17,9 +17,7 @@ ghost use Rattle.pks_progress.specs.Kept.{atom_set, atoms_set, widened_with, kep
 
 use pks_closing::forms::normal_atom;
 use pks_derived::derived::Derived;
-use pks_lcw::Lcw;
-use pks_lcw::atoms::AtomSet;
-use pks_lcw::entry::Entry;
+use pks_lcw::{AtomSet, Entry, Lcw};
 use pks_spoiling::effects::Effects;
 use pks_spoiling::spoiled::{are_stable, is_stable};
 use pks_spoiling::targets::{may_fire, some_fixed_differ};

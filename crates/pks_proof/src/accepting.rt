@@ -29,7 +29,7 @@ use crate::lines::{Fact, Line, Path, Proof, Reason, Turn, same_fact};
 use crate::moment::{is_by_side, is_left_out, is_only, is_other};
 use crate::region::{is_cleared, is_grown};
 use crate::swapping::is_swapped;
-use pks_lcw::entry::Entry;
+use pks_lcw::Entry;
 use pks_terms::ids::ActId;
 use pks_terms::literal::Literal;
 use pks_terms::problem::Problem;

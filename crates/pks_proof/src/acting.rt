@@ -25,7 +25,7 @@ use crate::cited::{Cited, are_cited, fact_at, is_one_of};
 use crate::forms::{are_forms, are_inner_forms, is_form};
 use crate::lines::Fact;
 use crate::moment::denies_one;
-use pks_lcw::entry::Entry;
+use pks_lcw::Entry;
 use pks_terms::literal::{Atom, Literal, Pattern, PredAtom};
 use pks_terms::schema::{Effect, Target};
 use pks_terms::term::{Term, front};

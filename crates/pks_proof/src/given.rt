@@ -15,7 +15,7 @@ ghost use Rattle.pks_proof.specs.Givens.{starts_of, positive_atom, atom_said, sa
 
 use crate::lines::Fact;
 use crate::region::is_listed;
-use pks_lcw::entry::Entry;
+use pks_lcw::Entry;
 use pks_terms::ids::PredId;
 use pks_terms::literal::{Atom, Literal, Pattern, PredAtom};
 use pks_terms::problem::{Init, InitItem, Problem};

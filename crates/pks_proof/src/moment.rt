@@ -21,7 +21,7 @@ use crate::barring::some_apart;
 use crate::cited::{Cited, are_cited, are_denied, fact_at, is_one_of, some_cited};
 use crate::lines::{Fact, Turn};
 use pks_branch::{Choice, Side};
-use pks_lcw::entry::Entry;
+use pks_lcw::Entry;
 use pks_terms::literal::{Atom, Literal, PredAtom, equation};
 use pks_terms::term::{Term, front};
 

@@ -19,7 +19,7 @@ use crate::barring::{Deed, Doing, are_steady, is_barred};
 use crate::cited::{Cited, fact_at};
 use crate::forms::{are_forms, are_slot_forms};
 use crate::lines::Fact;
-use pks_lcw::entry::Entry;
+use pks_lcw::Entry;
 use pks_terms::literal::{Pattern, PredAtom};
 use pks_terms::schema::{Effect, Target};
 use pks_terms::term::front;

@@ -18,7 +18,7 @@ ghost use Rattle.pks_proof.specs.Exchanges.{joins, leaves, leaves_behind, exchan
 
 use crate::cited::{Cited, fact_at};
 use crate::lines::Fact;
-use pks_lcw::entry::Entry;
+use pks_lcw::Entry;
 use pks_terms::ids::ObjId;
 use pks_terms::literal::{Atom, Literal, Pattern, PredAtom, equation};
 use pks_terms::term::{Inner, Term, front};

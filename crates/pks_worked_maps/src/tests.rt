@@ -1,5 +1,4 @@
-use crate::counting::Steps;
-use crate::map::PMap;
+use pks_pmap::{PMap, Steps};
 use std::alloc::{AllocError, Global};
 use std::test::Fail;
 
