@@ -6,6 +6,7 @@ ghost use Rattle.pks_terms.specs.Branching.{numbered};
 ghost use Rattle.pks_terms.specs.Printed.{line, literal_text};
 ghost use Rattle.pks_terms.specs.Recalled.{moment_text, state_text, leaf_text, recall_text};
 ghost use Rattle.pks_terms.specs.Views.{names_of, literal_of};
+ghost use Rattle.pks_kf.specs.Known.{literals_of};
 ghost use Rattle.pks_normal.specs.Fives.{five_of};
 ghost use Rattle.pks_recall.specs.Walking.{state_of};
 
@@ -30,7 +31,7 @@ fn print_line(p: &Problem<'_>, l: &Literal, out: &mut Vec<u8>) -> Result<(), All
 
 /// Appends the literals in order, each on a line.
 fn print_known(p: &Problem<'_>, kf: &Kf, out: &mut Vec<u8>) -> Result<(), AllocError>
-    ensures { OnOk result (out.new.items ≡ out.old.items ++ flat_map (λ l. line (literal_text (names_of p.now) l)) (map literal_of kf.now)) }
+    ensures { OnOk result (out.new.items ≡ out.old.items ++ flat_map (λ l. line (literal_text (names_of p.now) l)) (literals_of kf.now)) }
 {
     for l in kf.items() {
         print_line(p, l, out)?;
