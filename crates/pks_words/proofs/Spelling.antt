@@ -1,5 +1,5 @@
 -- Modes with numbers: which are the words of no job, and that none are the words of two.
-use Rattle.std.proofs.Common.{◌≡◌, ◌∙◌, ◌≤◌, ◌<◌, ◌∷◌, [], ℕ, true, false, nat_eq, length, List, Option, Some, None, IfSome, codes, decimal, if◌then◌else◌, refl, sym, ap, ap₂, subst, arith}
+use Rattle.std.proofs.Common.{◌≡◌, ◌∙◌, ◌<◌, ◌∷◌, [], ℕ, true, false, nat_eq, length, List, Option, Some, None, IfSome, codes, decimal, if◌then◌else◌, refl, sym, ap, ap₂, subst, arith}
 use Rattle.std.proofs.lemmas.Fmt.{decimal_injective}
 use Rattle.pks_terms.specs.Printed.{Text}
 use Rattle.pks_terms.specs.Jobs.{Mode, Checking, Planning, Running, Benching, Recalling, Leading, Explaining, Deriving, Sharing, Job, Check, Plan, Exec, Bench, Recall, Agent, Explain, Derive, Shared, mode_of, mode_word, number_of_job, number_words, IsInBounds}
