@@ -31,7 +31,7 @@ pub struct CaseNode {
 /// Objects and the numbers of their nodes, in order.
 pub type CaseNodes = Sequence<CaseNode>;
 
-/// A leaf, or an action, a branch or cases with the numbers of the nodes that follow (`docs/RULES.md`, "Shared parts").
+/// A leaf, or an action, a branch or cases with the numbers of the nodes that follow (`docs/RULES.md`, "Trees, and which is best").
 /// Nodes are equal where they say the same and have the same numbers.
 #[derive(Drop)]
 pub enum Node {

@@ -98,7 +98,7 @@ fn in_order(alloc: Global, nodes: IndexSet<Node>) -> Result<Dag, AllocError>
 
 /// The nodes of a tree: each of its subtrees once, in the order in which a walk that takes children from left to right
 /// before their parent first ends it. No two nodes are equal, each child has a smaller number than its parent, and the last
-/// node unfolds to the tree; there is one such list (`docs/RULES.md`, "Shared parts"). Equal subtrees are found by hashing.
+/// node unfolds to the tree; there is one such list (`docs/RULES.md`, "Trees, and which is best"). Equal subtrees are found by hashing.
 /// The one error is want of memory.
 pub fn share(alloc: Global, t: &Tree) -> Result<Dag, AllocError>
     ensures shared { IfOk result (λ d. IsShared (tree_of t.now) (nodes_of d)) }

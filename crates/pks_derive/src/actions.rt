@@ -96,7 +96,7 @@ fn print_actions(
 
 /// The knowledge effects that follow from the text of each action: a line `action NAME` for each action in order, and then a
 /// line for each of the listed shapes that has a case and isn't equal to one before it of the same action (`docs/RULES.md`,
-/// "Derived adds"). It asks that the problem is valid. The one error is want of memory.
+/// "Justified adds"). It asks that the problem is valid. The one error is want of memory.
 #[tactic(auto, unfolding(pks_terms::specs::Shapes::derive_text))]
 pub fn derive(alloc: Global, p: &Problem<'_>) -> Result<Vec<u8>, AllocError>
     requires { IsValidProblem p.now }

@@ -1,12 +1,14 @@
 //! What the text of an action shows of what is known after it.
 
-ghost use Rattle.std.specs.Prelude.{◌≡◌, map, Option, option_map, List, [], ◌∷◌, ◌++◌};
+ghost use Rattle.std.specs.Prelude.{◌≡◌, map, take, Some, option_map, [], ◌∷◌};
 ghost use Rattle.pks_terms.specs.Queries.{Know};
-ghost use Rattle.pks_terms.specs.Syntax.{affirmed};
+ghost use Rattle.pks_terms.specs.Syntax.{Named, affirmed};
+ghost use Rattle.pks_terms.specs.Actions.{Assign};
 ghost use Rattle.pks_terms.specs.Justified.{target_literal};
+ghost use Rattle.pks_terms.specs.Orders.{number_of, arguments_of};
 ghost use Rattle.pks_terms.specs.Shapes.{asking, plainly, made_known, known_by_condition, kept_known, done_plainly, without_condition, sense_shapes};
 ghost use Rattle.pks_terms.specs.ValidProblems.{IsApplication, AssignsToPlace};
-ghost use Rattle.pks_terms.specs.Views.{term_of, literal_of, literals_in, conj_of, atom_of, target_of, effect_of, sense_of, query_of, item_of, add_of};
+ghost use Rattle.pks_terms.specs.Views.{term_of, terms_of, literal_of, literals_in, conj_of, atom_of, target_of, effect_of, sense_of, query_of, item_of, add_of};
 ghost use Rattle.pks_derive.specs.Offering.{made};
 
 use pks_terms::ids::Span;
@@ -33,20 +35,24 @@ fn plainly(item: Item) -> Adds
     added(0, [Query::default(); 4], item)
 }
 
+/// The atom or its negation.
+fn atom_literal(a: &PredAtom, positive: bool) -> Literal
+    ensures { literal_of result ≡ record { relation = Named a.now.pred.0; arguments = terms_of (take a.now.n a.now.args); positive = positive } }
+{
+    Literal {
+        atom: Atom::Pred(*a),
+        positive,
+    }
+}
+
 /// What is so after the effect fires.
 fn made_literal(target: &Target) -> Option<Literal>
     requires { AssignsToPlace target.now }
     ensures { option_map literal_of result ≡ target_literal (target_of target.now) }
 {
     match target {
-        Target::Set(a) => Some(Literal {
-            atom: Atom::Pred(*a),
-            positive: true,
-        }),
-        Target::Unset(a) => Some(Literal {
-            atom: Atom::Pred(*a),
-            positive: false,
-        }),
+        Target::Set(a) => Some(atom_literal(a, true)),
+        Target::Unset(a) => Some(atom_literal(a, false)),
         Target::Clear(_) => None,
         Target::Assign { place, value } => Some(equation(place, value, true)),
     }
@@ -79,10 +85,7 @@ pub(crate) fn made_known(e: &Effect) -> Option<Adds>
 fn alone(a: &PredAtom) -> Conj
     ensures { conj_of result ≡ affirmed (atom_of a.now) ∷ [] }
 {
-    Conj::empty().with(&Literal {
-        atom: Atom::Pred(*a),
-        positive: true,
-    })
+    Conj::empty().with(&atom_literal(a, true))
 }
 
 /// Under a condition the atom is known to be true or false where both were.
@@ -115,7 +118,7 @@ pub(crate) fn kept_known(e: &Effect) -> Option<Adds>
 /// The place has a known value where the value that it gets is known.
 fn assigned_known(place: &Term, value: &Term) -> Adds
     requires { IsApplication place.now }
-    ensures { made (Some result) ≡ done_plainly (target_of (Assign place.now value.now)) }
+    ensures { add_of result ∷ [] ≡ done_plainly (Assign (number_of (term_of place.now)) (arguments_of (term_of place.now)) (term_of value.now)) }
 {
     match value {
         Term::App { .. } => {
