@@ -1,6 +1,8 @@
 //! Plans whose equal parts stand once: their nodes, and their text.
 #![tactic(auto)]
 
+mod hashing;
+pub mod laws;
 pub mod nodes;
 mod printing;
 mod sharing;

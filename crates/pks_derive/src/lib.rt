@@ -2,6 +2,12 @@
 #![tactic(auto)]
 
 mod actions;
+mod bytes;
 pub mod laws;
+mod offering;
+mod parts;
+mod same;
+mod shapes;
+mod text;
 
 pub use actions::derive;

@@ -1,0 +1,42 @@
+-- Adds that are offered one after another are those that have a case, each once.
+use Rattle.std.proofs.Common.{◌≡◌, ◌&&◌, ◌||◌, Bool, true, false, cond, not, is_some, List, [], ◌∷◌, ◌++◌, fold, filter, append_assoc, append-nil, refl, sym, ap, ◌∙◌}
+use Rattle.std.specs.List.{list_any}
+use Rattle.std.proofs.lemmas.List.Folds.{list_any-append}
+use Rattle.pks_terms.specs.Sets.{first_of_each}
+use Rattle.pks_terms.specs.Actions.{Add, Schema}
+use Rattle.pks_terms.specs.Justified.{case_of}
+use Rattle.pks_terms.specs.Shapes.{same_add, shapes, derived_adds}
+use Rattle.pks_terms.proofs.ListLaws.{or_swapped, or_false}
+use Rattle.pks_derive.specs.Offering.{with_offered}
+
+module _ (sc : Schema) where
+
+  abbrev offered : List Add → List Add → List Add
+  offered adds xs = fold (with_offered sc) adds xs
+
+  abbrev firsts : List Add → List Add → List Add
+  firsts before xs = first_of_each same_add before (filter (λ a. is_some (case_of sc a)) xs)
+
+  step : (c m n : Bool) (before done : List Add) (x : Add) (xs : List Add) → n ≡ m → offered done xs ≡ done ++ firsts before xs → offered (done ++ x ∷ []) xs ≡ (done ++ x ∷ []) ++ firsts (x ∷ before) xs
+      → offered (cond (c && not m) (done ++ x ∷ []) done) xs
+      ≡ done ++ cond c (cond n (firsts before xs) (x ∷ firsts (x ∷ before) xs)) (firsts before xs)
+  step false m n before done x xs e f g = f
+  step true true n before done x xs e f g = f ∙ ap (λ b. done ++ cond b (firsts before xs) (x ∷ firsts (x ∷ before) xs)) (sym e)
+  step true false n before done x xs e f g = g ∙ append_assoc done (x ∷ []) (firsts (x ∷ before) xs) ∙ ap (λ b. done ++ cond b (firsts before xs) (x ∷ firsts (x ∷ before) xs)) (sym e)
+
+  -- the first of each of a list that begins with something under a test
+  first_cond : (c : Bool) (before : List Add) (x : Add) (ys : List Add) → cond c (cond (list_any (same_add x) before) (first_of_each same_add before ys) (x ∷ first_of_each same_add (x ∷ before) ys)) (first_of_each same_add before ys) ≡ first_of_each same_add before (cond c (x ∷ ys) ys)
+  first_cond true before x ys = refl
+  first_cond false before x ys = refl
+
+  offered_all : (before done xs : List Add) → ((y : Add) → list_any (same_add y) before ≡ list_any (same_add y) done) → offered done xs ≡ done ++ firsts before xs
+  offered_all before done [] f = sym (append-nil done)
+  offered_all before done (x ∷ xs) f =
+      step (is_some (case_of sc x)) (list_any (same_add x) done) (list_any (same_add x) before) before done x xs (f x) (offered_all before done xs f)
+      (offered_all (x ∷ before) (done ++ x ∷ []) xs
+      (λ y. ap (λ b. same_add y x || b) (f y ∙ sym (or_false (list_any (same_add y) done))) ∙ or_swapped (same_add y x) (list_any (same_add y) done) false ∙ sym (list_any-append (same_add y) done (x ∷ []))))
+      ∙ ap (λ ys. done ++ ys) (first_cond (is_some (case_of sc x)) before x (filter (λ a. is_some (case_of sc a)) xs))
+
+  pub offered_are : offered [] (shapes sc) ≡ derived_adds sc
+  unfolding derived_adds
+  offered_are = offered_all [] [] (shapes sc) (λ y. refl)
