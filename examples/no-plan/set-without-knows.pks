@@ -1,5 +1,5 @@
 ; A lamp is switched on, and the agent isn't told that it is on.
-; Cause: the effect has no add. What an action does, the agent knows only by `knows`.
+; Cause: the effect has no add. What an action does, the agent knows at once only by `knows`.
 ; ./pks plan 4
 (pks 1)
 (domain

@@ -130,12 +130,15 @@ def makes(effect, literal):
 def fact(names, action, item, given, found):
     literal = item.rest()[0]
     fitting = [(i, e) for i, e in enumerate(found) if makes(e, literal)]
-    for i, e in fitting:
-        open_conditions = [c for c in e.conditions if not is_given(c, given)]
-        if open_conditions:
-            asks = ' '.join(f'(k {c.text()})' for c in open_conditions)
+    asks = [' '.join(f'(k {c.text()})' for c in e.conditions if not is_given(c, given))
+            for _, e in fitting]
+    if len(asks) > 1 and all(asks):
+        return ['Each effect that makes it so has a condition that needn\'t hold; tell it once for '
+                'each: `' + ' '.join(f'(if ({a}) {item.text()})' for a in asks) + '`.']
+    for (i, e), ask in zip(fitting, asks):
+        if ask:
             return [f'Nearest: the effect `{e.form.text()}`. It has a condition that needn\'t hold; '
-                    f'the add must ask for it: `(if ({asks}) {item.text()})`, or put `{asks}` into '
+                    f'the add must ask for it: `(if ({ask}) {item.text()})`, or put `{ask}` into '
                     '`pre`.']
         for late in found[i + 1:]:
             if may_undo(names, e, late, given):

@@ -25,6 +25,16 @@ def untold(names):
                 yield name, effect
 
 
+def untold_senses(names):
+    """Senses of which the action tells nothing."""
+    for name, action in names.actions.items():
+        told = set().union(*(heads(add) for add in names.section(action, 'knows')))
+        for sense in names.section(action, 'senses'):
+            about = {head for part in sense.rest() for head in heads(part)} - {'not', '='}
+            if not about & told:
+                yield name, sense
+
+
 def heads(item):
     """All predicates and functions that stand in a form."""
     found, stack = set(), [item]
@@ -109,15 +119,28 @@ def remarks(names):
         said.append(f'The action `{name}` has the effect `{effect.form.text()}`, and its `knows` '
                     f'says nothing of `{effect.subject()}`: the agent won\'t know of it. '
                     f'{cure(effect)}')
+    for name, sense in untold_senses(names):
+        said.append(f'The action `{name}` has `{sense.text()}`, and its `knows` says nothing of it: '
+                    f'so it teaches nothing. Add {told_by(sense)}.')
     goal, blocked = never_known(names)
     for query in goal:
         said.append(f'The goal asks for `{query.text()}`, and neither the start nor an action that '
-                    'can be reached seems to make it known. If so, there is no plan of any depth.')
+                    'can be reached seems to make it known. If so, there is a plan only where a '
+                    'branch tells of it afterwards, and mostly there is none.')
     for name, queries in blocked.items():
         texts = ', '.join(f'`{q.text()}`' for q in queries)
         said.append(f'The action `{name}` can never be done, as it seems: nothing makes {texts} '
                     'known. Is a fact missing in `init`?')
     return said[:MANY]
+
+
+def told_by(sense):
+    parts = ' '.join(p.text() for p in sense.rest())
+    if sense.head() == 'sense':
+        return f'`(kw {parts})`'
+    if sense.head() == 'sense-value':
+        return f'`(kv {parts})`'
+    return 'a `(kw ..)` for each atom that the agent shall know of'
 
 
 def cure(effect):

@@ -32,6 +32,23 @@ LIMITS = {
 }
 
 
+def value_form(names, place):
+    """How a function's value is written where a list stands that looks like a fact of it."""
+    types, verb = names.functions[place.head()][0], place.parent.head()
+    parts = [p.text() for p in place.parts]
+    own = '(' + ' '.join(parts[:1 + len(types)]) + ')'
+    value = parts[1 + len(types)] if len(parts) > 1 + len(types) else 'VALUE'
+    if verb == 'sense':
+        return [f'A value is sensed by `(sense-value {own})`.']
+    if verb == 'kw':
+        return [f'That its value will be known is written `(kv {own})`.']
+    if verb in ('set', 'unset'):
+        return [f'A value is given by `(assign {own} {value})`.']
+    if verb == 'true':
+        return [f'In a world its value stands in `(values ({own} {value}))`.']
+    return [f'A literal about its value is `(= {own} {value})`.']
+
+
 def undeclared(names, form):
     """203 and 301."""
     word = form.word
@@ -44,6 +61,8 @@ def undeclared(names, form):
                          ('an object', names.objects), ('a type', names.types)):
         if word in table and other != kind:
             said.append(f'There is {other} of that name, but here {kind} is wanted.')
+            if (kind, other) == ('a predicate', 'a function'):
+                said += value_form(names, form.parent)
     if word in FOREIGN:
         said.append(FOREIGN[word])
     if word in grammar.QUERIES + grammar.ITEMS and kind == 'a predicate':

@@ -52,7 +52,12 @@ def shape(text, form, version):
     if parts:
         return parts
     said = specific(form) or []
-    return said + expected(form, bool(said))
+    return said if says_all(said) else said + expected(form, bool(said))
+
+
+def says_all(said):
+    """Whether a hint shows the whole form that should stand here."""
+    return any(text.startswith(('One pair of', 'The value of a place')) for text in said)
 
 
 def wrong_number(form):
@@ -154,6 +159,15 @@ def swapped(form, kind):
 def literal_hint(form, kind):
     """Where a literal stands and a query, an effect, a sense or an item should."""
     head = form.head()
+    if kind in ('query', 'plain', 'aim', 'start', 'add', 'item') and head in ('knows', 'known'):
+        inner = ' '.join(p.text() for p in form.rest()) or '..'
+        own = 'k' if kind in ('query', 'plain', 'aim') else 'kf'
+        return [f'That something is known is written `({own} {inner})`.']
+    if kind in ('query', 'plain', 'aim') and head == 'not' and form.rest() \
+            and form.rest()[0].head() not in grammar.QUERIES:
+        inner = form.rest()[0].text()
+        return [f'To ask that it is known to be false write `(k (not {inner}))`; to ask that it '
+                f'isn\'t known to be true, `(not-derived (k {inner}))`.']
     if kind in ('query', 'plain', 'aim') and head == 'not':
         inner = form.rest()[0].text() if form.rest() else '..'
         return [f'A query is negated as `(not-derived {inner})`: this asks that it isn\'t known. '
@@ -180,6 +194,15 @@ def word_hint(form, kind):
     if own in ('literals', 'queries'):
         return [f'One pair of parentheses is missing: `({form.parent.text()})`. Here stands '
                 f'{grammar.EXAMPLES[own]}.']
+    if kind == 'section' and form.index() == 1 and form.parent.head() in ('domain', 'problem'):
+        return [f'A {form.parent.head()} has no name here: leave `{word}` out.']
+    if word == '=' and own in ('atom', 'fact'):
+        return ['A value is given by `(assign PLACE TERM)`, as in `(assign (here) ?to)`.'
+                if own == 'atom' else
+                'Values stand in `(values (PLACE OBJECT) ..)`, as in `(values ((here) hall))`.']
+    if own == 'value' and len(form.parent.parts) > 1:
+        *place, value = [p.text() for p in form.parent.parts]
+        return [f'The value of a place is written `(({" ".join(place)}) {value})`.']
     if word == '_':
         return ['A wildcard stands in patterns alone: in `clear`, `sense-all` and `lcw`.']
     if word == '-':
@@ -210,6 +233,10 @@ def list_hint(form, kind):
     return number(form)
 
 
+# How a value is told where a fact's form was written.
+VALUED = {'k': '(k (= {} {}))', 'kf': '(kf (= {} {}))', 'set': '(assign {} {})'}
+
+
 def number(form):
     """For a list with a right head that has the wrong number of parts."""
     head = form.head()
@@ -219,7 +246,11 @@ def number(form):
     if head in grammar.SHAPES:
         said = [f'This list has {count(len(form.rest()), "part")} behind `{head}`; it is '
                 f'{grammar.SHAPES[head]}.']
-        if head in ('k', 'kf', 'set', 'unset') and len(form.rest()) > 1:
+        parts = form.rest()
+        if head in VALUED and len(parts) == 2 and parts[0].is_list() and parts[1].word:
+            said.append('A value is written '
+                        f'`{VALUED[head].format(parts[0].text(), parts[1].text())}`.')
+        elif head in ('k', 'kf', 'set', 'unset') and len(parts) > 1:
             each = ' '.join(p.text() if p.head() in WHERE else f'({head} {p.text()})'
                             for p in form.rest())
             said.append(f'Write one for each: `{each}`.')

@@ -1,6 +1,6 @@
 ; world place without parentheses
 ; says: code 300
-; says: needs parentheses of its own: `(pwd)`
+; says: `((pwd) home)`
 (pks 2)
 (domain
   (types node (dir node) (file node))
