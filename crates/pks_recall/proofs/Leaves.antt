@@ -1,21 +1,20 @@
 -- The leaves of a plan: there is one list of them, with a state for each leaf, and what is recalled at one was so.
-use Rattle.std.proofs.Common.{◌≡◌, ◌<◌, ◌+◌, ◌==◌, ℕ, zero, suc, Bool, true, false, List, [], ◌∷◌, ◌++◌, length, Option, Some, None, option_map, if◌then◌else◌, refl, sym, ap, ap₂, ◌∙◌, subst, arith}
+use Rattle.std.proofs.Common.{◌≡◌, ◌<◌, ◌+◌, ◌==◌, ℕ, zero, suc, true, false, List, [], ◌∷◌, ◌++◌, length, Option, Some, None, option_map, if◌then◌else◌, refl, sym, ap, ap₂, ◌∙◌, subst, arith}
 use Rattle.std.specs.List.{slice_get}
 use Rattle.std.proofs.lemmas.Bool.{eqb-true}
 use Rattle.std.proofs.lemmas.List.{length-append}
 use Rattle.std.proofs.lemmas.Option.{none-some, same_Some}
-use Rattle.pks_terms.specs.Syntax.{Term, Literal}
+use Rattle.pks_terms.specs.Syntax.{Term}
 use Rattle.pks_terms.specs.Worlds.{World, value_of, all_true_in}
-use Rattle.pks_terms.specs.Databases.{Five}
 use Rattle.pks_terms.specs.Closure.{Outcome, Next, Clash, Closes}
 use Rattle.pks_terms.specs.Actions.{Instance}
 use Rattle.pks_terms.specs.Problems.{Problem, initial, IsCompatible, StartAlike}
 use Rattle.pks_terms.specs.Typed.{IsTyped, AllJustified}
-use Rattle.pks_terms.specs.Branching.{Choice, BranchOn, CasesOn, Side, AsTrue, AsFalse, Is}
+use Rattle.pks_terms.specs.Branching.{BranchOn, CasesOn, AsTrue, AsFalse, Is}
 use Rattle.pks_terms.specs.Settling.{History, State, At, Stopped}
 use Rattle.pks_terms.specs.Trees.{Tree, Goal, Impossible, Do, Branch, Cases, Chain, End, More, Acts, Takes, Derives, DerivesEach, start_state, IsPlan}
-use Rattle.pks_terms.specs.Knowledge.{grounded, after_action, observations, after_actions, SeeAlike, Alike}
-use Rattle.pks_terms.specs.Remembering.{TrueAlong, Remembers, PastFrom, PastEach}
+use Rattle.pks_terms.specs.Knowledge.{grounded, after_action, after_actions, SeeAlike, Alike}
+use Rattle.pks_terms.specs.Remembering.{TrueAlong, PastFrom, PastEach}
 use Rattle.pks_terms.specs.Recalled.{AreLeaves, AreLeavesOfEach, IsRecalled, leaf_count, leaf_count_in, leaf_of, leaf_of_case, IsTruePast}
 use Rattle.pks_terms.proofs.ListLaws.{each_of}
 use Rattle.pks_laws.proofs.GoodPlans.{plan_remembers}

@@ -1,5 +1,5 @@
 -- Where the walk goes on: each part of a derived tree is derived at the state that its step leads to, and histories stay short.
-use Rattle.std.proofs.Common.{◌≡◌, ◌≤◌, ◌<◌, ◌+◌, ℕ, max, List, [], length, inl, inr, refl, sym, subst, arith}
+use Rattle.std.proofs.Common.{◌≡◌, ◌≤◌, ◌<◌, ℕ, max, List, [], length, inl, inr, refl, sym, subst, arith}
 use Rattle.std.proofs.Math.Nat.{le-max_left, le-max_right}
 use Rattle.pks_terms.specs.declared.problem.Problem.{Problem as DProblem}
 use Rattle.pks_terms.specs.Sets.{IsIn}

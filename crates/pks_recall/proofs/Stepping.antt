@@ -1,5 +1,5 @@
 -- Where a step leads, by how progression, assuming and settling end.
-use Rattle.std.proofs.Common.{◌≡◌, refl, sym, ap, ◌∙◌, subst}
+use Rattle.std.proofs.Common.{◌≡◌, refl, ap, subst}
 use Rattle.pks_terms.specs.Databases.{Five}
 use Rattle.pks_terms.specs.Closure.{Outcome, Next, Clash}
 use Rattle.pks_terms.specs.Syntax.{Literal}

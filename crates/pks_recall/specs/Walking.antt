@@ -8,7 +8,7 @@ use Rattle.pks_terms.specs.Problems.{Problem, initial}
 use Rattle.pks_terms.specs.Typed.{AllJustified}
 use Rattle.pks_terms.specs.Branching.{left}
 use Rattle.pks_terms.specs.Settling.{History, last_moment, State, At, Stopped}
-use Rattle.pks_terms.specs.Trees.{Tree, Chain, depth, chain_depth, objects_in, IsAt, Derives, DerivesEach, start_state}
+use Rattle.pks_terms.specs.Trees.{Tree, Chain, depth, chain_depth, objects_in, Derives, DerivesEach, start_state}
 use Rattle.pks_terms.specs.Recalled.{AreLeaves, AreLeavesOfEach, IsRecalled, recall_text}
 use Rattle.pks_terms.specs.Moments.{AreMomentsOf}
 use Rattle.pks_terms.specs.ValidProblems.{IsValidProblem}

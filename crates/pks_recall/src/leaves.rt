@@ -1,5 +1,5 @@
 //! The leaves of a derived tree, at which its histories are made anew.
-ghost use Rattle.std.specs.Prelude.{◌≡◌, map, OnOk};
+ghost use Rattle.std.specs.Prelude.{map, OnOk};
 ghost use Rattle.pks_terms.specs.Views.{problem_of, term_of};
 ghost use Rattle.pks_plan.specs.TreeViews.{tree_of, chain_of};
 ghost use Rattle.pks_recall.specs.Walking.{state_of, IsReady, AreReady, AddsLeaves, AddsLeavesOfEach};

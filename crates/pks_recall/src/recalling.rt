@@ -1,9 +1,8 @@
 //! What each leaf of a plan knows of every moment. `docs/RULES.md` says what histories are, `docs/FORMAT.md` has the text.
-ghost use Rattle.std.specs.Prelude.{◌≡◌, ◌≤◌, List, [], IfOk};
+ghost use Rattle.std.specs.Prelude.{◌≡◌, ◌≤◌, [], IfOk};
 ghost use Rattle.pks_terms.specs.Answers.{unjustified};
-ghost use Rattle.pks_terms.specs.Closure.{Closes};
 ghost use Rattle.pks_terms.specs.Problems.{initial};
-ghost use Rattle.pks_terms.specs.Trees.{IsPlan, depth, start_state};
+ghost use Rattle.pks_terms.specs.Trees.{IsPlan, depth};
 ghost use Rattle.pks_terms.specs.ValidProblems.{IsValidProblem};
 ghost use Rattle.pks_terms.specs.Views.{problem_of, names_of};
 ghost use Rattle.pks_plan.specs.TreeViews.{tree_of};

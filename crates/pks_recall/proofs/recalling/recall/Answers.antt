@@ -1,4 +1,3 @@
-use Rattle.pks_terms.specs.Views.{problem_of}
 use Rattle.pks_plan.specs.TreeViews.{tree_of}
 use Rattle.pks_recall.specs.Walking.{state_of}
 use Rattle.pks_recall.proofs.Readiness.{start_ready}
