@@ -15,7 +15,7 @@ use Rattle.pks_terms.specs.Answers.{Stated, NoWorld, BadWorld, GivenWorld, File,
 use Rattle.pks_laws.proofs.Accepting as accepting
 use Rattle.pks_laws.proofs.BestTree.{best_one}
 use Rattle.pks_laws.proofs.Validity.{valid_typed}
-use Rattle.pks_recall.proofs.Leaves.{one_recalled, recalled_true}
+use Rattle.pks_recall.proofs.LeafLaws.{one_recalled, recalled_true}
 use Rattle.pks_dag.proofs.SharedOnce.{shared_one}
 use Rattle.pks_exec.proofs.Breaking.{one_broken}
 use Rattle.pks_words.specs.JobViews.{IsBuilt}

@@ -3,4 +3,4 @@ pub mod Readiness
 pub mod Stepping
 pub mod Gathering
 pub mod Telling
-pub mod Leaves
+pub mod LeafLaws

@@ -1,4 +1,4 @@
-use Rattle.pks_recall.proofs.Leaves.{some_recalled}
+use Rattle.pks_recall.proofs.LeafLaws.{some_recalled}
 use Rattle.pks_recall.proofs.laws.derived_trees_have_leaves.Goals as goal
 
 pub returns : goal.returns

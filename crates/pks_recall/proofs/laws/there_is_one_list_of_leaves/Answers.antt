@@ -1,4 +1,4 @@
-use Rattle.pks_recall.proofs.Leaves.{one_recalled}
+use Rattle.pks_recall.proofs.LeafLaws.{one_recalled}
 use Rattle.pks_recall.proofs.laws.there_is_one_list_of_leaves.Goals as goal
 
 pub returns : goal.returns

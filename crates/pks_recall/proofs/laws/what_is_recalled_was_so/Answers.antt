@@ -1,4 +1,4 @@
-use Rattle.pks_recall.proofs.Leaves.{recalled_true}
+use Rattle.pks_recall.proofs.LeafLaws.{recalled_true}
 use Rattle.pks_recall.proofs.laws.what_is_recalled_was_so.Goals as goal
 
 pub returns : goal.returns
