@@ -1,5 +1,5 @@
 -- Texts that are appended part by part.
-use Rattle.std.proofs.Common.{◌≡◌, ◌+◌, ◌≤◌, ℕ, zero, suc, List, [], ◌∷◌, ◌++◌, length, drop, Some, append_assoc, append-nil, refl, ap, ◌∙◌, arith}
+use Rattle.std.proofs.Common.{◌≡◌, ◌+◌, ◌≤◌, ℕ, zero, suc, List, [], ◌∷◌, ◌++◌, length, drop, Some, append_assoc, append-nil, refl, sym, ap, ◌∙◌, arith}
 use Rattle.std.specs.List.{flat_map, slice_get}
 use Rattle.std.proofs.lemmas.Option.{same_Some}
 use Rattle.pks_terms.specs.Branching.{numbered}
@@ -38,3 +38,9 @@ module _ {X : Type 0} (text : ℕ × X → List ℕ) (first : ℕ) (xs : List X)
 
   pub nothing_left : (n : ℕ) → length xs ≤ n → left_text n ≡ []
   nothing_left n h = ap (λ ys. flat_map text (numbered (first + n) ys)) (none_left xs n h)
+
+  -- one more was told, which has this number
+  pub one_told : (n k : ℕ) (x : X) (out new whole : List ℕ) → first + n ≡ k → slice_get xs n ≡ Some x → new ≡ out ++ text (k, x) → out ++ left_text n ≡ whole → new ++ left_text (n + 1) ≡ whole
+  one_told n k x out new whole same there e done =
+      ap (λ y. y ++ left_text (n + 1)) e
+      ∙ (append_assoc out (text (k, x)) (left_text (n + 1)) ∙ (ap (λ m. out ++ (text (m, x) ++ left_text (n + 1))) (sym same) ∙ (ap (λ y. out ++ y) (sym (next_left n x there)) ∙ done)))
