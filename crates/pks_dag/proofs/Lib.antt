@@ -1,4 +1,5 @@
 pub mod Appended
+pub mod Inserting
 pub mod Listing
 pub mod Unfolding
 pub mod Numbering

@@ -55,9 +55,9 @@ module _ (xs ys : List Node) (ts : List Tree) (l : Lists xs ts) (m : Lists ys ts
   node_same Impossible x y f g = f ∙ sym g
   node_same (Do i t) x y f g = f.1 ∙ ap (DoNode i) (number_same f.0 g.0 t f.2 g.2) ∙ sym g.1
   node_same (Branch c t u) x y f g =
-      let yes = number_same f.0 g.0 t f.3 g.3 in
-      let no = number_same f.1 g.1 u f.4 g.4 in
-      f.2 ∙ (λ i. BranchNode c (yes i) (no i)) ∙ sym g.2
+      let taken = number_same f.0 g.0 t f.3 g.3 in
+      let other = number_same f.1 g.1 u f.4 g.4 in
+      f.2 ∙ (λ i. BranchNode c (taken i) (other i)) ∙ sym g.2
   node_same (Cases z k) x y f g = f.1 ∙ ap (CasesNode z) (links_same k f.0 g.0 f.2 g.2) ∙ sym g.1
 
   pub lists_same : xs ≡ ys
@@ -102,10 +102,10 @@ module _ (nodes : List Node) (ts : List Tree) (b : Built nodes ts) (x : Node) (t
   there : list_any (same_node x) nodes ≡ true → Noted nodes (number_in nodes x) nodes ts t
   there e =
       let r = first_found (same_node x) nodes e in
-      let at = unfolds_from nodes (suc (position_or_len (same_node x) nodes)) x t (r.1 ∙ ap Some (sym (same_node_is x r.0 r.2))) f in
+      let spot = unfolds_from nodes (suc (position_or_len (same_node x) nodes)) x t (r.1 ∙ ap Some (sym (same_node_is x r.0 r.2))) f in
       record {
         built = b;
-        unfolds = subst (λ n. Unfolds nodes n t) (sym (add-one (position_or_len (same_node x) nodes))) at;
+        unfolds = subst (λ n. Unfolds nodes n t) (sym (add-one (position_or_len (same_node x) nodes))) spot;
         more = ([], sym (append-nil nodes));
       }
 

@@ -199,21 +199,21 @@ shared_is t =
     let number : (shared_in [] t).1 ≡ length nodes = p.1 ∙ ap suc (l.apart p.0 (length last.0) t p.2 there) ∙ sym (longer last.0 t) ∙ sym (ap length last.1) ∙ sym l.counted in
     record {
       distinct = to_distinct nodes (nodes_apart nodes (first_ends t) l);
-      order = to_unfold nodes 1 nodes (first_ends t) l.counted (λ k u e. let at : suc k ≡ k + 1 = omega arith in subst (λ m. Unfolds nodes m u) at (l.each k u e));
+      order = to_unfold nodes 1 nodes (first_ends t) l.counted (λ k u e. let spot : suc k ≡ k + 1 = omega arith in subst (λ m. Unfolds nodes m u) spot (l.each k u e));
       whole = subst (λ n. Unfolds nodes n t) number r.unfolds;
     }
 
 pub shared_behind : (t : Tree) → AreBehindChildren 1 (shared_in [] t).0
 shared_behind t =
     to_behind 1 (shared_in [] t).0
-    (λ k x e. let at : suc k ≡ k + 1 = omega arith in subst (λ m. Each (λ c. (1 ≤ c) × (c < m)) (children_of x)) at ((share_right t).built.behind k x e))
+    (λ k x e. let spot : suc k ≡ k + 1 = omega arith in subst (λ m. Each (λ c. (1 ≤ c) × (c < m)) (children_of x)) spot ((share_right t).built.behind k x e))
 
 lists_of : (t : Tree) (nodes : List Node) → IsShared t nodes → Lists nodes (first_ends t)
 lists_of t nodes s =
     let r = from_unfold nodes 1 nodes (first_ends t) s.order in
     record {
       counted = r.0;
-      each = λ k u e. let at : k + 1 ≡ suc k = omega arith in subst (λ m. Unfolds nodes m u) at (r.1 k u e);
+      each = λ k u e. let spot : k + 1 ≡ suc k = omega arith in subst (λ m. Unfolds nodes m u) spot (r.1 k u e);
       apart = (share_right t).built.lists.apart;
     }
 

@@ -90,10 +90,10 @@ mutual
   same_trees nodes n (Branch c t t') (Branch d u u') p q =
       let e : BranchNode c p.0 p.1 ≡ BranchNode d q.0 q.1 = same_Some (BranchNode c p.0 p.1) (BranchNode d q.0 q.1) (sym p.2 ∙ q.2) in
       let test : c ≡ d = cc in
-      let yes : p.0 ≡ q.0 = cc in
-      let no : p.1 ≡ q.1 = cc in
-      let first = same_trees nodes q.0 t u (subst (λ m. Unfolds nodes m t) yes p.3) q.3 in
-      let second = same_trees nodes q.1 t' u' (subst (λ m. Unfolds nodes m t') no p.4) q.4 in
+      let taken : p.0 ≡ q.0 = cc in
+      let other : p.1 ≡ q.1 = cc in
+      let first = same_trees nodes q.0 t u (subst (λ m. Unfolds nodes m t) taken p.3) q.3 in
+      let second = same_trees nodes q.1 t' u' (subst (λ m. Unfolds nodes m t') other p.4) q.4 in
       λ h. Branch (test h) (first h) (second h)
   same_trees nodes n (Cases x k) (Cases y m) p q =
       let e : CasesNode x p.0 ≡ CasesNode y q.0 = same_Some (CasesNode x p.0) (CasesNode y q.0) (sym p.1 ∙ q.1) in

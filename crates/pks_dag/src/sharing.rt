@@ -13,6 +13,7 @@ use pks_terms::sequence::Sequence;
 use std::alloc::{AllocError, Global};
 
 /// The number of the node, which goes last where it isn't there.
+#[tactic(auto, using(crate::proofs::Inserting::inserted, crate::proofs::Inserting::same_place))]
 fn note(nodes: &mut IndexSet<Node>, node: Node) -> Result<u64, AllocError>
     ensures nodes { OnOk result (nodes_of nodes.new.keys ≡ with_node (nodes_of nodes.old.keys) (node_of node)) }
     ensures number { IfOk result (λ n. n ≡ number_in (nodes_of nodes.old.keys) (node_of node)) }
@@ -100,6 +101,7 @@ fn in_order(alloc: Global, nodes: IndexSet<Node>) -> Result<Dag, AllocError>
 /// before their parent first ends it. No two nodes are equal, each child has a smaller number than its parent, and the last
 /// node unfolds to the tree; there is one such list (`docs/RULES.md`, "Trees, and which is best"). Equal subtrees are found by hashing.
 /// The one error is want of memory.
+#[tactic(auto, using(crate::proofs::SharedOnce::shared_is, crate::proofs::SharedOnce::shared_one, crate::proofs::SharedOnce::shared_behind))]
 pub fn share(alloc: Global, t: &Tree) -> Result<Dag, AllocError>
     ensures shared { IfOk result (λ d. IsShared (tree_of t.now) (nodes_of d)) }
     ensures only { IfOk result (λ d. (nodes : List Value) → IsShared (tree_of t.now) nodes → nodes ≡ nodes_of d) }

@@ -30,13 +30,13 @@ fn offer(schema: &Schema<'_>, add: &Adds, to: &mut Vec<Adds>) -> Result<(), Allo
 /// So does one that was made.
 fn offer_made(
     schema: &Schema<'_>,
-    made: Option<Adds>,
+    shape: Option<Adds>,
     to: &mut Vec<Adds>,
 ) -> Result<(), AllocError>
     requires { AssignToPlaces schema.now.effects }
-    ensures { OnOk result (adds_of to.new.items ≡ fold (with_offered (schema_of schema.now)) (adds_of to.old.items) (made made)) }
+    ensures { OnOk result (adds_of to.new.items ≡ fold (with_offered (schema_of schema.now)) (adds_of to.old.items) (made shape)) }
 {
-    match made {
+    match shape {
         Some(add) => offer(schema, &add, to)?,
         None => {}
     }
