@@ -1,7 +1,8 @@
 -- Adds that are offered one after another are those that have a case, each once.
-use Rattle.std.proofs.Common.{◌≡◌, ◌&&◌, ◌||◌, Bool, true, false, cond, not, is_some, List, [], ◌∷◌, ◌++◌, fold, filter, append_assoc, append-nil, refl, sym, ap, ◌∙◌}
+use Rattle.std.proofs.Common.{◌≡◌, ◌&&◌, ◌||◌, Bool, true, false, cond, not, is_some, List, [], ◌∷◌, ◌++◌, fold, filter, Option, Some, None, option_map, append_assoc, append-nil, refl, sym, ap, ◌∙◌}
 use Rattle.std.specs.List.{list_any}
 use Rattle.std.proofs.lemmas.List.Folds.{list_any-append}
+use Rattle.std.proofs.lemmas.List.Sums.{fold-append}
 use Rattle.pks_terms.specs.Sets.{first_of_each}
 use Rattle.pks_terms.specs.Actions.{Add, Schema}
 use Rattle.pks_terms.specs.Justified.{case_of}
@@ -9,8 +10,11 @@ use Rattle.pks_terms.specs.Shapes.{same_add, shapes, derived_adds}
 use Rattle.pks_terms.proofs.ListLaws.{or_swapped, or_false}
 use Rattle.pks_derive.specs.Offering.{with_offered}
 
-module _ (sc : Schema) where
+pub shown : {X Y : Type 0} (f : X → Y) (o : Option X) → is_some (option_map f o) ≡ is_some o
+shown f None = refl
+shown f (Some x) = refl
 
+module _ (sc : Schema) where
   abbrev offered : List Add → List Add → List Add
   offered adds xs = fold (with_offered sc) adds xs
 
@@ -37,6 +41,10 @@ module _ (sc : Schema) where
       (λ y. ap (λ b. same_add y x || b) (f y ∙ sym (or_false (list_any (same_add y) done))) ∙ or_swapped (same_add y x) (list_any (same_add y) done) false ∙ sym (list_any-append (same_add y) done (x ∷ []))))
       ∙ ap (λ ys. done ++ ys) (first_cond (is_some (case_of sc x)) before x (filter (λ a. is_some (case_of sc a)) xs))
 
-  pub offered_are : offered [] (shapes sc) ≡ derived_adds sc
+  pub offered_are : fold (with_offered sc) [] (shapes sc) ≡ derived_adds sc
   unfolding derived_adds
   offered_are = offered_all [] [] (shapes sc) (λ y. refl)
+
+-- one list behind another
+pub both_offered : (sc : Schema) (adds xs ys : List Add) → fold (with_offered sc) adds (xs ++ ys) ≡ fold (with_offered sc) (fold (with_offered sc) adds xs) ys
+both_offered sc adds xs ys = fold-append (with_offered sc) adds xs ys

@@ -17,6 +17,7 @@ use pks_terms::schema::{Adds, Effect, Schema, Sense};
 use std::alloc::{AllocError, Global};
 
 /// The add goes last where it has a case and isn't equal to one that is there.
+#[tactic(auto, using(crate::proofs::Offered::shown))]
 fn offer(schema: &Schema<'_>, add: &Adds, to: &mut Vec<Adds>) -> Result<(), AllocError>
     requires { AssignToPlaces schema.now.effects }
     ensures { OnOk result (adds_of to.new.items ≡ with_offered (schema_of schema.now) (adds_of to.old.items) (add_of add.now)) }
@@ -44,6 +45,7 @@ fn offer_made(
 }
 
 /// So do the shapes of an effect.
+#[tactic(auto, using(crate::proofs::Offered::both_offered))]
 fn offer_effect(schema: &Schema<'_>, e: &Effect, to: &mut Vec<Adds>) -> Result<(), AllocError>
     requires places { AssignToPlaces schema.now.effects }
     requires place { AssignsToPlace e.now.target }
@@ -56,6 +58,7 @@ fn offer_effect(schema: &Schema<'_>, e: &Effect, to: &mut Vec<Adds>) -> Result<(
 }
 
 /// So do those of effects.
+#[tactic(auto, using(crate::proofs::Offered::both_offered))]
 fn offer_effects(
     schema: &Schema<'_>,
     effects: &[Effect],
@@ -76,6 +79,7 @@ fn offer_effects(
 }
 
 /// So do those of senses.
+#[tactic(auto, using(crate::proofs::Offered::both_offered))]
 fn offer_senses(
     schema: &Schema<'_>,
     senses: &[Sense],
@@ -95,6 +99,7 @@ fn offer_senses(
 }
 
 /// The shapes of an action that have a case, none equal to one before it.
+#[tactic(auto, using(crate::proofs::Offered::both_offered, crate::proofs::Offered::offered_are), unfolding(pks_terms::specs::Shapes::shapes))]
 pub(crate) fn derived_adds(
     alloc: Global,
     schema: &Schema<'_>,
