@@ -4,3 +4,4 @@ pub mod Listing
 pub mod Unfolding
 pub mod Numbering
 pub mod SharedOnce
+pub mod Walks

@@ -120,14 +120,14 @@ module _ (nodes : List Node) (ts : List Tree) (b : Built nodes ts) (x : Node) (t
     lists_more = record {
       counted = longer nodes x ∙ ap suc b.lists.counted ∙ sym (longer ts t);
       each = λ k u e.
-        ⊎_elim (λ h. unfolds_kept nodes (x ∷ []) (suc k) u (b.lists.each k u h))
-        (λ h. subst (λ v. Unfolds (nodes ++ x ∷ []) (suc k) v) h.1 (subst (λ m. Unfolds (nodes ++ x ∷ []) (suc m) t) (b.lists.counted ∙ sym h.0) last_unfolds))
-        (get_either ts t k u e);
+          ⊎_elim (λ h. unfolds_kept nodes (x ∷ []) (suc k) u (b.lists.each k u h))
+          (λ h. subst (λ v. Unfolds (nodes ++ x ∷ []) (suc k) v) h.1 (subst (λ m. Unfolds (nodes ++ x ∷ []) (suc m) t) (b.lists.counted ∙ sym h.0) last_unfolds))
+          (get_either ts t k u e);
       apart = λ i j u p q.
-        ⊎_elim
-        (λ h. ⊎_elim (λ g. b.lists.apart i j u h g) (λ g. absurd (absent i (h ∙ ap Some (sym g.1)))) (get_either ts t j u q))
-        (λ h. ⊎_elim (λ g. absurd (absent j (g ∙ ap Some (sym h.1)))) (λ g. h.0 ∙ sym g.0) (get_either ts t j u q))
-        (get_either ts t i u p);
+          ⊎_elim
+          (λ h. ⊎_elim (λ g. b.lists.apart i j u h g) (λ g. absurd (absent i (h ∙ ap Some (sym g.1)))) (get_either ts t j u q))
+          (λ h. ⊎_elim (λ g. absurd (absent j (g ∙ ap Some (sym h.1)))) (λ g. h.0 ∙ sym g.0) (get_either ts t j u q))
+          (get_either ts t i u p);
     }
 
     new : Noted (nodes ++ x ∷ []) (number_in nodes x) nodes (ts ++ t ∷ []) t
@@ -135,12 +135,12 @@ module _ (nodes : List Node) (ts : List Tree) (b : Built nodes ts) (x : Node) (t
       built = record {
         lists = lists_more;
         behind = λ k y e.
-          ⊎_elim (λ h. b.behind k y h)
-          (λ h. subst (λ z. Each (λ n. (1 ≤ n) × (n < suc k)) (children_of z)) h.1 (subst (λ m. Each (λ n. (1 ≤ n) × (n < suc m)) (children_of x)) (sym h.0) (children_within nodes x t f)))
-          (get_either nodes x k y e);
+            ⊎_elim (λ h. b.behind k y h)
+            (λ h. subst (λ z. Each (λ n. (1 ≤ n) × (n < suc k)) (children_of z)) h.1 (subst (λ m. Each (λ n. (1 ≤ n) × (n < suc m)) (children_of x)) (sym h.0) (children_within nodes x t f)))
+            (get_either nodes x k y e);
       };
       unfolds =
-        subst (λ n. Unfolds (nodes ++ x ∷ []) n t) (sym (add-one (position_or_len (same_node x) nodes) ∙ ap suc (none_found (same_node x) nodes missing))) last_unfolds;
+          subst (λ n. Unfolds (nodes ++ x ∷ []) n t) (sym (add-one (position_or_len (same_node x) nodes) ∙ ap suc (none_found (same_node x) nodes missing))) last_unfolds;
       more = (x ∷ [], refl);
     }
 

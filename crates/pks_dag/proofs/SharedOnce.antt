@@ -20,7 +20,7 @@ put_trees ts us = fold (put same_tree) ts us
 
 record CasesRight (nodes : List Node) (links : List (ℕ × ℕ)) (old : List Node) (ts : List Tree) (k : Chain) : Type 0 where
   built : Built nodes ts
-  unfold : UnfoldEach nodes links k
+  unfolds_each : UnfoldEach nodes links k
   more : (ys : List Node) × (nodes ≡ old ++ ys)
 
 both_more : (old mid new : List Node) → ((ys : List Node) × (mid ≡ old ++ ys)) → ((ys : List Node) × (new ≡ mid ++ ys)) → (ys : List Node) × (new ≡ old ++ ys)
@@ -58,10 +58,10 @@ mutual
   tree_right (Cases x k) nodes ts b =
       let s = shared_cases nodes k in
       let r = cases_right k nodes ts b in
-      after nodes s.0 ts (walk_in k) (CasesNode x s.1) (Cases x k) r.built r.more (s.1, refl, r.unfold)
+      after nodes s.0 ts (walk_in k) (CasesNode x s.1) (Cases x k) r.built r.more (s.1, refl, r.unfolds_each)
 
   cases_right : (k : Chain) (nodes : List Node) (ts : List Tree) → Built nodes ts → CasesRight (shared_cases nodes k).0 (shared_cases nodes k).1 nodes (put_trees ts (walk_in k)) k
-  cases_right End nodes ts b = record { built = b; unfold = refl; more = ([], sym (append-nil nodes)) }
+  cases_right End nodes ts b = record { built = b; unfolds_each = refl; more = ([], sym (append-nil nodes)) }
   cases_right (More e t k) nodes ts b =
       let s = shared_in nodes t in
       let r = tree_right t nodes ts b in
@@ -69,7 +69,7 @@ mutual
       let r' = cases_right k s.0 (put_trees ts (walk_of t)) r.built in
       record {
         built = subst (λ vs. Built s'.0 vs) (sym (fold-append (put same_tree) ts (walk_of t) (walk_in k))) r'.built;
-        unfold = (s.1, s'.1, refl, kept_along s.0 s'.0 s.1 t r'.more r.unfolds, r'.unfold);
+        unfolds_each = (s.1, s'.1, refl, kept_along s.0 s'.0 s.1 t r'.more r.unfolds, r'.unfolds_each);
         more = both_more nodes s.0 s'.0 r.more r'.more;
       }
 
@@ -92,14 +92,14 @@ mutual
   walk_low : (n : ℕ) (t : Tree) → depth t ≤ n → Each (λ u. depth u ≤ n) (walk_of t)
   walk_low n Goal h = (h, tt)
   walk_low n Impossible h = (h, tt)
-  walk_low n (Do i t) h = let below : depth t ≤ n = omega (arith, h) in each_append (walk_of t) (Do i t ∷ []) (walk_low n t below) (h, tt)
+  walk_low n (Do i t) h = let below : depth t ≤ n = omega (arith, h) in each_append (λ u. depth u ≤ n) (walk_of t) (Do i t ∷ []) (walk_low n t below) (h, tt)
   walk_low n (Branch c t u) h =
       let left = le-max_left (depth t) (depth u) in
       let right = le-max_right (depth t) (depth u) in
       let first : depth t ≤ n = omega (arith, h, left) in
       let second : depth u ≤ n = omega (arith, h, right) in
-      each_append (walk_of t) (walk_of u ++ Branch c t u ∷ []) (walk_low n t first) (each_append (walk_of u) (Branch c t u ∷ []) (walk_low n u second) (h, tt))
-  walk_low n (Cases x k) h = let below : chain_depth k ≤ n = omega (arith, h) in each_append (walk_in k) (Cases x k ∷ []) (cases_low n k below) (h, tt)
+      each_append (λ u. depth u ≤ n) (walk_of t) (walk_of u ++ Branch c t u ∷ []) (walk_low n t first) (each_append (λ u. depth u ≤ n) (walk_of u) (Branch c t u ∷ []) (walk_low n u second) (h, tt))
+  walk_low n (Cases x k) h = let below : chain_depth k ≤ n = omega (arith, h) in each_append (λ u. depth u ≤ n) (walk_in k) (Cases x k ∷ []) (cases_low n k below) (h, tt)
 
   cases_low : (n : ℕ) (k : Chain) → chain_depth k ≤ n → Each (λ u. depth u ≤ n) (walk_in k)
   cases_low n End h = tt
@@ -108,7 +108,7 @@ mutual
       let right = le-max_right (depth t) (chain_depth k) in
       let first : depth t ≤ n = omega (arith, h, left) in
       let second : chain_depth k ≤ n = omega (arith, h, right) in
-      each_append (walk_of t) (walk_in k) (walk_low n t first) (cases_low n k second)
+      each_append (λ u. depth u ≤ n) (walk_of t) (walk_in k) (walk_low n t first) (cases_low n k second)
 
 -- what a walk ends before the tree itself
 abbrev front_of : Tree → List Tree
@@ -134,7 +134,7 @@ front_low Impossible = tt
 front_low (Do i t) = lower (depth t) (walk_of t) (walk_low (depth t) t (le_refl (depth t)))
 front_low (Branch c t u) =
     lower (max (depth t) (depth u)) (walk_of t ++ walk_of u)
-    (each_append (walk_of t) (walk_of u) (walk_low (max (depth t) (depth u)) t (le-max_left (depth t) (depth u))) (walk_low (max (depth t) (depth u)) u (le-max_right (depth t) (depth u))))
+    (each_append (λ v. depth v ≤ max (depth t) (depth u)) (walk_of t) (walk_of u) (walk_low (max (depth t) (depth u)) t (le-max_left (depth t) (depth u))) (walk_low (max (depth t) (depth u)) u (le-max_right (depth t) (depth u))))
 front_low (Cases x k) = lower (chain_depth k) (walk_in k) (cases_low (chain_depth k) k (le_refl (chain_depth k)))
 
 other_tree : (t u : Tree) → depth u < depth t → (b : Bool) → same_tree t u ≡ b → b ≡ false
@@ -155,9 +155,10 @@ to_unfold nodes n [] (t ∷ ts) e f = absurd (omega (arith, e))
 to_unfold nodes n (x ∷ xs) [] e f = absurd (omega (arith, e))
 to_unfold nodes n (x ∷ xs) (t ∷ ts) e f =
     let same : length xs ≡ length ts = omega (arith, e) in
-    let first : 0 + n ≡ n = omega arith in
-    (subst (λ m. Unfolds nodes m t) first (f 0 t refl),
-    to_unfold nodes (n + 1) xs ts same (λ k u h. let next : suc k + n ≡ k + (n + 1) = omega arith in subst (λ m. Unfolds nodes m u) next (f (suc k) u h)))
+    let first : 0 + n ≡ n = omega arith in (
+      subst (λ m. Unfolds nodes m t) first (f 0 t refl),
+      to_unfold nodes (n + 1) xs ts same (λ k u h. let next : suc k + n ≡ k + (n + 1) = omega arith in subst (λ m. Unfolds nodes m u) next (f (suc k) u h)),
+    )
 
 from_unfold : (nodes : List Node) (n : ℕ) (xs : List Node) (ts : List Tree) → UnfoldTo nodes n xs ts → (length xs ≡ length ts) × ((k : ℕ) (t : Tree) → slice_get ts k ≡ Some t → Unfolds nodes (k + n) t)
 from_unfold nodes n [] [] h = (refl, λ k t e. absurd (none-some t e))
@@ -174,9 +175,10 @@ from_unfold nodes n (x ∷ xs) (t ∷ ts) h =
 to_behind : (n : ℕ) (xs : List Node) → ((k : ℕ) (x : Node) → slice_get xs k ≡ Some x → Each (λ c. (1 ≤ c) × (c < k + n)) (children_of x)) → AreBehindChildren n xs
 to_behind n [] f = tt
 to_behind n (x ∷ xs) f =
-    let first : 0 + n ≡ n = omega arith in
-    (subst (λ m. Each (λ c. (1 ≤ c) × (c < m)) (children_of x)) first (f 0 x refl),
-    to_behind (n + 1) xs (λ k y h. let next : suc k + n ≡ k + (n + 1) = omega arith in subst (λ m. Each (λ c. (1 ≤ c) × (c < m)) (children_of y)) next (f (suc k) y h)))
+    let first : 0 + n ≡ n = omega arith in (
+      subst (λ m. Each (λ c. (1 ≤ c) × (c < m)) (children_of x)) first (f 0 x refl),
+      to_behind (n + 1) xs (λ k y h. let next : suc k + n ≡ k + (n + 1) = omega arith in subst (λ m. Each (λ c. (1 ≤ c) × (c < m)) (children_of y)) next (f (suc k) y h)),
+    )
 
 module _ (nodes : List Node) (ts : List Tree) (l : Lists nodes ts) where
   nodes_apart : (i j : ℕ) (x : Node) → slice_get nodes i ≡ Some x → slice_get nodes j ≡ Some x → i ≡ j

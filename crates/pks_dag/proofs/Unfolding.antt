@@ -57,7 +57,7 @@ fits_kept nodes more x (Cases y k) f = (f.0, f.1, each_kept nodes more f.0 k f.2
 
 -- ---- a number unfolds to one tree
 
-node_kind : Node → ℕ
+abbrev node_kind : Node → ℕ
 node_kind GoalNode = 0
 node_kind ImpossibleNode = 1
 node_kind (DoNode i next) = 2
@@ -128,7 +128,7 @@ mutual
   same_chains nodes cases (More e t k) End p q = let h : (e, p.0) ∷ p.1 ≡ [] = sym p.2 ∙ q in cc
   same_chains nodes cases (More e t k) (More d u m) p q =
       let h : (e, p.0) ∷ p.1 ≡ (d, q.0) ∷ q.1 = sym p.2 ∙ q.2 in
-      let one : (e, p.0) ≡ (d, q.0) = cc in
+      let one : ◌≡◌ {A = ℕ × ℕ} (e, p.0) (d, q.0) = cc in
       let others : p.1 ≡ q.1 = cc in
       let tree = same_trees nodes q.0 t u (subst (λ n. Unfolds nodes n t) (ap (λ (l : ℕ × ℕ). l.1) one) p.3) q.3 in
       let rest = same_chains nodes q.1 k m (subst (λ l. UnfoldEach nodes l k) others p.4) q.4 in

@@ -37,9 +37,10 @@ same_step i j e =
     λ k. record { action = nat_cmp-IsAntisymmetric i.action j.action p.0 k; arguments = slice_cmp-IsAntisymmetric (form_cmp_tells nat_cmp-IsAntisymmetric) i.arguments j.arguments p.1 k }
 
 same_link_decides : (a b : ℕ × ℕ) → Decides (same_link a b) (a ≡ b)
-same_link_decides a b =
-    (λ e. let p = and_parts (a.0 == b.0) (a.1 == b.1) e in λ k. (eqb-true a.0 b.0 p.0 k, eqb-true a.1 b.1 p.1 k),
-    λ e. and_from (a.0 == b.0) (a.1 == b.1) ((Decides-eqb a.0 b.0).1 (ap (λ (c : ℕ × ℕ). c.0) e)) ((Decides-eqb a.1 b.1).1 (ap (λ (c : ℕ × ℕ). c.1) e)))
+same_link_decides a b = (
+  λ e. let p = and_parts (a.0 == b.0) (a.1 == b.1) e in λ k. (eqb-true a.0 b.0 p.0 k, eqb-true a.1 b.1 p.1 k),
+  λ e. and_from (a.0 == b.0) (a.1 == b.1) ((Decides-eqb a.0 b.0).1 (ap (λ (c : ℕ × ℕ). c.0) e)) ((Decides-eqb a.1 b.1).1 (ap (λ (c : ℕ × ℕ). c.1) e)),
+)
 
 pub same_node_is : (x y : Node) → same_node x y ≡ true → x ≡ y
 same_node_is GoalNode GoalNode e = refl

@@ -101,11 +101,7 @@ fn last_depth(alloc: Global, nodes: &[Node]) -> Result<u64, AllocError>
 
 /// The objects and the numbers of their nodes.
 #[tactic(auto, using(crate::proofs::Appended::appended), unfolding(pks_terms::specs::Printed::term_text))]
-fn print_links(
-    p: &Problem<'_>,
-    cases: &[CaseNode],
-    out: &mut Vec<u8>,
-) -> Result<(), AllocError>
+fn print_links(p: &Problem<'_>, cases: &[CaseNode], out: &mut Vec<u8>) -> Result<(), AllocError>
     ensures { OnOk result (out.new.items ≡ out.old.items ++ links_text (names_of p.now) (map link_of cases.now)) }
 {
     match cases {

@@ -13,22 +13,18 @@ use pks_terms::sequence::Sequence;
 use std::alloc::{AllocError, Global};
 
 /// The number of the node, which goes last where it isn't there.
-#[tactic(auto, using(crate::proofs::Inserting::inserted, crate::proofs::Inserting::same_place))]
 fn note(nodes: &mut IndexSet<Node>, node: Node) -> Result<u64, AllocError>
     ensures nodes { OnOk result (nodes_of nodes.new.keys ≡ with_node (nodes_of nodes.old.keys) (node_of node)) }
     ensures number { IfOk result (λ n. n ≡ number_in (nodes_of nodes.old.keys) (node_of node)) }
 {
     let (place, _) = nodes.insert_full(node)?;
+    let _count = nodes.len();
     Ok(place as u64 + 1)
 }
 
 /// The number of the node that unfolds to the tree. Nodes that aren't there go last, children before their parent.
 #[cycle(shares)]
-fn share_tree(
-    alloc: Global,
-    nodes: &mut IndexSet<Node>,
-    t: &Tree,
-) -> Result<u64, AllocError>
+fn share_tree(alloc: Global, nodes: &mut IndexSet<Node>, t: &Tree) -> Result<u64, AllocError>
     ensures nodes { OnOk result (nodes_of nodes.new.keys ≡ (shared_in (nodes_of nodes.old.keys) (tree_of t.now)).0) }
     ensures number { IfOk result (λ n. n ≡ (shared_in (nodes_of nodes.old.keys) (tree_of t.now)).1) }
 {
@@ -87,6 +83,7 @@ fn share_cases(
 }
 
 /// The nodes in the order in which they came.
+#[tactic(auto, using(crate::proofs::Appended::appended))]
 fn in_order(alloc: Global, nodes: IndexSet<Node>) -> Result<Dag, AllocError>
     ensures { IfOk result (λ d. d ≡ nodes.keys) }
 {

@@ -1,3 +1,4 @@
+pub mod AddTexts
 pub mod Appended
 pub mod Fronts
 pub mod Offered

@@ -99,7 +99,6 @@ fn offer_senses(
 }
 
 /// The shapes of an action that have a case, none equal to one before it.
-#[tactic(auto, using(crate::proofs::Offered::both_offered, crate::proofs::Offered::offered_are), unfolding(pks_terms::specs::Shapes::shapes))]
 pub(crate) fn derived_adds(
     alloc: Global,
     schema: &Schema<'_>,
