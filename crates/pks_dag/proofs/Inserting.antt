@@ -1,14 +1,14 @@
 -- What the set of nodes becomes, as the definitions have it.
-use Rattle.std.proofs.Common.{◌≡◌, ◌+◌, ℕ, Bool, true, false, cond, not, if◌then◌else◌, List, [], ◌∷◌, ◌++◌, map, refl, sym, ap, ◌∙◌}
+use Rattle.std.proofs.Common.{◌≡◌, ◌+◌, Bool, true, false, cond, not, if◌then◌else◌, List, [], ◌∷◌, ◌++◌, map, refl, sym, ap, ◌∙◌}
 use Rattle.std.specs.List.{list_any, position_or_len}
 use Rattle.std.specs.Ordering.{on}
 use Rattle.std.proofs.lemmas.List.{map-append}
 use Rattle.indexmap.specs.IndexSet.{insert_key}
 use Rattle.pks_terms.proofs.ListLaws.{any_alike}
 use Rattle.pks_dag.specs.declared.nodes.Node as declared
-use Rattle.pks_dag.specs.NodeViews.{node_of, nodes_of}
+use Rattle.pks_dag.specs.NodeViews.{node_of}
 use Rattle.pks_dag.specs.NodeEquality.{same_node}
-use Rattle.pks_dag.specs.Sharing.{with_node, number_in}
+use Rattle.pks_dag.specs.Sharing.{with_node}
 
 put_by : (b : Bool) (ks : List declared.Node) (k : declared.Node) → map node_of (if b then ks else ks ++ k ∷ []) ≡ cond b (map node_of ks) (map node_of ks ++ node_of k ∷ [])
 put_by true ks k = refl

@@ -1,8 +1,7 @@
 -- Lists by place, and each element where it first stands.
-use Rattle.std.proofs.Common.{◌≡◌, ◌≤◌, ◌<◌, ◌+◌, ◌||◌, ◌⊎◌, ℕ, zero, suc, Bool, true, false, cond, not, List, [], ◌∷◌, ◌++◌, length, fold, slice_get, Option, Some, None, append_assoc, append-nil, refl, sym, ap, ◌∙◌, subst, inl, inr, ⊎_elim, true≢false, one-add, arith}
+use Rattle.std.proofs.Common.{◌≡◌, ◌+◌, ◌||◌, ◌⊎◌, ℕ, zero, suc, Bool, true, false, cond, not, List, [], ◌∷◌, ◌++◌, length, fold, slice_get, Some, append_assoc, append-nil, refl, sym, ap, ◌∙◌, inl, inr, ⊎_elim, true≢false, one-add, arith}
 use Rattle.std.specs.List.{list_any, position_or_len}
 use Rattle.std.proofs.lemmas.Option.{none-some, same_Some}
-use Rattle.std.proofs.lemmas.Bool.{or_parts}
 use Rattle.std.proofs.lemmas.List.Folds.{list_any-append}
 use Rattle.pks_terms.specs.Sets.{Each, IsIn, first_of_each}
 use Rattle.pks_terms.specs.Nodes.{NoTwoEqual}

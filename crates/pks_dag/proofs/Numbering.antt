@@ -1,12 +1,12 @@
 -- Nodes that unfold to trees of which no two are equal.
-use Rattle.std.proofs.Common.{◌≡◌, ◌≤◌, ◌<◌, ◌+◌, ℕ, zero, suc, Bool, true, false, cond, List, [], ◌∷◌, ◌++◌, length, slice_get, Option, Some, None, append-nil, refl, sym, ap, ◌∙◌, subst, ⊎_elim, true≢false, add-one, Equal, is_eq}
+use Rattle.std.proofs.Common.{◌≡◌, ◌≤◌, ◌<◌, ℕ, zero, suc, Bool, true, false, cond, List, [], ◌∷◌, ◌++◌, length, slice_get, Some, append-nil, refl, sym, ap, ◌∙◌, subst, ⊎_elim, true≢false, add-one, is_eq}
 use Rattle.std.specs.List.{list_any, position_or_len}
 use Rattle.std.specs.Cmp.{Equal-is}
 use Rattle.std.proofs.lemmas.Cmp.{tied_itself}
 use Rattle.std.proofs.lemmas.Option.{none-some, same_Some}
-use Rattle.pks_terms.specs.Sets.{Each, IsIn}
+use Rattle.pks_terms.specs.Sets.{Each}
 use Rattle.pks_terms.specs.Trees.{Tree, Goal, Impossible, Do, Branch, Cases, Chain, End, More, depth, tree_cmp}
-use Rattle.pks_terms.specs.Nodes.{Node, GoalNode, ImpossibleNode, DoNode, BranchNode, CasesNode, at_number, Unfolds, UnfoldEach, same_tree, children_of}
+use Rattle.pks_terms.specs.Nodes.{Node, DoNode, BranchNode, CasesNode, Unfolds, UnfoldEach, same_tree, children_of}
 use Rattle.pks_terms.proofs.ListLaws.{found_in, any_in, none_in}
 use Rattle.pks_laws.proofs.TreeOrder.{tree_tells}
 use Rattle.pks_laws.proofs.TreeTotal.{tree_cmp_total}

@@ -1,14 +1,13 @@
 -- The nodes of a tree, made one after another, are the one list of its nodes.
-use Rattle.std.proofs.Common.{◌≡◌, ◌≤◌, ◌<◌, ◌+◌, ℕ, zero, suc, max, Bool, true, false, List, [], ◌∷◌, ◌++◌, length, fold, slice_get, Option, Some, None, append_assoc, append-nil, refl, sym, ap, ◌∙◌, subst, true≢false, le_refl, cond, arith}
-use Rattle.std.specs.List.{list_any}
+use Rattle.std.proofs.Common.{◌≡◌, ◌≤◌, ◌<◌, ◌+◌, ℕ, zero, suc, max, Bool, true, false, List, [], ◌∷◌, ◌++◌, length, fold, slice_get, Some, append_assoc, append-nil, refl, sym, ap, ◌∙◌, subst, le_refl, cond, arith}
 use Rattle.std.proofs.Math.Nat.{le-max_left, le-max_right}
 use Rattle.std.proofs.lemmas.List.Sums.{fold-append}
 use Rattle.std.proofs.lemmas.Option.{none-some, same_Some}
-use Rattle.pks_terms.specs.Sets.{Each, IsIn, first_of_each}
+use Rattle.pks_terms.specs.Sets.{Each}
 use Rattle.pks_terms.specs.Trees.{Tree, Goal, Impossible, Do, Branch, Cases, Chain, End, More, depth, chain_depth}
-use Rattle.pks_terms.specs.Nodes.{Node, GoalNode, ImpossibleNode, DoNode, BranchNode, CasesNode, at_number, Unfolds, UnfoldEach, UnfoldTo, same_tree, walk_of, walk_in, first_ends, NoTwoEqual, IsShared, children_of, AreBehindChildren}
+use Rattle.pks_terms.specs.Nodes.{Node, GoalNode, ImpossibleNode, DoNode, BranchNode, CasesNode, Unfolds, UnfoldEach, UnfoldTo, same_tree, walk_of, walk_in, first_ends, IsShared, children_of, AreBehindChildren}
 use Rattle.pks_terms.proofs.ListLaws.{each_append, each_weaker}
-use Rattle.pks_dag.specs.Sharing.{with_node, number_in, noted, shared_in, shared_cases}
+use Rattle.pks_dag.specs.Sharing.{with_node, number_in, shared_in, shared_cases}
 use Rattle.pks_dag.proofs.Listing.{get_last, same_reach, to_distinct, longer, none_passes, put, put_all, each_put}
 use Rattle.pks_dag.proofs.Unfolding.{Fits, fits_of, unfolds_from, unfolds_kept, same_trees}
 use Rattle.pks_dag.proofs.Numbering.{same_tree_is, Lists, place_of, lists_same, Built, Noted, note_right}

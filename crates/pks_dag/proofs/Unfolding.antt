@@ -1,9 +1,7 @@
 -- What nodes unfold to.
-use Rattle.std.proofs.Common.{◌≡◌, ◌≤◌, ◌<◌, ℕ, zero, suc, List, [], ◌∷◌, ◌++◌, map, length, slice_get, Option, Some, None, refl, sym, ap, ◌∙◌, subst, arith}
+use Rattle.std.proofs.Common.{◌≡◌, ◌≤◌, ◌<◌, ℕ, zero, suc, List, [], ◌∷◌, ◌++◌, map, length, Some, refl, sym, ap, ◌∙◌, subst, arith}
 use Rattle.std.proofs.lemmas.Option.{none-some, same_Some, slice_get_within}
 use Rattle.pks_terms.specs.Sets.{Each}
-use Rattle.pks_terms.specs.Syntax.{Term, Literal}
-use Rattle.pks_terms.specs.Actions.{Instance}
 use Rattle.pks_terms.specs.Trees.{Tree, Goal, Impossible, Do, Branch, Cases, Chain, End, More, root_kind}
 use Rattle.pks_terms.specs.Nodes.{Node, GoalNode, ImpossibleNode, DoNode, BranchNode, CasesNode, at_number, Unfolds, UnfoldEach, children_of}
 use Rattle.pks_dag.proofs.Listing.{get_kept}

@@ -1,12 +1,12 @@
 -- What a walk over nodes makes.
-use Rattle.std.proofs.Common.{◌≡◌, ◌≤◌, ◌<◌, ◌+◌, ℕ, zero, suc, List, [], ◌∷◌, ◌++◌, map, length, drop, get_or, decimal, append_assoc, refl, sym, ap, ◌∙◌, subst, add-one, arith}
+use Rattle.std.proofs.Common.{◌≡◌, ◌≤◌, ◌<◌, ◌+◌, ℕ, zero, suc, List, [], ◌∷◌, ◌++◌, map, length, drop, get_or, decimal, append_assoc, sym, ap, ◌∙◌, subst, add-one, arith}
 use Rattle.pks_terms.specs.Sets.{Each}
-use Rattle.pks_terms.specs.Nodes.{Node, node_depth, last_depth, node_text}
+use Rattle.pks_terms.specs.Nodes.{node_depth, last_depth, node_text}
 use Rattle.pks_terms.specs.Printed.{Names}
 use Rattle.pks_terms.proofs.ListLaws.{each_append, each_weaker}
 use Rattle.pks_dag.specs.declared.nodes.Node as declared
 use Rattle.pks_dag.specs.NodeViews.{node_of}
-use Rattle.pks_dag.specs.Lines.{node_line, node_lines}
+use Rattle.pks_dag.specs.Lines.{node_lines}
 use Rattle.pks_dag.proofs.Listing.{longer}
 
 -- the next element, and those behind it

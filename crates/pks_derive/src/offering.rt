@@ -80,11 +80,7 @@ fn offer_effects(
 
 /// So do those of senses.
 #[tactic(auto, using(crate::proofs::Offered::both_offered))]
-fn offer_senses(
-    schema: &Schema<'_>,
-    senses: &[Sense],
-    to: &mut Vec<Adds>,
-) -> Result<(), AllocError>
+fn offer_senses(schema: &Schema<'_>, senses: &[Sense], to: &mut Vec<Adds>) -> Result<(), AllocError>
     requires { AssignToPlaces schema.now.effects }
     ensures { OnOk result (adds_of to.new.items ≡ fold (with_offered (schema_of schema.now)) (adds_of to.old.items) (flat_map sense_shapes (senses_of senses.now))) }
 {
@@ -99,10 +95,7 @@ fn offer_senses(
 }
 
 /// The shapes of an action that have a case, none equal to one before it.
-pub(crate) fn derived_adds(
-    alloc: Global,
-    schema: &Schema<'_>,
-) -> Result<Vec<Adds>, AllocError>
+pub(crate) fn derived_adds(alloc: Global, schema: &Schema<'_>) -> Result<Vec<Adds>, AllocError>
     requires { AssignToPlaces schema.now.effects }
     ensures { IfOk result (λ v. adds_of v.items ≡ derived_adds (schema_of schema.now)) }
 {

@@ -57,11 +57,7 @@ fn parameter_name<'s>(parameters: &[&'s str], parameter: u8) -> &'s str
 
 /// A parameter's name behind a question mark.
 #[tactic(auto, using(crate::proofs::Appended::appended))]
-fn print_parameter(
-    parameters: &[&str],
-    parameter: u8,
-    out: &mut Vec<u8>,
-) -> Result<(), AllocError>
+fn print_parameter(parameters: &[&str], parameter: u8, out: &mut Vec<u8>) -> Result<(), AllocError>
     ensures { OnOk result (out.new.items ≡ out.old.items ++ (63 ∷ name_in (map (λ t. t.now) parameters.now) parameter)) }
 {
     put(out, b"?")?;
