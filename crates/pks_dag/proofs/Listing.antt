@@ -1,8 +1,7 @@
 -- Lists by place, and each element where it first stands.
-use Rattle.std.proofs.Common.{◌≡◌, ◌≤◌, ◌<◌, ◌+◌, ◌||◌, ◌⊎◌, ℕ, zero, suc, Bool, true, false, cond, not, List, [], ◌∷◌, ◌++◌, length, fold, slice_get, Option, Some, None, append_assoc, append-nil, refl, sym, ap, ◌∙◌, subst, inl, inr, ⊎_elim, true≢false, one-add, arith}
+use Rattle.std.proofs.Common.{◌≡◌, ◌+◌, ◌||◌, ◌⊎◌, ℕ, zero, suc, Bool, true, false, cond, not, List, [], ◌∷◌, ◌++◌, length, fold, slice_get, Some, append_assoc, append-nil, refl, sym, ap, ◌∙◌, inl, inr, ⊎_elim, true≢false, one-add, arith}
 use Rattle.std.specs.List.{list_any, position_or_len}
 use Rattle.std.proofs.lemmas.Option.{none-some, same_Some}
-use Rattle.std.proofs.lemmas.Bool.{or_parts}
 use Rattle.std.proofs.lemmas.List.Folds.{list_any-append}
 use Rattle.pks_terms.specs.Sets.{Each, IsIn, first_of_each}
 use Rattle.pks_terms.specs.Nodes.{NoTwoEqual}
@@ -51,9 +50,10 @@ place_in (y ∷ ys) (suc k) x e = inr (place_in ys k x e)
 
 pub to_distinct : {X : Type 0} (xs : List X) → ((i j : ℕ) (x : X) → slice_get xs i ≡ Some x → slice_get xs j ≡ Some x → i ≡ j) → NoTwoEqual xs
 to_distinct [] f = tt
-to_distinct (x ∷ xs) f =
-    (λ h. let r = in_place x xs h in let e : 0 ≡ suc r.0 = f 0 (suc r.0) x refl r.1 in omega (arith, e),
-    to_distinct xs (λ i j y p q. let e : suc i ≡ suc j = f (suc i) (suc j) y p q in omega (arith, e)))
+to_distinct (x ∷ xs) f = (
+  λ h. let r = in_place x xs h in let e : 0 ≡ suc r.0 = f 0 (suc r.0) x refl r.1 in omega (arith, e),
+  to_distinct xs (λ i j y p q. let e : suc i ≡ suc j = f (suc i) (suc j) y p q in omega (arith, e)),
+)
 
 pub longer : {X : Type 0} (xs : List X) (y : X) → length (xs ++ y ∷ []) ≡ suc (length xs)
 longer [] y = refl
@@ -115,7 +115,7 @@ module _ {X : Type 0} (same : X → X → Bool) where
   module _ (P : X → Type 0) where
     each_one : (b : Bool) (done : List X) (x : X) → Each P done → P x → Each P (cond b done (done ++ x ∷ []))
     each_one true done x d h = d
-    each_one false done x d h = each_append done (x ∷ []) d (h, tt)
+    each_one false done x d h = each_append P done (x ∷ []) d (h, tt)
 
     pub each_put : (done xs : List X) → Each P done → Each P xs → Each P (fold put done xs)
     each_put done [] d h = d

@@ -1,12 +1,12 @@
 -- Nodes that unfold to trees of which no two are equal.
-use Rattle.std.proofs.Common.{◌≡◌, ◌≤◌, ◌<◌, ◌+◌, ℕ, zero, suc, Bool, true, false, cond, List, [], ◌∷◌, ◌++◌, length, slice_get, Option, Some, None, append-nil, refl, sym, ap, ◌∙◌, subst, ⊎_elim, true≢false, add-one, Equal, is_eq}
+use Rattle.std.proofs.Common.{◌≡◌, ◌≤◌, ◌<◌, ℕ, zero, suc, Bool, true, false, cond, List, [], ◌∷◌, ◌++◌, length, slice_get, Some, append-nil, refl, sym, ap, ◌∙◌, subst, ⊎_elim, true≢false, add-one, is_eq}
 use Rattle.std.specs.List.{list_any, position_or_len}
 use Rattle.std.specs.Cmp.{Equal-is}
 use Rattle.std.proofs.lemmas.Cmp.{tied_itself}
 use Rattle.std.proofs.lemmas.Option.{none-some, same_Some}
-use Rattle.pks_terms.specs.Sets.{Each, IsIn}
+use Rattle.pks_terms.specs.Sets.{Each}
 use Rattle.pks_terms.specs.Trees.{Tree, Goal, Impossible, Do, Branch, Cases, Chain, End, More, depth, tree_cmp}
-use Rattle.pks_terms.specs.Nodes.{Node, GoalNode, ImpossibleNode, DoNode, BranchNode, CasesNode, at_number, Unfolds, UnfoldEach, same_tree, children_of}
+use Rattle.pks_terms.specs.Nodes.{Node, DoNode, BranchNode, CasesNode, Unfolds, UnfoldEach, same_tree, children_of}
 use Rattle.pks_terms.proofs.ListLaws.{found_in, any_in, none_in}
 use Rattle.pks_laws.proofs.TreeOrder.{tree_tells}
 use Rattle.pks_laws.proofs.TreeTotal.{tree_cmp_total}
@@ -55,9 +55,9 @@ module _ (xs ys : List Node) (ts : List Tree) (l : Lists xs ts) (m : Lists ys ts
   node_same Impossible x y f g = f ∙ sym g
   node_same (Do i t) x y f g = f.1 ∙ ap (DoNode i) (number_same f.0 g.0 t f.2 g.2) ∙ sym g.1
   node_same (Branch c t u) x y f g =
-      let yes = number_same f.0 g.0 t f.3 g.3 in
-      let no = number_same f.1 g.1 u f.4 g.4 in
-      f.2 ∙ (λ i. BranchNode c (yes i) (no i)) ∙ sym g.2
+      let taken = number_same f.0 g.0 t f.3 g.3 in
+      let other = number_same f.1 g.1 u f.4 g.4 in
+      f.2 ∙ (λ i. BranchNode c (taken i) (other i)) ∙ sym g.2
   node_same (Cases z k) x y f g = f.1 ∙ ap (CasesNode z) (links_same k f.0 g.0 f.2 g.2) ∙ sym g.1
 
   pub lists_same : xs ≡ ys
@@ -102,10 +102,10 @@ module _ (nodes : List Node) (ts : List Tree) (b : Built nodes ts) (x : Node) (t
   there : list_any (same_node x) nodes ≡ true → Noted nodes (number_in nodes x) nodes ts t
   there e =
       let r = first_found (same_node x) nodes e in
-      let at = unfolds_from nodes (suc (position_or_len (same_node x) nodes)) x t (r.1 ∙ ap Some (sym (same_node_is x r.0 r.2))) f in
+      let spot = unfolds_from nodes (suc (position_or_len (same_node x) nodes)) x t (r.1 ∙ ap Some (sym (same_node_is x r.0 r.2))) f in
       record {
         built = b;
-        unfolds = subst (λ n. Unfolds nodes n t) (sym (add-one (position_or_len (same_node x) nodes))) at;
+        unfolds = subst (λ n. Unfolds nodes n t) (sym (add-one (position_or_len (same_node x) nodes))) spot;
         more = ([], sym (append-nil nodes));
       }
 
@@ -120,14 +120,14 @@ module _ (nodes : List Node) (ts : List Tree) (b : Built nodes ts) (x : Node) (t
     lists_more = record {
       counted = longer nodes x ∙ ap suc b.lists.counted ∙ sym (longer ts t);
       each = λ k u e.
-        ⊎_elim (λ h. unfolds_kept nodes (x ∷ []) (suc k) u (b.lists.each k u h))
-        (λ h. subst (λ v. Unfolds (nodes ++ x ∷ []) (suc k) v) h.1 (subst (λ m. Unfolds (nodes ++ x ∷ []) (suc m) t) (b.lists.counted ∙ sym h.0) last_unfolds))
-        (get_either ts t k u e);
+          ⊎_elim (λ h. unfolds_kept nodes (x ∷ []) (suc k) u (b.lists.each k u h))
+          (λ h. subst (λ v. Unfolds (nodes ++ x ∷ []) (suc k) v) h.1 (subst (λ m. Unfolds (nodes ++ x ∷ []) (suc m) t) (b.lists.counted ∙ sym h.0) last_unfolds))
+          (get_either ts t k u e);
       apart = λ i j u p q.
-        ⊎_elim
-        (λ h. ⊎_elim (λ g. b.lists.apart i j u h g) (λ g. absurd (absent i (h ∙ ap Some (sym g.1)))) (get_either ts t j u q))
-        (λ h. ⊎_elim (λ g. absurd (absent j (g ∙ ap Some (sym h.1)))) (λ g. h.0 ∙ sym g.0) (get_either ts t j u q))
-        (get_either ts t i u p);
+          ⊎_elim
+          (λ h. ⊎_elim (λ g. b.lists.apart i j u h g) (λ g. absurd (absent i (h ∙ ap Some (sym g.1)))) (get_either ts t j u q))
+          (λ h. ⊎_elim (λ g. absurd (absent j (g ∙ ap Some (sym h.1)))) (λ g. h.0 ∙ sym g.0) (get_either ts t j u q))
+          (get_either ts t i u p);
     }
 
     new : Noted (nodes ++ x ∷ []) (number_in nodes x) nodes (ts ++ t ∷ []) t
@@ -135,12 +135,12 @@ module _ (nodes : List Node) (ts : List Tree) (b : Built nodes ts) (x : Node) (t
       built = record {
         lists = lists_more;
         behind = λ k y e.
-          ⊎_elim (λ h. b.behind k y h)
-          (λ h. subst (λ z. Each (λ n. (1 ≤ n) × (n < suc k)) (children_of z)) h.1 (subst (λ m. Each (λ n. (1 ≤ n) × (n < suc m)) (children_of x)) (sym h.0) (children_within nodes x t f)))
-          (get_either nodes x k y e);
+            ⊎_elim (λ h. b.behind k y h)
+            (λ h. subst (λ z. Each (λ n. (1 ≤ n) × (n < suc k)) (children_of z)) h.1 (subst (λ m. Each (λ n. (1 ≤ n) × (n < suc m)) (children_of x)) (sym h.0) (children_within nodes x t f)))
+            (get_either nodes x k y e);
       };
       unfolds =
-        subst (λ n. Unfolds (nodes ++ x ∷ []) n t) (sym (add-one (position_or_len (same_node x) nodes) ∙ ap suc (none_found (same_node x) nodes missing))) last_unfolds;
+          subst (λ n. Unfolds (nodes ++ x ∷ []) n t) (sym (add-one (position_or_len (same_node x) nodes) ∙ ap suc (none_found (same_node x) nodes missing))) last_unfolds;
       more = (x ∷ [], refl);
     }
 

@@ -1,14 +1,13 @@
 -- The nodes of a tree, made one after another, are the one list of its nodes.
-use Rattle.std.proofs.Common.{◌≡◌, ◌≤◌, ◌<◌, ◌+◌, ℕ, zero, suc, max, Bool, true, false, List, [], ◌∷◌, ◌++◌, length, fold, slice_get, Option, Some, None, append_assoc, append-nil, refl, sym, ap, ◌∙◌, subst, true≢false, le_refl, cond, arith}
-use Rattle.std.specs.List.{list_any}
+use Rattle.std.proofs.Common.{◌≡◌, ◌≤◌, ◌<◌, ◌+◌, ℕ, zero, suc, max, Bool, true, false, List, [], ◌∷◌, ◌++◌, length, fold, slice_get, Some, append_assoc, append-nil, refl, sym, ap, ◌∙◌, subst, le_refl, cond, arith}
 use Rattle.std.proofs.Math.Nat.{le-max_left, le-max_right}
 use Rattle.std.proofs.lemmas.List.Sums.{fold-append}
 use Rattle.std.proofs.lemmas.Option.{none-some, same_Some}
-use Rattle.pks_terms.specs.Sets.{Each, IsIn, first_of_each}
+use Rattle.pks_terms.specs.Sets.{Each}
 use Rattle.pks_terms.specs.Trees.{Tree, Goal, Impossible, Do, Branch, Cases, Chain, End, More, depth, chain_depth}
-use Rattle.pks_terms.specs.Nodes.{Node, GoalNode, ImpossibleNode, DoNode, BranchNode, CasesNode, at_number, Unfolds, UnfoldEach, UnfoldTo, same_tree, walk_of, walk_in, first_ends, NoTwoEqual, IsShared, children_of, AreBehindChildren}
+use Rattle.pks_terms.specs.Nodes.{Node, GoalNode, ImpossibleNode, DoNode, BranchNode, CasesNode, Unfolds, UnfoldEach, UnfoldTo, same_tree, walk_of, walk_in, first_ends, IsShared, children_of, AreBehindChildren}
 use Rattle.pks_terms.proofs.ListLaws.{each_append, each_weaker}
-use Rattle.pks_dag.specs.Sharing.{with_node, number_in, noted, shared_in, shared_cases}
+use Rattle.pks_dag.specs.Sharing.{with_node, number_in, shared_in, shared_cases}
 use Rattle.pks_dag.proofs.Listing.{get_last, same_reach, to_distinct, longer, none_passes, put, put_all, each_put}
 use Rattle.pks_dag.proofs.Unfolding.{Fits, fits_of, unfolds_from, unfolds_kept, same_trees}
 use Rattle.pks_dag.proofs.Numbering.{same_tree_is, Lists, place_of, lists_same, Built, Noted, note_right}
@@ -20,7 +19,7 @@ put_trees ts us = fold (put same_tree) ts us
 
 record CasesRight (nodes : List Node) (links : List (ℕ × ℕ)) (old : List Node) (ts : List Tree) (k : Chain) : Type 0 where
   built : Built nodes ts
-  unfold : UnfoldEach nodes links k
+  unfolds_each : UnfoldEach nodes links k
   more : (ys : List Node) × (nodes ≡ old ++ ys)
 
 both_more : (old mid new : List Node) → ((ys : List Node) × (mid ≡ old ++ ys)) → ((ys : List Node) × (new ≡ mid ++ ys)) → (ys : List Node) × (new ≡ old ++ ys)
@@ -58,10 +57,10 @@ mutual
   tree_right (Cases x k) nodes ts b =
       let s = shared_cases nodes k in
       let r = cases_right k nodes ts b in
-      after nodes s.0 ts (walk_in k) (CasesNode x s.1) (Cases x k) r.built r.more (s.1, refl, r.unfold)
+      after nodes s.0 ts (walk_in k) (CasesNode x s.1) (Cases x k) r.built r.more (s.1, refl, r.unfolds_each)
 
   cases_right : (k : Chain) (nodes : List Node) (ts : List Tree) → Built nodes ts → CasesRight (shared_cases nodes k).0 (shared_cases nodes k).1 nodes (put_trees ts (walk_in k)) k
-  cases_right End nodes ts b = record { built = b; unfold = refl; more = ([], sym (append-nil nodes)) }
+  cases_right End nodes ts b = record { built = b; unfolds_each = refl; more = ([], sym (append-nil nodes)) }
   cases_right (More e t k) nodes ts b =
       let s = shared_in nodes t in
       let r = tree_right t nodes ts b in
@@ -69,7 +68,7 @@ mutual
       let r' = cases_right k s.0 (put_trees ts (walk_of t)) r.built in
       record {
         built = subst (λ vs. Built s'.0 vs) (sym (fold-append (put same_tree) ts (walk_of t) (walk_in k))) r'.built;
-        unfold = (s.1, s'.1, refl, kept_along s.0 s'.0 s.1 t r'.more r.unfolds, r'.unfold);
+        unfolds_each = (s.1, s'.1, refl, kept_along s.0 s'.0 s.1 t r'.more r.unfolds, r'.unfolds_each);
         more = both_more nodes s.0 s'.0 r.more r'.more;
       }
 
@@ -92,14 +91,14 @@ mutual
   walk_low : (n : ℕ) (t : Tree) → depth t ≤ n → Each (λ u. depth u ≤ n) (walk_of t)
   walk_low n Goal h = (h, tt)
   walk_low n Impossible h = (h, tt)
-  walk_low n (Do i t) h = let below : depth t ≤ n = omega (arith, h) in each_append (walk_of t) (Do i t ∷ []) (walk_low n t below) (h, tt)
+  walk_low n (Do i t) h = let below : depth t ≤ n = omega (arith, h) in each_append (λ u. depth u ≤ n) (walk_of t) (Do i t ∷ []) (walk_low n t below) (h, tt)
   walk_low n (Branch c t u) h =
       let left = le-max_left (depth t) (depth u) in
       let right = le-max_right (depth t) (depth u) in
       let first : depth t ≤ n = omega (arith, h, left) in
       let second : depth u ≤ n = omega (arith, h, right) in
-      each_append (walk_of t) (walk_of u ++ Branch c t u ∷ []) (walk_low n t first) (each_append (walk_of u) (Branch c t u ∷ []) (walk_low n u second) (h, tt))
-  walk_low n (Cases x k) h = let below : chain_depth k ≤ n = omega (arith, h) in each_append (walk_in k) (Cases x k ∷ []) (cases_low n k below) (h, tt)
+      each_append (λ u. depth u ≤ n) (walk_of t) (walk_of u ++ Branch c t u ∷ []) (walk_low n t first) (each_append (λ u. depth u ≤ n) (walk_of u) (Branch c t u ∷ []) (walk_low n u second) (h, tt))
+  walk_low n (Cases x k) h = let below : chain_depth k ≤ n = omega (arith, h) in each_append (λ u. depth u ≤ n) (walk_in k) (Cases x k ∷ []) (cases_low n k below) (h, tt)
 
   cases_low : (n : ℕ) (k : Chain) → chain_depth k ≤ n → Each (λ u. depth u ≤ n) (walk_in k)
   cases_low n End h = tt
@@ -108,7 +107,7 @@ mutual
       let right = le-max_right (depth t) (chain_depth k) in
       let first : depth t ≤ n = omega (arith, h, left) in
       let second : chain_depth k ≤ n = omega (arith, h, right) in
-      each_append (walk_of t) (walk_in k) (walk_low n t first) (cases_low n k second)
+      each_append (λ u. depth u ≤ n) (walk_of t) (walk_in k) (walk_low n t first) (cases_low n k second)
 
 -- what a walk ends before the tree itself
 abbrev front_of : Tree → List Tree
@@ -134,7 +133,7 @@ front_low Impossible = tt
 front_low (Do i t) = lower (depth t) (walk_of t) (walk_low (depth t) t (le_refl (depth t)))
 front_low (Branch c t u) =
     lower (max (depth t) (depth u)) (walk_of t ++ walk_of u)
-    (each_append (walk_of t) (walk_of u) (walk_low (max (depth t) (depth u)) t (le-max_left (depth t) (depth u))) (walk_low (max (depth t) (depth u)) u (le-max_right (depth t) (depth u))))
+    (each_append (λ v. depth v ≤ max (depth t) (depth u)) (walk_of t) (walk_of u) (walk_low (max (depth t) (depth u)) t (le-max_left (depth t) (depth u))) (walk_low (max (depth t) (depth u)) u (le-max_right (depth t) (depth u))))
 front_low (Cases x k) = lower (chain_depth k) (walk_in k) (cases_low (chain_depth k) k (le_refl (chain_depth k)))
 
 other_tree : (t u : Tree) → depth u < depth t → (b : Bool) → same_tree t u ≡ b → b ≡ false
@@ -155,9 +154,10 @@ to_unfold nodes n [] (t ∷ ts) e f = absurd (omega (arith, e))
 to_unfold nodes n (x ∷ xs) [] e f = absurd (omega (arith, e))
 to_unfold nodes n (x ∷ xs) (t ∷ ts) e f =
     let same : length xs ≡ length ts = omega (arith, e) in
-    let first : 0 + n ≡ n = omega arith in
-    (subst (λ m. Unfolds nodes m t) first (f 0 t refl),
-    to_unfold nodes (n + 1) xs ts same (λ k u h. let next : suc k + n ≡ k + (n + 1) = omega arith in subst (λ m. Unfolds nodes m u) next (f (suc k) u h)))
+    let first : 0 + n ≡ n = omega arith in (
+      subst (λ m. Unfolds nodes m t) first (f 0 t refl),
+      to_unfold nodes (n + 1) xs ts same (λ k u h. let next : suc k + n ≡ k + (n + 1) = omega arith in subst (λ m. Unfolds nodes m u) next (f (suc k) u h)),
+    )
 
 from_unfold : (nodes : List Node) (n : ℕ) (xs : List Node) (ts : List Tree) → UnfoldTo nodes n xs ts → (length xs ≡ length ts) × ((k : ℕ) (t : Tree) → slice_get ts k ≡ Some t → Unfolds nodes (k + n) t)
 from_unfold nodes n [] [] h = (refl, λ k t e. absurd (none-some t e))
@@ -174,9 +174,10 @@ from_unfold nodes n (x ∷ xs) (t ∷ ts) h =
 to_behind : (n : ℕ) (xs : List Node) → ((k : ℕ) (x : Node) → slice_get xs k ≡ Some x → Each (λ c. (1 ≤ c) × (c < k + n)) (children_of x)) → AreBehindChildren n xs
 to_behind n [] f = tt
 to_behind n (x ∷ xs) f =
-    let first : 0 + n ≡ n = omega arith in
-    (subst (λ m. Each (λ c. (1 ≤ c) × (c < m)) (children_of x)) first (f 0 x refl),
-    to_behind (n + 1) xs (λ k y h. let next : suc k + n ≡ k + (n + 1) = omega arith in subst (λ m. Each (λ c. (1 ≤ c) × (c < m)) (children_of y)) next (f (suc k) y h)))
+    let first : 0 + n ≡ n = omega arith in (
+      subst (λ m. Each (λ c. (1 ≤ c) × (c < m)) (children_of x)) first (f 0 x refl),
+      to_behind (n + 1) xs (λ k y h. let next : suc k + n ≡ k + (n + 1) = omega arith in subst (λ m. Each (λ c. (1 ≤ c) × (c < m)) (children_of y)) next (f (suc k) y h)),
+    )
 
 module _ (nodes : List Node) (ts : List Tree) (l : Lists nodes ts) where
   nodes_apart : (i j : ℕ) (x : Node) → slice_get nodes i ≡ Some x → slice_get nodes j ≡ Some x → i ≡ j
@@ -199,21 +200,21 @@ shared_is t =
     let number : (shared_in [] t).1 ≡ length nodes = p.1 ∙ ap suc (l.apart p.0 (length last.0) t p.2 there) ∙ sym (longer last.0 t) ∙ sym (ap length last.1) ∙ sym l.counted in
     record {
       distinct = to_distinct nodes (nodes_apart nodes (first_ends t) l);
-      order = to_unfold nodes 1 nodes (first_ends t) l.counted (λ k u e. let at : suc k ≡ k + 1 = omega arith in subst (λ m. Unfolds nodes m u) at (l.each k u e));
+      order = to_unfold nodes 1 nodes (first_ends t) l.counted (λ k u e. let spot : suc k ≡ k + 1 = omega arith in subst (λ m. Unfolds nodes m u) spot (l.each k u e));
       whole = subst (λ n. Unfolds nodes n t) number r.unfolds;
     }
 
 pub shared_behind : (t : Tree) → AreBehindChildren 1 (shared_in [] t).0
 shared_behind t =
     to_behind 1 (shared_in [] t).0
-    (λ k x e. let at : suc k ≡ k + 1 = omega arith in subst (λ m. Each (λ c. (1 ≤ c) × (c < m)) (children_of x)) at ((share_right t).built.behind k x e))
+    (λ k x e. let spot : suc k ≡ k + 1 = omega arith in subst (λ m. Each (λ c. (1 ≤ c) × (c < m)) (children_of x)) spot ((share_right t).built.behind k x e))
 
 lists_of : (t : Tree) (nodes : List Node) → IsShared t nodes → Lists nodes (first_ends t)
 lists_of t nodes s =
     let r = from_unfold nodes 1 nodes (first_ends t) s.order in
     record {
       counted = r.0;
-      each = λ k u e. let at : k + 1 ≡ suc k = omega arith in subst (λ m. Unfolds nodes m u) at (r.1 k u e);
+      each = λ k u e. let spot : k + 1 ≡ suc k = omega arith in subst (λ m. Unfolds nodes m u) spot (r.1 k u e);
       apart = (share_right t).built.lists.apart;
     }
 

@@ -1,9 +1,7 @@
 -- What nodes unfold to.
-use Rattle.std.proofs.Common.{◌≡◌, ◌≤◌, ◌<◌, ℕ, zero, suc, List, [], ◌∷◌, ◌++◌, map, length, slice_get, Option, Some, None, refl, sym, ap, ◌∙◌, subst, arith}
+use Rattle.std.proofs.Common.{◌≡◌, ◌≤◌, ◌<◌, ℕ, zero, suc, List, [], ◌∷◌, ◌++◌, map, length, Some, refl, sym, ap, ◌∙◌, subst, arith}
 use Rattle.std.proofs.lemmas.Option.{none-some, same_Some, slice_get_within}
 use Rattle.pks_terms.specs.Sets.{Each}
-use Rattle.pks_terms.specs.Syntax.{Term, Literal}
-use Rattle.pks_terms.specs.Actions.{Instance}
 use Rattle.pks_terms.specs.Trees.{Tree, Goal, Impossible, Do, Branch, Cases, Chain, End, More, root_kind}
 use Rattle.pks_terms.specs.Nodes.{Node, GoalNode, ImpossibleNode, DoNode, BranchNode, CasesNode, at_number, Unfolds, UnfoldEach, children_of}
 use Rattle.pks_dag.proofs.Listing.{get_kept}
@@ -57,7 +55,7 @@ fits_kept nodes more x (Cases y k) f = (f.0, f.1, each_kept nodes more f.0 k f.2
 
 -- ---- a number unfolds to one tree
 
-node_kind : Node → ℕ
+abbrev node_kind : Node → ℕ
 node_kind GoalNode = 0
 node_kind ImpossibleNode = 1
 node_kind (DoNode i next) = 2
@@ -90,10 +88,10 @@ mutual
   same_trees nodes n (Branch c t t') (Branch d u u') p q =
       let e : BranchNode c p.0 p.1 ≡ BranchNode d q.0 q.1 = same_Some (BranchNode c p.0 p.1) (BranchNode d q.0 q.1) (sym p.2 ∙ q.2) in
       let test : c ≡ d = cc in
-      let yes : p.0 ≡ q.0 = cc in
-      let no : p.1 ≡ q.1 = cc in
-      let first = same_trees nodes q.0 t u (subst (λ m. Unfolds nodes m t) yes p.3) q.3 in
-      let second = same_trees nodes q.1 t' u' (subst (λ m. Unfolds nodes m t') no p.4) q.4 in
+      let taken : p.0 ≡ q.0 = cc in
+      let other : p.1 ≡ q.1 = cc in
+      let first = same_trees nodes q.0 t u (subst (λ m. Unfolds nodes m t) taken p.3) q.3 in
+      let second = same_trees nodes q.1 t' u' (subst (λ m. Unfolds nodes m t') other p.4) q.4 in
       λ h. Branch (test h) (first h) (second h)
   same_trees nodes n (Cases x k) (Cases y m) p q =
       let e : CasesNode x p.0 ≡ CasesNode y q.0 = same_Some (CasesNode x p.0) (CasesNode y q.0) (sym p.1 ∙ q.1) in
@@ -128,7 +126,7 @@ mutual
   same_chains nodes cases (More e t k) End p q = let h : (e, p.0) ∷ p.1 ≡ [] = sym p.2 ∙ q in cc
   same_chains nodes cases (More e t k) (More d u m) p q =
       let h : (e, p.0) ∷ p.1 ≡ (d, q.0) ∷ q.1 = sym p.2 ∙ q.2 in
-      let one : (e, p.0) ≡ (d, q.0) = cc in
+      let one : ◌≡◌ {A = ℕ × ℕ} (e, p.0) (d, q.0) = cc in
       let others : p.1 ≡ q.1 = cc in
       let tree = same_trees nodes q.0 t u (subst (λ n. Unfolds nodes n t) (ap (λ (l : ℕ × ℕ). l.1) one) p.3) q.3 in
       let rest = same_chains nodes q.1 k m (subst (λ l. UnfoldEach nodes l k) others p.4) q.4 in

@@ -1,14 +1,14 @@
 -- When two nodes are equal.
-use Rattle.std.specs.Prelude.{◌≡◌, ℕ, Bool, true, false, ◌&&◌, ◌==◌, List, refl}
+use Rattle.std.specs.Prelude.{◌≡◌, ℕ, Bool, true, false, ◌&&◌, ◌==◌, refl}
 use Rattle.std.specs.Bool.{Decides}
-use Rattle.std.specs.Ordering.{is_eq, on}
+use Rattle.std.specs.Ordering.{is_eq}
 use Rattle.std.specs.Cmp.{IsEquivalence, IsTotalOrder, decided, Equal-is}
 use Rattle.std.specs.Cmp.Lexicographic.{pointwise, pointwise_decides}
-use Rattle.std.specs.FinMap.{IsAntisymmetric, nat_cmp-IsAntisymmetric, slice_cmp-IsAntisymmetric}
-use Rattle.std.proofs.Common.{sym, ap, ◌∙◌, subst, true≢false, Equal, nat_cmp, eqb-true}
+use Rattle.std.specs.FinMap.{nat_cmp-IsAntisymmetric, slice_cmp-IsAntisymmetric}
+use Rattle.std.proofs.Common.{sym, ap, subst, true≢false, nat_cmp, eqb-true}
 use Rattle.std.proofs.lemmas.Bool.Decides.{Decides-eqb}
 use Rattle.std.proofs.lemmas.Bool.{and_parts, and_from}
-use Rattle.std.proofs.lemmas.Cmp.{nat_cmp_total, on_total, then_total, lists_total, tied_itself, on_equiv}
+use Rattle.std.proofs.lemmas.Cmp.{nat_cmp_total, on_total, then_total, lists_total, tied_itself}
 use Rattle.pks_terms.specs.Orders.{term_cmp, term_eq, conj_cmp}
 use Rattle.pks_terms.specs.Totality.{inner_cmp_total, term_cmp_total, conj_cmp_total}
 use Rattle.pks_terms.specs.Actions.{Instance}
@@ -37,9 +37,10 @@ same_step i j e =
     λ k. record { action = nat_cmp-IsAntisymmetric i.action j.action p.0 k; arguments = slice_cmp-IsAntisymmetric (form_cmp_tells nat_cmp-IsAntisymmetric) i.arguments j.arguments p.1 k }
 
 same_link_decides : (a b : ℕ × ℕ) → Decides (same_link a b) (a ≡ b)
-same_link_decides a b =
-    (λ e. let p = and_parts (a.0 == b.0) (a.1 == b.1) e in λ k. (eqb-true a.0 b.0 p.0 k, eqb-true a.1 b.1 p.1 k),
-    λ e. and_from (a.0 == b.0) (a.1 == b.1) ((Decides-eqb a.0 b.0).1 (ap (λ (c : ℕ × ℕ). c.0) e)) ((Decides-eqb a.1 b.1).1 (ap (λ (c : ℕ × ℕ). c.1) e)))
+same_link_decides a b = (
+  λ e. let p = and_parts (a.0 == b.0) (a.1 == b.1) e in λ k. (eqb-true a.0 b.0 p.0 k, eqb-true a.1 b.1 p.1 k),
+  λ e. and_from (a.0 == b.0) (a.1 == b.1) ((Decides-eqb a.0 b.0).1 (ap (λ (c : ℕ × ℕ). c.0) e)) ((Decides-eqb a.1 b.1).1 (ap (λ (c : ℕ × ℕ). c.1) e)),
+)
 
 pub same_node_is : (x y : Node) → same_node x y ≡ true → x ≡ y
 same_node_is GoalNode GoalNode e = refl

@@ -15,7 +15,7 @@ abbrev pub node_of : declared.Node → Node
 node_of declared_is.Goal = GoalNode
 node_of declared_is.Impossible = ImpossibleNode
 node_of (declared_is.Act i next) = DoNode (instance_of i) next
-node_of (declared_is.Branch c yes no) = BranchNode (conj_of c) yes no
+node_of (declared_is.Branch c m n) = BranchNode (conj_of c) m n
 node_of (declared_is.Cases x cases) = CasesNode (term_of x) (map link_of cases)
 
 -- the nodes of a list

@@ -23,7 +23,7 @@ abbrev mutual
   shared_in nodes Goal = noted nodes GoalNode
   shared_in nodes Impossible = noted nodes ImpossibleNode
   shared_in nodes (Do i t) = let next = shared_in nodes t in noted next.0 (DoNode i next.1)
-  shared_in nodes (Branch c t u) = let yes = shared_in nodes t in let no = shared_in yes.0 u in noted no.0 (BranchNode c yes.1 no.1)
+  shared_in nodes (Branch c t u) = let left = shared_in nodes t in let right = shared_in left.0 u in noted right.0 (BranchNode c left.1 right.1)
   shared_in nodes (Cases x k) = let rest = shared_cases nodes k in noted rest.0 (CasesNode x rest.1)
 
   -- the nodes with those of cases, and the objects with the numbers of their trees

@@ -27,5 +27,5 @@ abbrev pub node_written : Node → HashWrites
 node_written GoalNode = u8 0
 node_written ImpossibleNode = u8 1
 node_written (DoNode i next) = u8 i.action ++ (inners_written i.arguments ++ u64 next)
-node_written (BranchNode c yes no) = literals_written c ++ (u64 yes ++ u64 no)
+node_written (BranchNode c m n) = literals_written c ++ (u64 m ++ u64 n)
 node_written (CasesNode x cases) = terms_written (x ∷ []) ++ links_written cases

@@ -50,12 +50,19 @@ pub enum Node {
 /// Nodes with numbers from 1 on.
 pub type Dag = Sequence<Node>;
 
-/// By action and arguments.
+/// By action, then by arguments from the left.
+fn step_cmp(i: &Instance, j: &Instance) -> Ordering
+    ensures { result ≡ instance_cmp (instance_of i.now) (instance_of j.now) }
+{
+    let arguments = front(&i.args, i.n).cmp(&front(&j.args, j.n));
+    i.act.0.cmp(&j.act.0).then(arguments)
+}
+
+/// The same action with the same arguments.
 fn same_step(i: &Instance, j: &Instance) -> bool
     ensures { result ≡ is_eq (instance_cmp (instance_of i.now) (instance_of j.now)) }
 {
-    let arguments = front(&i.args, i.n).cmp(&front(&j.args, j.n));
-    i.act.0.cmp(&j.act.0).then(arguments) == Ordering::Equal
+    step_cmp(i, j) == Ordering::Equal
 }
 
 /// Object by object and number by number.

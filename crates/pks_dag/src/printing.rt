@@ -101,11 +101,7 @@ fn last_depth(alloc: Global, nodes: &[Node]) -> Result<u64, AllocError>
 
 /// The objects and the numbers of their nodes.
 #[tactic(auto, using(crate::proofs::Appended::appended), unfolding(pks_terms::specs::Printed::term_text))]
-fn print_links(
-    p: &Problem<'_>,
-    cases: &[CaseNode],
-    out: &mut Vec<u8>,
-) -> Result<(), AllocError>
+fn print_links(p: &Problem<'_>, cases: &[CaseNode], out: &mut Vec<u8>) -> Result<(), AllocError>
     ensures { OnOk result (out.new.items ≡ out.old.items ++ links_text (names_of p.now) (map link_of cases.now)) }
 {
     match cases {
@@ -156,10 +152,10 @@ fn print_node(p: &Problem<'_>, node: &Node, out: &mut Vec<u8>) -> Result<(), All
 fn print_nodes(p: &Problem<'_>, nodes: &[Node], out: &mut Vec<u8>) -> Result<(), AllocError>
     ensures { OnOk result (out.new.items ≡ out.old.items ++ node_lines (names_of p.now) 1 (nodes_of nodes.now)) }
 {
-    for (i, node) in nodes.iter().enumerate() {
+    for i in 0..nodes.len() {
         put_number(out, i as u64 + 1)?;
         put(out, b" ")?;
-        print_node(p, node, out)?;
+        print_node(p, &nodes[i], out)?;
         put(out, b"\n")?;
     }
     Ok(())

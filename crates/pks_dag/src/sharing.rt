@@ -18,16 +18,13 @@ fn note(nodes: &mut IndexSet<Node>, node: Node) -> Result<u64, AllocError>
     ensures number { IfOk result (λ n. n ≡ number_in (nodes_of nodes.old.keys) (node_of node)) }
 {
     let (place, _) = nodes.insert_full(node)?;
+    let _count = nodes.len();
     Ok(place as u64 + 1)
 }
 
 /// The number of the node that unfolds to the tree. Nodes that aren't there go last, children before their parent.
 #[cycle(shares)]
-fn share_tree(
-    alloc: Global,
-    nodes: &mut IndexSet<Node>,
-    t: &Tree,
-) -> Result<u64, AllocError>
+fn share_tree(alloc: Global, nodes: &mut IndexSet<Node>, t: &Tree) -> Result<u64, AllocError>
     ensures nodes { OnOk result (nodes_of nodes.new.keys ≡ (shared_in (nodes_of nodes.old.keys) (tree_of t.now)).0) }
     ensures number { IfOk result (λ n. n ≡ (shared_in (nodes_of nodes.old.keys) (tree_of t.now)).1) }
 {
@@ -86,6 +83,7 @@ fn share_cases(
 }
 
 /// The nodes in the order in which they came.
+#[tactic(auto, using(crate::proofs::Appended::appended))]
 fn in_order(alloc: Global, nodes: IndexSet<Node>) -> Result<Dag, AllocError>
     ensures { IfOk result (λ d. d ≡ nodes.keys) }
 {
@@ -100,6 +98,7 @@ fn in_order(alloc: Global, nodes: IndexSet<Node>) -> Result<Dag, AllocError>
 /// before their parent first ends it. No two nodes are equal, each child has a smaller number than its parent, and the last
 /// node unfolds to the tree; there is one such list (`docs/RULES.md`, "Trees, and which is best"). Equal subtrees are found by hashing.
 /// The one error is want of memory.
+#[tactic(auto, using(crate::proofs::SharedOnce::shared_is, crate::proofs::SharedOnce::shared_one, crate::proofs::SharedOnce::shared_behind))]
 pub fn share(alloc: Global, t: &Tree) -> Result<Dag, AllocError>
     ensures shared { IfOk result (λ d. IsShared (tree_of t.now) (nodes_of d)) }
     ensures only { IfOk result (λ d. (nodes : List Value) → IsShared (tree_of t.now) nodes → nodes ≡ nodes_of d) }

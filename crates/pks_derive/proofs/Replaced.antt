@@ -1,5 +1,5 @@
 -- Progression with other adds that have a case.
-use Rattle.std.proofs.Common.{◌≡◌, Bool, true, cond, is_some, List, [], ◌∷◌, map, filter, Option, refl, sym, ap, ◌∙◌, subst}
+use Rattle.std.proofs.Common.{◌≡◌, Bool, true, false, cond, is_some, List, [], ◌∷◌, map, filter, Option, refl, sym, ap, ◌∙◌, subst}
 use Rattle.std.specs.List.{list_any}
 use Rattle.pks_terms.specs.Sets.{Each, IsIn, first_of_each}
 use Rattle.pks_terms.specs.Syntax.{Literal}
@@ -61,7 +61,7 @@ cases_of : (sc : Schema) (adds : List Add) → Each (HasCase sc adds) (derived_a
 unfolding derived_adds
 cases_of sc adds =
     each_first (HasCase sc adds) same_add [] (filter (λ a. is_some (case_of sc a)) (shapes sc))
-    (each_filter {P = HasCase sc adds} (λ a. is_some (case_of sc a)) (shapes sc) (λ a i e. ap is_some (case_same sc adds a) ∙ e))
+    (each_filter (HasCase sc adds) (λ a. is_some (case_of sc a)) (shapes sc) (λ a i e. ap is_some (case_same sc adds a) ∙ e))
 
 pub derived_justified : (sc : Schema) → AreJustified (with_derived_adds sc)
 derived_justified sc = cases_of sc (derived_adds sc)

@@ -1,6 +1,6 @@
 //! What is derived of each action, as text.
 
-ghost use Rattle.std.specs.Prelude.{◌≡◌, ◌≤◌, ◌+◌, ◌++◌, ℕ, List, [], map, length, unwrap_or, slice_get, IfOk, OnOk};
+ghost use Rattle.std.specs.Prelude.{◌≡◌, ◌≤◌, ◌+◌, ◌++◌, ℕ, List, [], map, length, option_map, unwrap_or, slice_get, IfOk, OnOk};
 ghost use Rattle.std.specs.List.{flat_map};
 ghost use Rattle.pks_terms.specs.Branching.{numbered};
 ghost use Rattle.pks_terms.specs.Printed.{line, add_text};
@@ -16,19 +16,9 @@ use crate::offering::derived_adds;
 use crate::text::print_add;
 use pks_plan::action_name;
 use pks_terms::ids::ActId;
-use pks_terms::problem::Problem;
+use pks_terms::problem::{NameList, Problem};
 use pks_terms::schema::{Adds, Schema};
 use std::alloc::{AllocError, Global};
-
-/// The names of the parameters of the action with this number, or none where it isn't declared.
-fn parameter_names<'p, 's>(p: &'p Problem<'s>, action: u8) -> &'p [&'s str]
-    ensures { map (λ t. t.now) result.now ≡ unwrap_or (slice_get (parameters_of p.now) action) [] }
-{
-    match p.names.params.as_slice().get(usize::from(action)) {
-        Some(names) => names.as_slice(),
-        None => &[],
-    }
-}
 
 /// A line for each add.
 #[tactic(auto, using(crate::proofs::Appended::appended))]
@@ -51,6 +41,29 @@ fn print_adds(
     Ok(())
 }
 
+/// The names of the parameters of the action with this number, where it is declared.
+fn parameter_list<'p, 's>(p: &'p Problem<'s>, action: u8) -> Option<&'p NameList<'s>>
+    ensures { option_map (λ names. map (λ t. t.now) names.now) result ≡ slice_get (parameters_of p.now) action }
+{
+    p.names.params.as_slice().get(usize::from(action))
+}
+
+/// A line for each add of the action with this number.
+fn print_derived(
+    p: &Problem<'_>,
+    action: u8,
+    adds: &[Adds],
+    out: &mut Vec<u8>,
+) -> Result<(), AllocError>
+    ensures { OnOk result (out.new.items ≡ out.old.items ++ flat_map (λ x. line (add_text (names_of p.now) (unwrap_or (slice_get (parameters_of p.now) action) []) x)) (adds_of adds.now)) }
+{
+    match parameter_list(p, action) {
+        Some(names) => print_adds(p, names.as_slice(), adds, out)?,
+        None => print_adds(p, &[], adds, out)?,
+    }
+    Ok(())
+}
+
 /// An action's name, and what is derived of it.
 #[tactic(auto, using(crate::proofs::Appended::appended))]
 fn print_action(
@@ -67,7 +80,7 @@ fn print_action(
     put(out, b"action ")?;
     put(out, action_name(p, ActId(action)).as_bytes())?;
     put(out, b"\n")?;
-    print_adds(p, parameter_names(p, action), adds.as_slice(), out)?;
+    print_derived(p, action, adds.as_slice(), out)?;
     Ok(())
 }
 

@@ -17,6 +17,7 @@ use pks_terms::schema::{Adds, Effect, Schema, Sense};
 use std::alloc::{AllocError, Global};
 
 /// The add goes last where it has a case and isn't equal to one that is there.
+#[tactic(auto, using(crate::proofs::Offered::shown))]
 fn offer(schema: &Schema<'_>, add: &Adds, to: &mut Vec<Adds>) -> Result<(), AllocError>
     requires { AssignToPlaces schema.now.effects }
     ensures { OnOk result (adds_of to.new.items ≡ with_offered (schema_of schema.now) (adds_of to.old.items) (add_of add.now)) }
@@ -30,13 +31,13 @@ fn offer(schema: &Schema<'_>, add: &Adds, to: &mut Vec<Adds>) -> Result<(), Allo
 /// So does one that was made.
 fn offer_made(
     schema: &Schema<'_>,
-    made: Option<Adds>,
+    shape: Option<Adds>,
     to: &mut Vec<Adds>,
 ) -> Result<(), AllocError>
     requires { AssignToPlaces schema.now.effects }
-    ensures { OnOk result (adds_of to.new.items ≡ fold (with_offered (schema_of schema.now)) (adds_of to.old.items) (made made)) }
+    ensures { OnOk result (adds_of to.new.items ≡ fold (with_offered (schema_of schema.now)) (adds_of to.old.items) (made shape)) }
 {
-    match made {
+    match shape {
         Some(add) => offer(schema, &add, to)?,
         None => {}
     }
@@ -44,6 +45,7 @@ fn offer_made(
 }
 
 /// So do the shapes of an effect.
+#[tactic(auto, using(crate::proofs::Offered::both_offered))]
 fn offer_effect(schema: &Schema<'_>, e: &Effect, to: &mut Vec<Adds>) -> Result<(), AllocError>
     requires places { AssignToPlaces schema.now.effects }
     requires place { AssignsToPlace e.now.target }
@@ -56,6 +58,7 @@ fn offer_effect(schema: &Schema<'_>, e: &Effect, to: &mut Vec<Adds>) -> Result<(
 }
 
 /// So do those of effects.
+#[tactic(auto, using(crate::proofs::Offered::both_offered))]
 fn offer_effects(
     schema: &Schema<'_>,
     effects: &[Effect],
@@ -76,11 +79,8 @@ fn offer_effects(
 }
 
 /// So do those of senses.
-fn offer_senses(
-    schema: &Schema<'_>,
-    senses: &[Sense],
-    to: &mut Vec<Adds>,
-) -> Result<(), AllocError>
+#[tactic(auto, using(crate::proofs::Offered::both_offered))]
+fn offer_senses(schema: &Schema<'_>, senses: &[Sense], to: &mut Vec<Adds>) -> Result<(), AllocError>
     requires { AssignToPlaces schema.now.effects }
     ensures { OnOk result (adds_of to.new.items ≡ fold (with_offered (schema_of schema.now)) (adds_of to.old.items) (flat_map sense_shapes (senses_of senses.now))) }
 {
@@ -95,10 +95,7 @@ fn offer_senses(
 }
 
 /// The shapes of an action that have a case, none equal to one before it.
-pub(crate) fn derived_adds(
-    alloc: Global,
-    schema: &Schema<'_>,
-) -> Result<Vec<Adds>, AllocError>
+pub(crate) fn derived_adds(alloc: Global, schema: &Schema<'_>) -> Result<Vec<Adds>, AllocError>
     requires { AssignToPlaces schema.now.effects }
     ensures { IfOk result (λ v. adds_of v.items ≡ derived_adds (schema_of schema.now)) }
 {

@@ -71,6 +71,7 @@ fn each_known(literals: &[Literal; 4]) -> [Query; 4]
 }
 
 /// What an effect makes so is known where its conditions are.
+#[tactic(auto, using(crate::proofs::Fronts::front_known))]
 pub(crate) fn made_known(e: &Effect) -> Option<Adds>
     requires { AssignsToPlace e.now.target }
     ensures { made result ≡ made_known (effect_of e.now) }
@@ -92,17 +93,19 @@ fn alone(a: &PredAtom) -> Conj
 fn known_by_condition(c: &Conj, a: &PredAtom) -> Option<Adds>
     ensures { made result ≡ known_by_condition (conj_of c.now) (atom_of a.now) }
 {
-    if front(&c.literals, c.n).is_empty() {
-        return None;
+    match front(&c.literals, c.n) {
+        [] => None,
+        [_first, _others @ ..] => {
+            let formula = alone(a);
+            let given = [
+                Query::Kw(*c),
+                Query::Kw(formula),
+                Query::default(),
+                Query::default(),
+            ];
+            Some(added(2, given, Item::Kw(formula)))
+        }
     }
-    let formula = alone(a);
-    let given = [
-        Query::Kw(*c),
-        Query::Kw(formula),
-        Query::default(),
-        Query::default(),
-    ];
-    Some(added(2, given, Item::Kw(formula)))
 }
 
 /// So it is of a conditional effect that sets or unsets.
@@ -152,10 +155,9 @@ pub(crate) fn without_condition(e: &Effect) -> Option<Adds>
     requires { AssignsToPlace e.now.target }
     ensures { made result ≡ without_condition (effect_of e.now).condition (effect_of e.now).target }
 {
-    if front(&e.cond.literals, e.cond.n).is_empty() {
-        done_plainly(&e.target)
-    } else {
-        None
+    match front(&e.cond.literals, e.cond.n) {
+        [] => done_plainly(&e.target),
+        [_first, _others @ ..] => None,
     }
 }
 

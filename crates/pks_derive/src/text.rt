@@ -1,6 +1,7 @@
 //! The text of adds.
 
 ghost use Rattle.std.specs.Prelude.{◌≡◌, ◌++◌, ◌∷◌, [], map, take, option_map, OnOk};
+ghost use Rattle.std.specs.List.{join_with_byte};
 ghost use Rattle.std.specs.Option.{option_map_or};
 ghost use Rattle.pks_terms.specs.Printed.{name_in, relation_text, listed, lifted_term_text, lifted_literal_text, lifted_pattern_text, plain_text, query_text, item_text, given_text, add_text};
 ghost use Rattle.pks_terms.specs.Views.{names_of, term_of, relation_of, sides_of, literal_of, pattern_of, query_of, item_of, add_of};
@@ -56,11 +57,7 @@ fn parameter_name<'s>(parameters: &[&'s str], parameter: u8) -> &'s str
 
 /// A parameter's name behind a question mark.
 #[tactic(auto, using(crate::proofs::Appended::appended))]
-fn print_parameter(
-    parameters: &[&str],
-    parameter: u8,
-    out: &mut Vec<u8>,
-) -> Result<(), AllocError>
+fn print_parameter(parameters: &[&str], parameter: u8, out: &mut Vec<u8>) -> Result<(), AllocError>
     ensures { OnOk result (out.new.items ≡ out.old.items ++ (63 ∷ name_in (map (λ t. t.now) parameters.now) parameter)) }
 {
     put(out, b"?")?;
@@ -322,8 +319,25 @@ fn print_item(
     Ok(())
 }
 
+/// Queries with one blank between.
+#[tactic(auto, using(crate::proofs::Appended::appended, crate::proofs::Appended::with_blanks))]
+fn print_queries(
+    p: &Problem<'_>,
+    parameters: &[&str],
+    queries: &[Query],
+    out: &mut Vec<u8>,
+) -> Result<(), AllocError>
+    ensures { OnOk result (out.new.items ≡ out.old.items ++ join_with_byte 32 (map (query_text (names_of p.now) (map (λ t. t.now) parameters.now)) (map query_of queries.now))) }
+{
+    if let Some((first, rest)) = queries.split_first() {
+        first.print(p, parameters, out)?;
+        print_parts(p, parameters, rest, out)?;
+    }
+    Ok(())
+}
+
 /// An add, as a file has it.
-#[tactic(auto, using(crate::proofs::Appended::appended, crate::proofs::Appended::with_blanks), unfolding(pks_terms::specs::Printed::add_text))]
+#[tactic(auto, unfolding(pks_terms::specs::Printed::add_text))]
 pub(crate) fn print_add(
     p: &Problem<'_>,
     parameters: &[&str],
@@ -332,12 +346,12 @@ pub(crate) fn print_add(
 ) -> Result<(), AllocError>
     ensures { OnOk result (out.new.items ≡ out.old.items ++ add_text (names_of p.now) (map (λ t. t.now) parameters.now) (add_of add.now)) }
 {
-    match front(&add.given, add.n) {
+    let given = front(&add.given, add.n);
+    match given {
         [] => print_item(p, parameters, &add.item, out)?,
-        [first, others @ ..] => {
+        [_first, _others @ ..] => {
             put(out, b"(if (")?;
-            first.print(p, parameters, out)?;
-            print_parts(p, parameters, others, out)?;
+            print_queries(p, parameters, given, out)?;
             put(out, b") ")?;
             print_item(p, parameters, &add.item, out)?;
             put(out, b")")?;
