@@ -2,6 +2,7 @@
 ; Shows: cases, one child for each value that is left. The depth doesn't grow with the illnesses.
 ; ./pks plan 4
 ; ./pks exec 4
+; ./pks shared 4
 (pks 1)
 (domain
   (types illness colour)

@@ -8,13 +8,20 @@ use Rattle.pks_terms.specs.Trees.{Tree, depth, IsPlan, IsBest}
 use Rattle.pks_terms.specs.Knowledge.{run_of}
 use Rattle.pks_terms.specs.Jobs.{Job, Check, Plan, Exec, Bench, Recall, Agent, Explain, Derive, Shared, depth_for}
 use Rattle.pks_terms.specs.Printed.{Text, Refusal, name_in, none_text, refusal_text, tree_text, run_text, bench_text}
+use Rattle.pks_terms.specs.Settling.{State}
+use Rattle.pks_terms.specs.Recalled.{IsRecalled, recall_text}
+use Rattle.pks_terms.specs.Nodes.{Node, IsShared, shared_text}
 use Rattle.pks_terms.specs.Answers.{Stated, NoWorld, BadWorld, GivenWorld, File, refusal, unjustified, RefusesAdd, RefusesStart, RefusesWorld, RefusesRun, RefusesFor, NoneApplies, RefusesFile, IsDone}
+use Rattle.pks_laws.proofs.Accepting as accepting
 use Rattle.pks_laws.proofs.BestTree.{best_one}
+use Rattle.pks_laws.proofs.Validity.{valid_typed}
+use Rattle.pks_recall.proofs.LeafLaws.{one_recalled, recalled_true}
+use Rattle.pks_dag.proofs.SharedOnce.{shared_one}
 use Rattle.pks_exec.proofs.Breaking.{one_broken}
 use Rattle.pks_words.specs.JobViews.{IsBuilt}
 use Rattle.pks_answer.specs.declared.reply.Verdict.{Verdict}
 use Rattle.pks_answer.specs.declared.reply.Verdict.TheVariants.{Done, NoPlan, Refused}
-use Rattle.pks_answer.specs.Goodness.{HasGoodPlan}
+use Rattle.pks_answer.specs.Goodness.{HasGoodPlan, TellsTruth}
 use Rattle.pks_answer.specs.Replies.{IsReply}
 use Rattle.pks_answer.proofs.Lasting.{best_is_good}
 
@@ -100,6 +107,13 @@ none_or_done (Shared m) f n x y e a b = none_or_tree f.problem n m b.0 e a b.1
 same_world : (w v : World) → GivenWorld w ≡ GivenWorld v → w ≡ v
 same_world w v e = cc
 
+-- leaves of equal plans, and their nodes
+one_recall : (f : File) (t u : Tree) (xs ys : List State) → t ≡ u → IsRecalled f.problem t xs → IsRecalled f.problem u ys → xs ≡ ys
+one_recall f t u xs ys e a b = one_recalled f.problem u xs ys (subst (λ v. IsRecalled f.problem v xs) e a) b
+
+one_nodes : (t u : Tree) (xs ys : List Node) → t ≡ u → IsShared t xs → IsShared u ys → xs ≡ ys
+one_nodes t u xs ys e a b = shared_one u xs ys (subst (λ v. IsShared v xs) e a) b
+
 -- a mode that the program doesn't have
 unbuilt : {A : Type 0} → false ≡ true → A
 unbuilt e = absurd cc
@@ -112,11 +126,17 @@ one_done (Exec n) f i x y built a b =
     let worlds : a.2.0 ≡ b.2.0 = same_world a.2.0 b.2.0 (sym a.2.1 ∙ b.2.1) in
     a.2.2 ∙ (λ i. run_text f.names (run_of f.problem (trees i) (worlds i))) ∙ sym b.2.2
 one_done (Bench n) f i x y built a b = a.2 ∙ ap (bench_text n) (one_tree f.problem 2 a.0 b.0 a.1 b.1) ∙ sym b.2
-one_done (Recall n) f i x y built a b = unbuilt built
+one_done (Recall n) f i x y built a b =
+    let trees : a.0 ≡ b.0 = one_tree f.problem n a.0 b.0 a.1 b.1 in
+    let leaves : a.2.0 ≡ b.2.0 = one_recall f a.0 b.0 a.2.0 b.2.0 trees a.2.1 b.2.1 in
+    a.2.2 ∙ (λ i. tree_text f.names (trees i) ++ recall_text f.names (leaves i)) ∙ sym b.2.2
 one_done (Agent n) f i x y built a b = unbuilt built
 one_done (Explain n) f i x y built a b = unbuilt built
-one_done Derive f i x y built a b = unbuilt built
-one_done (Shared n) f i x y built a b = unbuilt built
+one_done Derive f i x y built a b = a ∙ sym b
+one_done (Shared n) f i x y built a b =
+    let trees : a.0 ≡ b.0 = one_tree f.problem n a.0 b.0 a.1 b.1 in
+    let nodes : a.2.0 ≡ b.2.0 = one_nodes a.0 b.0 a.2.0 b.2.0 trees a.2.1 b.2.1 in
+    a.2.2 ∙ ap (shared_text f.names) nodes ∙ sym b.2.2
 
 pub one_reply : (j : Job) (f : File) (v u : Verdict) (x y : Text) → IsBuilt j → IsReply j f v x → IsReply j f u y → (v ≡ u) × (x ≡ y)
 one_reply j f Refused Refused x y built a b = (refl, a.2 ∙ ap refusal_text (one_refusal j f a.0 b.0 a.1 b.1) ∙ sym b.2)
@@ -140,3 +160,25 @@ all_justified j f none = no_first (unjustified f.problem) (λ x rest e. none (ad
 
 pub good_reply : (j : Job) (f : File) (x : Text) → IsValid f.problem → IsReply j f Done x → HasGoodPlan j f
 good_reply j f x valid a = λ n t depth best. best_is_good f.problem n t (all_justified j f a.0) valid best
+
+-- ---- what is told of the past
+
+pub told_reply : (j : Job) (f : File) (x : Text) → IsValid f.problem → IsReply j f Done x → TellsTruth j f x
+told_reply Check f x valid a = tt
+told_reply (Plan n) f x valid a = tt
+told_reply (Exec n) f x valid a = tt
+told_reply (Bench n) f x valid a = tt
+told_reply (Recall n) f x valid a =
+    let done = a.1 [] in
+    record {
+      plan = done.0;
+      leaves = done.2.0;
+      best = done.1;
+      recalled = done.2.1;
+      says = done.2.2;
+      so = recalled_true f.problem done.0 done.2.0 (accepting.all_justified f.problem (all_justified (Recall n) f a.0)) (valid_typed f.problem valid) done.1.0.0 done.2.1;
+    }
+told_reply (Agent n) f x valid a = tt
+told_reply (Explain n) f x valid a = tt
+told_reply Derive f x valid a = tt
+told_reply (Shared n) f x valid a = tt

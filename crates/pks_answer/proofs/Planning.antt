@@ -4,8 +4,9 @@ use Rattle.pks_terms.specs.Worlds as worlds
 use Rattle.pks_terms.specs.Problems.{Problem}
 use Rattle.pks_terms.specs.Trees.{Tree, depth, start_state, IsBest}
 use Rattle.pks_terms.specs.Knowledge.{run_of}
-use Rattle.pks_terms.specs.Jobs.{Plan, Exec, Bench}
+use Rattle.pks_terms.specs.Jobs.{Plan, Exec, Bench, Recall, Derive, Shared}
 use Rattle.pks_terms.specs.Printed.{Text, nodes_of, tree_text, run_text, bench_text}
+use Rattle.pks_terms.specs.Shapes.{derive_text}
 use Rattle.pks_terms.specs.Answers.{Stated, GivenWorld, File, RefusesFile, NoneApplies}
 use Rattle.pks_world.specs.Contents.{world_of}
 use Rattle.pks_world.specs.declared.worlds.World.{World}
@@ -13,7 +14,7 @@ use Rattle.pks_bench.proofs.Sizes.{plans_small}
 use Rattle.pks_answer.specs.declared.reply.Verdict.{Verdict}
 use Rattle.pks_answer.specs.declared.reply.Verdict.TheVariants.{Done, NoPlan, Refused}
 use Rattle.pks_answer.specs.Accepting.{IsRunIn}
-use Rattle.pks_answer.specs.Replies.{Plans, IsReply}
+use Rattle.pks_answer.specs.Replies.{Plans, Says, SaysRecalled, SaysShared, IsReply}
 
 pub best_depth : (p : Problem) (n : ℕ) (t : Tree) → IsBest p n (Some t) → depth t ≤ n
 best_depth p n t best = best.0.1
@@ -33,17 +34,30 @@ run_is_given n s (Some v) run = refl
 pub run_is_stated : (n : ℕ) (s : Stated) (w : Option World) (v : World) → w ≡ Some v → IsRunIn (Exec n) s w → s ≡ GivenWorld (world_of v)
 run_is_stated n s w v e run = subst (λ (o : Option World). IsRunIn (Exec n) s o) e run
 
-pub plan_reply : (n : ℕ) (f : File) (v : Verdict) (x : Text) → NoneApplies (RefusesFile (Plan n) f) → Plans f.problem n (tree_text f.names) v x → IsReply (Plan n) f v x
+pub plan_reply : (n : ℕ) (f : File) (v : Verdict) (x : Text) → NoneApplies (RefusesFile (Plan n) f) → Plans f.problem n (Says (tree_text f.names)) v x → IsReply (Plan n) f v x
 plan_reply n f Done x none plans = (none, λ input. plans)
 plan_reply n f NoPlan x none plans = (none, (n, refl, plans.0, plans.1))
 plan_reply n f Refused x none plans = absurd plans
 
-pub run_reply : (n : ℕ) (f : File) (w : worlds.World) (v : Verdict) (x : Text) → f.world ≡ GivenWorld w → NoneApplies (RefusesFile (Exec n) f) → Plans f.problem n (λ t. run_text f.names (run_of f.problem t w)) v x → IsReply (Exec n) f v x
+pub run_reply : (n : ℕ) (f : File) (w : worlds.World) (v : Verdict) (x : Text) → f.world ≡ GivenWorld w → NoneApplies (RefusesFile (Exec n) f) → Plans f.problem n (Says (λ t. run_text f.names (run_of f.problem t w))) v x → IsReply (Exec n) f v x
 run_reply n f w Done x given none plans = (none, λ input. (plans.0, plans.1, (w, given, plans.2)))
 run_reply n f w NoPlan x given none plans = (none, (n, refl, plans.0, plans.1))
 run_reply n f w Refused x given none plans = absurd plans
 
-pub bench_reply : (n : ℕ) (f : File) (v : Verdict) (x : Text) → NoneApplies (RefusesFile (Bench n) f) → Plans f.problem 2 (bench_text n) v x → IsReply (Bench n) f v x
+pub bench_reply : (n : ℕ) (f : File) (v : Verdict) (x : Text) → NoneApplies (RefusesFile (Bench n) f) → Plans f.problem 2 (Says (bench_text n)) v x → IsReply (Bench n) f v x
 bench_reply n f Done x none plans = (none, λ input. plans)
 bench_reply n f NoPlan x none plans = (none, (2, refl, plans.0, plans.1))
 bench_reply n f Refused x none plans = absurd plans
+
+pub recall_reply : (n : ℕ) (f : File) (v : Verdict) (x : Text) → NoneApplies (RefusesFile (Recall n) f) → Plans f.problem n (SaysRecalled f.problem f.names) v x → IsReply (Recall n) f v x
+recall_reply n f Done x none plans = (none, λ input. plans)
+recall_reply n f NoPlan x none plans = (none, (n, refl, plans.0, plans.1))
+recall_reply n f Refused x none plans = absurd plans
+
+pub derive_reply : (f : File) (x : Text) → NoneApplies (RefusesFile Derive f) → x ≡ derive_text f.names f.parameters f.problem → IsReply Derive f Done x
+derive_reply f x none e = (none, λ input. e)
+
+pub shared_reply : (n : ℕ) (f : File) (v : Verdict) (x : Text) → NoneApplies (RefusesFile (Shared n) f) → Plans f.problem n (SaysShared f.names) v x → IsReply (Shared n) f v x
+shared_reply n f Done x none plans = (none, λ input. plans)
+shared_reply n f NoPlan x none plans = (none, (n, refl, plans.0, plans.1))
+shared_reply n f Refused x none plans = absurd plans

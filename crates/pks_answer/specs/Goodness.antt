@@ -1,13 +1,15 @@
 -- What is promised of a plan that is printed or run.
-use Rattle.std.specs.Prelude.{◌≡◌, ℕ, Some}
+use Rattle.std.specs.Prelude.{◌≡◌, ◌++◌, ℕ, List, Some}
 use Rattle.pks_terms.specs.Worlds.{World}
 use Rattle.pks_terms.specs.Problems.{Problem, IsCompatible}
 use Rattle.pks_terms.specs.Trees.{Tree, IsBest}
 use Rattle.pks_terms.specs.Knowledge.{Good}
-use Rattle.pks_terms.specs.Jobs.{Job, depth_for}
-use Rattle.pks_terms.specs.Printed.{Text}
+use Rattle.pks_terms.specs.Settling.{State}
+use Rattle.pks_terms.specs.Jobs.{Job, Recall, depth_for}
+use Rattle.pks_terms.specs.Printed.{Text, tree_text}
 use Rattle.pks_terms.specs.Answers.{File, IsDone}
 use Rattle.pks_terms.specs.Remembering.{RemembersPast}
+use Rattle.pks_terms.specs.Recalled.{IsRecalled, IsTruePast, recall_text}
 
 -- a plan that can be carried out wherever the file's items hold
 pub record IsGood (p : Problem) (t : Tree) : Type 0 where
@@ -20,7 +22,22 @@ pub record IsGood (p : Problem) (t : Tree) : Type 0 where
 abbrev pub HasGoodPlan : Job → File → Type 0
 HasGoodPlan j f = (n : ℕ) (t : Tree) → depth_for j ≡ Some n → IsBest f.problem n (Some t) → IsGood f.problem t
 
--- the text is that of the job that is done, and the plan that it is made of is good
+-- the text is the best plan with what its leaves recall of each moment, and that was so in every compatible world whose run comes to that leaf
+pub record TellsTruePast (n : ℕ) (f : File) (text : Text) : Type 0 where
+  pub plan : Tree
+  pub leaves : List State
+  pub best : IsBest f.problem n (Some plan)
+  pub recalled : IsRecalled f.problem plan leaves
+  pub says : text ≡ tree_text f.names plan ++ recall_text f.names leaves
+  pub so : IsTruePast f.problem plan leaves
+
+-- what a job tells of the past was so
+abbrev pub TellsTruth : Job → File → Text → Type 0
+TellsTruth (Recall n) f text = TellsTruePast n f text
+TellsTruth j f text = Unit {0}
+
+-- the text is that of the job that is done, the plan that it is made of is good, and what it tells of the past was so
 pub record PrintsGoodPlan (j : Job) (input : Text) (f : File) (text : Text) : Type 0 where
   pub done : IsDone j input f text
   pub good : HasGoodPlan j f
+  pub told : TellsTruth j f text

@@ -1,11 +1,14 @@
 -- What is replied to a job about a file that was read.
-use Rattle.std.specs.Prelude.{◌≡◌, ℕ, Some, None}
+use Rattle.std.specs.Prelude.{◌≡◌, ◌++◌, ℕ, List, Some, None}
 use Rattle.pks_terms.specs.Problems.{Problem}
 use Rattle.pks_terms.specs.Trees.{Tree, IsBest}
 use Rattle.pks_terms.specs.Jobs.{Job}
-use Rattle.pks_terms.specs.Printed.{Text, Refusal, none_text, refusal_text}
+use Rattle.pks_terms.specs.Printed.{Text, Names, Refusal, tree_text, none_text, refusal_text}
+use Rattle.pks_terms.specs.Settling.{State}
+use Rattle.pks_terms.specs.Recalled.{IsRecalled, recall_text}
+use Rattle.pks_terms.specs.Nodes.{Node, IsShared, shared_text}
 use Rattle.pks_terms.specs.Answers.{File, RefusesFile, NoneApplies, IsDone, IsUnplanned, text_for}
-use Rattle.pks_answer.specs.Goodness.{HasGoodPlan}
+use Rattle.pks_answer.specs.Goodness.{HasGoodPlan, TellsTruth}
 use Rattle.pks_answer.specs.declared.reply.Verdict.{Verdict}
 use Rattle.pks_answer.specs.declared.reply.Verdict.TheVariants.{Done, NoPlan, Refused}
 
@@ -13,11 +16,23 @@ use Rattle.pks_answer.specs.declared.reply.Verdict.TheVariants.{Done, NoPlan, Re
 abbrev pub IsAbout : Job → Text → Type 0
 IsAbout j text = text_for j text ≡ text
 
--- the best plan to the depth as a text, or that there is none
-abbrev pub Plans : Problem → ℕ → (Tree → Text) → Verdict → Text → Type 0
-Plans p n shown Done text = (t : Tree) × IsBest p n (Some t) × (text ≡ shown t)
-Plans p n shown NoPlan text = IsBest p n None × (text ≡ none_text n)
-Plans p n shown Refused text = ⊥
+-- a text that is made of the plan alone
+abbrev pub Says : (Tree → Text) → Text → Tree → Type 0
+Says shown text t = text ≡ shown t
+
+-- the plan, and what each of its leaves knows of every moment
+abbrev pub SaysRecalled : Problem → Names → Text → Tree → Type 0
+SaysRecalled p names text t = (xs : List State) × IsRecalled p t xs × (text ≡ tree_text names t ++ recall_text names xs)
+
+-- the plan with its equal parts once
+abbrev pub SaysShared : Names → Text → Tree → Type 0
+SaysShared names text t = (nodes : List Node) × IsShared t nodes × (text ≡ shared_text names nodes)
+
+-- the best plan to the depth, of which the text says this, or that there is none
+abbrev pub Plans : Problem → ℕ → (Text → Tree → Type 0) → Verdict → Text → Type 0
+Plans p n S Done text = (t : Tree) × IsBest p n (Some t) × S text t
+Plans p n S NoPlan text = IsBest p n None × (text ≡ none_text n)
+Plans p n S Refused text = ⊥
 
 -- verdict and text are the reply, whatever stands in the input behind the file
 abbrev pub IsReply : Job → File → Verdict → Text → Type 0
@@ -25,8 +40,9 @@ IsReply j f Refused text = (r : Refusal) × RefusesFile j f r × (text ≡ refus
 IsReply j f NoPlan text = NoneApplies (RefusesFile j f) × IsUnplanned j f text
 IsReply j f Done text = NoneApplies (RefusesFile j f) × ((input : Text) → IsDone j input f text)
 
--- verdict and text are the reply, no other is, and the plan of a job that is done is good
+-- verdict and text are the reply, no other is, and of a job that is done the plan is good and what is told of the past was so
 pub record RepliesTo (j : Job) (f : File) (v : Verdict) (text : Text) : Type 0 where
   pub reply : IsReply j f v text
   pub only : (other : Verdict) (t : Text) → IsReply j f other t → (other ≡ v) × (t ≡ text)
   pub good : v ≡ Done → HasGoodPlan j f
+  pub told : v ≡ Done → TellsTruth j f text

@@ -118,8 +118,9 @@ fn world_for(alloc: Global, job: Job, f: &InputFile<'_>) -> Result<Option<World>
     ensures refused { IfErr result (IfRefused f.now (RefusesFor (job_of job) (file_of f.now))) }
 {
     match job {
-        Job::Check => sound_world(alloc, f),
-        Job::Plan(_) => sound_world(alloc, f),
+        Job::Check | Job::Plan(_) | Job::Recall(_) | Job::Derive | Job::Shared(_) => {
+            sound_world(alloc, f)
+        }
         Job::Exec(_) => match run_world(alloc, f) {
             Ok(w) => Ok(Some(w)),
             Err(turned) => Err(turned),

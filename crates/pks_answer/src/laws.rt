@@ -4,7 +4,7 @@ ghost use Rattle.pks_terms.specs.Jobs.{Job};
 ghost use Rattle.pks_terms.specs.Valid.{IsValid};
 ghost use Rattle.pks_terms.specs.Answers.{File};
 ghost use Rattle.pks_words.specs.JobViews.{IsBuilt};
-ghost use Rattle.pks_answer.specs.Goodness.{HasGoodPlan};
+ghost use Rattle.pks_answer.specs.Goodness.{HasGoodPlan, TellsTruth};
 ghost use Rattle.pks_answer.specs.Replies.{IsReply};
 ghost use Rattle.pks_answer.specs.declared.reply.Verdict.{Verdict};
 
@@ -16,4 +16,9 @@ pub fn there_is_one_reply()
 /// Where a job is done about a file of a valid problem, the best plan to its depth is good in every compatible world.
 pub fn done_plans_are_good()
     ensures { (j : Job) (f : File) (text : List ℕ) → IsValid f.problem → IsReply j f Verdict.Done text → HasGoodPlan j f }
+{}
+
+/// Where what leaves recall is told about a file of a valid problem, it was so in every compatible world whose run comes to that leaf.
+pub fn what_is_told_was_so()
+    ensures { (j : Job) (f : File) (text : List ℕ) → IsValid f.problem → IsReply j f Verdict.Done text → TellsTruth j f text }
 {}

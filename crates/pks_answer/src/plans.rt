@@ -1,5 +1,7 @@
 // The jobs that plan.
-ghost use Rattle.std.specs.Prelude.{◌≡◌, ◌≤◌, IfOk};
+ghost use Rattle.std.specs.Prelude.{◌≡◌, ◌≤◌, [], IfOk};
+ghost use Rattle.pks_terms.specs.Answers.{unjustified};
+ghost use Rattle.pks_terms.specs.Trees.{IsPlan, depth};
 ghost use Rattle.pks_terms.specs.ValidProblems.{IsValidProblem};
 ghost use Rattle.pks_terms.specs.Views.{problem_of, names_of};
 ghost use Rattle.pks_terms.specs.Knowledge.{run_of};
@@ -8,13 +10,15 @@ ghost use Rattle.pks_world.specs.Contents.{world_of};
 ghost use Rattle.pks_normal.specs.Fives.{five_of};
 ghost use Rattle.pks_plan.specs.TreeViews.{tree_of};
 ghost use Rattle.pks_answer.specs.Accepting.{Begins};
-ghost use Rattle.pks_answer.specs.Replies.{Plans};
+ghost use Rattle.pks_answer.specs.Replies.{Plans, Says, SaysRecalled, SaysShared};
 
 use crate::reply::Verdict;
 use pks_bench::bench_line;
+use pks_dag::{print_dag, share};
 use pks_exec::{exec, print_run};
 use pks_plan::{Tree, print_tree};
 use pks_query::databases::Db;
+use pks_recall::recall;
 use pks_search::searching::best_from;
 use pks_terms::problem::Problem;
 use pks_world::World;
@@ -51,7 +55,7 @@ pub fn plan(
     requires valid { IsValidProblem p.now }
     requires depth { depth ≤ 16 }
     requires begins { Begins (problem_of p.now) (five_of first) }
-    ensures { IfOk result (λ a. Plans (problem_of p.now) depth (tree_text (names_of p.now)) a.0 a.1.items) }
+    ensures { IfOk result (λ a. Plans (problem_of p.now) depth (Says (tree_text (names_of p.now))) a.0 a.1.items) }
 {
     match best_from(alloc, p, first, depth)? {
         Some(tree) => Ok((Verdict::Done, print_tree(alloc, p, &tree)?)),
@@ -70,10 +74,69 @@ pub fn plan_and_run(
     requires valid { IsValidProblem p.now }
     requires depth { depth ≤ 16 }
     requires begins { Begins (problem_of p.now) (five_of first) }
-    ensures { IfOk result (λ a. Plans (problem_of p.now) depth (λ t. run_text (names_of p.now) (run_of (problem_of p.now) t (world_of w.now))) a.0 a.1.items) }
+    ensures { IfOk result (λ a. Plans (problem_of p.now) depth (Says (λ t. run_text (names_of p.now) (run_of (problem_of p.now) t (world_of w.now)))) a.0 a.1.items) }
 {
     match best_from(alloc, p, first, depth)? {
         Some(tree) => Ok((Verdict::Done, run_text(alloc, p, &tree, w)?)),
+        None => Ok((Verdict::NoPlan, none_text(alloc, depth)?)),
+    }
+}
+
+// The text of a plan, and of what each of its leaves knows.
+fn recalled_text(alloc: Global, p: &Problem<'_>, t: &Tree) -> Result<Vec<u8>, AllocError>
+    requires valid { IsValidProblem p.now }
+    requires justified { unjustified (problem_of p.now) ≡ [] }
+    requires derived { IsPlan (problem_of p.now) (tree_of t.now) }
+    requires depth { depth (tree_of t.now) ≤ 16 }
+    ensures { IfOk result (λ text. SaysRecalled (problem_of p.now) (names_of p.now) text.items (tree_of t.now)) }
+{
+    let mut text = print_tree(alloc, p, t)?;
+    let leaves = recall(alloc, p, t)?;
+    text.extend_from_slice(&leaves)?;
+    Ok(text)
+}
+
+// The best plan to the depth and what each of its leaves knows, or that there is no plan.
+pub fn plan_and_recall(
+    alloc: Global,
+    p: &Problem<'_>,
+    first: Db,
+    depth: u8,
+) -> Result<(Verdict, Vec<u8>), AllocError>
+    requires valid { IsValidProblem p.now }
+    requires depth { depth ≤ 16 }
+    requires begins { Begins (problem_of p.now) (five_of first) }
+    ensures { IfOk result (λ a. Plans (problem_of p.now) depth (SaysRecalled (problem_of p.now) (names_of p.now)) a.0 a.1.items) }
+{
+    match best_from(alloc, p, first, depth)? {
+        Some(tree) => Ok((Verdict::Done, recalled_text(alloc, p, &tree)?)),
+        None => Ok((Verdict::NoPlan, none_text(alloc, depth)?)),
+    }
+}
+
+// The nodes of a plan, as text.
+fn nodes_text(alloc: Global, p: &Problem<'_>, t: &Tree) -> Result<Vec<u8>, AllocError>
+    ensures { IfOk result (λ text. SaysShared (names_of p.now) text.items (tree_of t.now)) }
+{
+    let nodes = share(alloc, t)?;
+    let text = print_dag(alloc, p, &nodes)?;
+    Ok(text)
+}
+
+// The best plan to the depth with its equal parts once, or that there is none.
+pub fn plan_shared(
+    alloc: Global,
+    p: &Problem<'_>,
+    first: Db,
+    depth: u8,
+) -> Result<(Verdict, Vec<u8>), AllocError>
+    requires valid { IsValidProblem p.now }
+    requires depth { depth ≤ 16 }
+    requires begins { Begins (problem_of p.now) (five_of first) }
+    ensures { IfOk result (λ a. Plans (problem_of p.now) depth (SaysShared (names_of p.now)) a.0 a.1.items) }
+{
+    match best_from(alloc, p, first, depth)? {
+        Some(tree) => Ok((Verdict::Done, nodes_text(alloc, p, &tree)?)),
         None => Ok((Verdict::NoPlan, none_text(alloc, depth)?)),
     }
 }
@@ -89,7 +152,7 @@ pub fn bench(
     requires valid { IsValidProblem p.now }
     requires file { file.now ≡ generated n }
     requires begins { Begins (problem_of p.now) (five_of first) }
-    ensures { IfOk result (λ a. Plans (problem_of p.now) 2 (bench_text n) a.0 a.1.items) }
+    ensures { IfOk result (λ a. Plans (problem_of p.now) 2 (Says (bench_text n)) a.0 a.1.items) }
 {
     match best_from(alloc, p, first, BENCH_DEPTH)? {
         Some(tree) => Ok((Verdict::Done, bench_line(alloc, n, file, &tree)?)),

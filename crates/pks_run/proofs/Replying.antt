@@ -127,7 +127,7 @@ module _ (j : Job) (built : IsBuilt j) (input text : Text) (about : text_for j i
       good = λ done.
           let is : v ≡ verdict_is.Done = done_only v done in
           let reply : IsReply j f verdict_is.Done t = subst (λ u. IsReply j f u t) is replies.reply in
-          (f, subst (λ (i : Text). IsRead i f) (sym about) is_read, record { done = reply.1 input; good = replies.good is });
+          (f, subst (λ (i : Text). IsRead i f) (sym about) is_read, record { done = reply.1 input; good = replies.good is; told = replies.told is });
     }
 
   -- about a text that reads as this fault alone

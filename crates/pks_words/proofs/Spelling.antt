@@ -1,9 +1,9 @@
 -- Modes with numbers: which are the words of no job, and that none are the words of two.
-use Rattle.std.proofs.Common.{◌≡◌, ◌∙◌, ◌≤◌, ◌<◌, ◌∷◌, [], ℕ, true, false, nat_eq, length, List, Option, Some, None, IfSome, codes, decimal, if◌then◌else◌, refl, sym, ap, ap₂, subst, arith}
+use Rattle.std.proofs.Common.{◌≡◌, ◌∙◌, ◌<◌, ◌∷◌, [], ℕ, true, false, nat_eq, length, List, Option, Some, None, IfSome, codes, decimal, if◌then◌else◌, refl, sym, ap, ap₂, subst, arith}
 use Rattle.std.proofs.lemmas.Fmt.{decimal_injective}
 use Rattle.pks_terms.specs.Printed.{Text}
 use Rattle.pks_terms.specs.Jobs.{Mode, Checking, Planning, Running, Benching, Recalling, Leading, Explaining, Deriving, Sharing, Job, Check, Plan, Exec, Bench, Recall, Agent, Explain, Derive, Shared, mode_of, mode_word, number_of_job, number_words, IsInBounds}
-use Rattle.pks_words.specs.JobViews.{AreWordsOf, AreNoWords}
+use Rattle.pks_words.specs.JobViews.{AreSpelled, AreWordsOf, AreNoWords}
 
 -- the letter with which the word begins
 abbrev letter : Text → ℕ
@@ -12,48 +12,33 @@ letter (b ∷ word) = b
 
 -- ---- no words of a job
 
-pub plan_or_exec : codes "plan" ≡ codes "exec" → ⊥
-plan_or_exec e = let bad : ◌≡◌ {A = ℕ} 112 101 = ap letter e in omega (arith, bad)
-
-pub plan_or_bench : codes "plan" ≡ codes "bench" → ⊥
-plan_or_bench e = let bad : ◌≡◌ {A = ℕ} 112 98 = ap letter e in omega (arith, bad)
-
-pub exec_or_bench : codes "exec" ≡ codes "bench" → ⊥
-exec_or_bench e = let bad : ◌≡◌ {A = ℕ} 101 98 = ap letter e in omega (arith, bad)
-
 -- a mode that isn't built
 unbuilt : {A : Type 0} → false ≡ true → A
 unbuilt e = absurd cc
 
--- the same mode, and the same number
-same_words : (mode other : Text) (n m : ℕ) → n < 256 → m ≤ 64 → mode ∷ decimal n ∷ [] ≡ other ∷ decimal m ∷ [] → (mode ≡ other) × (m ≡ n)
-same_words mode other n m small most e =
-    let word : mode ≡ other = cc in
-    let number : decimal m ≡ decimal n = cc in
-    (word, decimal_injective m n (omega arith) (omega arith) number)
-
-pub no_job : (mode : Text) (n : ℕ) → n < 256 → (mode ≡ codes "plan" → n ≤ 16 → ⊥) → (mode ≡ codes "exec" → n ≤ 16 → ⊥) → (mode ≡ codes "bench" → 1 ≤ n → n ≤ 64 → ⊥) → AreNoWords (mode ∷ decimal n ∷ [])
-no_job mode n small plan exec bench Check w = let e = w.spelled in cc
-no_job mode n small plan exec bench (Plan m) w = let b = w.bounds in let same = same_words mode _ n m small (omega (arith, b)) w.spelled in plan same.0 (subst (λ k. k ≤ 16) same.1 b)
-no_job mode n small plan exec bench (Exec m) w = let b = w.bounds in let same = same_words mode _ n m small (omega (arith, b)) w.spelled in exec same.0 (subst (λ k. k ≤ 16) same.1 b)
-no_job mode n small plan exec bench (Bench m) w = let b = w.bounds in let same = same_words mode _ n m small b.1 w.spelled in bench same.0 (subst (λ k. 1 ≤ k) same.1 b.0) (subst (λ k. k ≤ 64) same.1 b.1)
-no_job mode n small plan exec bench (Recall m) w = unbuilt w.built
-no_job mode n small plan exec bench (Agent m) w = unbuilt w.built
-no_job mode n small plan exec bench (Explain m) w = unbuilt w.built
-no_job mode n small plan exec bench Derive w = unbuilt w.built
-no_job mode n small plan exec bench (Shared m) w = unbuilt w.built
+-- a mode with a number that is none of these
+pub no_mode : (mode : Text) (n : ℕ) → (mode ≡ codes "plan" → ⊥) → (mode ≡ codes "exec" → ⊥) → (mode ≡ codes "bench" → ⊥) → (mode ≡ codes "recall" → ⊥) → (mode ≡ codes "shared" → ⊥) → AreNoWords (mode ∷ decimal n ∷ [])
+no_mode mode n plan exec bench recall shared Check w = let e = w.spelled in cc
+no_mode mode n plan exec bench recall shared (Plan m) w = let e = w.spelled in plan cc
+no_mode mode n plan exec bench recall shared (Exec m) w = let e = w.spelled in exec cc
+no_mode mode n plan exec bench recall shared (Bench m) w = let e = w.spelled in bench cc
+no_mode mode n plan exec bench recall shared (Recall m) w = let e = w.spelled in recall cc
+no_mode mode n plan exec bench recall shared (Agent m) w = unbuilt w.built
+no_mode mode n plan exec bench recall shared (Explain m) w = unbuilt w.built
+no_mode mode n plan exec bench recall shared Derive w = let e = w.spelled in cc
+no_mode mode n plan exec bench recall shared (Shared m) w = let e = w.spelled in shared cc
 
 -- a mode without a number
-pub no_bare_job : (mode : Text) → (mode ≡ codes "check" → ⊥) → AreNoWords (mode ∷ [])
-no_bare_job mode check Check w = let e = w.spelled in let word : mode ≡ codes "check" = cc in check word
-no_bare_job mode check (Plan m) w = let e = w.spelled in cc
-no_bare_job mode check (Exec m) w = let e = w.spelled in cc
-no_bare_job mode check (Bench m) w = let e = w.spelled in cc
-no_bare_job mode check (Recall m) w = unbuilt w.built
-no_bare_job mode check (Agent m) w = unbuilt w.built
-no_bare_job mode check (Explain m) w = unbuilt w.built
-no_bare_job mode check Derive w = unbuilt w.built
-no_bare_job mode check (Shared m) w = unbuilt w.built
+pub no_bare_job : (mode : Text) → (mode ≡ codes "check" → ⊥) → (mode ≡ codes "derive" → ⊥) → AreNoWords (mode ∷ [])
+no_bare_job mode check derive Check w = let e = w.spelled in check cc
+no_bare_job mode check derive (Plan m) w = let e = w.spelled in cc
+no_bare_job mode check derive (Exec m) w = let e = w.spelled in cc
+no_bare_job mode check derive (Bench m) w = let e = w.spelled in cc
+no_bare_job mode check derive (Recall m) w = let e = w.spelled in cc
+no_bare_job mode check derive (Agent m) w = unbuilt w.built
+no_bare_job mode check derive (Explain m) w = unbuilt w.built
+no_bare_job mode check derive Derive w = let e = w.spelled in derive cc
+no_bare_job mode check derive (Shared m) w = let e = w.spelled in cc
 
 -- ---- words of one job alone
 
@@ -78,17 +63,17 @@ one_mode : (m n : Mode) → mode_word m ≡ mode_word n → m ≡ n
 one_mode m n e = sym (tells_mode m) ∙ (ap mode_told e ∙ tells_mode n)
 
 -- a number within its bounds has one spelling
-one_number : (o u : Option ℕ) → IfSome o (λ n. n ≤ 64) → IfSome u (λ n. n ≤ 64) → number_words o ≡ number_words u → o ≡ u
+one_number : (o u : Option ℕ) → IfSome o (λ n. n < 256) → IfSome u (λ n. n < 256) → number_words o ≡ number_words u → o ≡ u
 one_number None None a b e = refl
 one_number None (Some n) a b e = absurd cc
 one_number (Some n) None a b e = absurd cc
 one_number (Some n) (Some m) a b e = let same : decimal n ≡ decimal m = cc in ap Some (decimal_injective n m (omega (arith, a)) (omega (arith, b)) same)
 
-within : (j : Job) → IsInBounds j → IfSome (number_of_job j) (λ n. n ≤ 64)
+within : (j : Job) → IsInBounds j → IfSome (number_of_job j) (λ n. n < 256)
 within Check b = tt
 within (Plan n) b = omega (arith, b)
 within (Exec n) b = omega (arith, b)
-within (Bench n) b = b.1
+within (Bench n) b = omega (arith, b)
 within (Recall n) b = omega (arith, b)
 within (Agent n) b = omega (arith, b)
 within (Explain n) b = omega (arith, b)
@@ -132,3 +117,16 @@ one_spelled words j k a b =
     let mode : mode_of k ≡ mode_of j = one_mode (mode_of k) (mode_of j) same.0 in
     let number : number_of_job k ≡ number_of_job j = one_number (number_of_job k) (number_of_job j) (within k b.bounds) (within j a.bounds) same.1 in
     sym (is_with k) ∙ (ap₂ job_with mode number ∙ is_with j)
+
+-- ---- a number that isn't within its bounds
+
+-- spelled alike, a job is another whose number is within its bounds
+pub spelled_one : (words : List Text) (j k : Job) → AreSpelled words j → IfSome (number_of_job j) (λ n. n < 256) → AreWordsOf words k → k ≡ j
+spelled_one words j k a small b =
+    let same = same_first _ _ _ _ (sym b.spelled ∙ a.spelled) in
+    let mode : mode_of k ≡ mode_of j = one_mode (mode_of k) (mode_of j) same.0 in
+    let number : number_of_job k ≡ number_of_job j = one_number (number_of_job k) (number_of_job j) (within k b.bounds) small same.1 in
+    sym (is_with k) ∙ (ap₂ job_with mode number ∙ is_with j)
+
+pub out_of_bounds : (words : List Text) (j : Job) → AreSpelled words j → IfSome (number_of_job j) (λ n. n < 256) → (IsInBounds j → ⊥) → AreNoWords words
+out_of_bounds words j a small bad k w = bad (subst IsInBounds (spelled_one words j k a small w) w.bounds)

@@ -1,13 +1,13 @@
 -- The program's modes and its jobs, as the definitions have them.
 use Rattle.std.specs.Prelude.{◌≡◌, true, List, [], ◌∷◌}
 use Rattle.pks_terms.specs.Printed.{Text}
-use Rattle.pks_terms.specs.Jobs.{Mode, Checking, Planning, Running, Benching, Job, Check, Plan, Exec, Bench, mode_of, has_mode, IsCommand, Asks, AskForNone}
+use Rattle.pks_terms.specs.Jobs.{Mode, Checking, Planning, Running, Benching, Recalling, Deriving, Sharing, Job, Check, Plan, Exec, Bench, Recall, Derive, Shared, mode_of, mode_word, number_of_job, number_words, has_mode, IsCommand, Asks, AskForNone}
 use Rattle.pks_words.specs.declared.job.Job.{Job as DJob}
 use Rattle.pks_words.specs.declared.job.Job.TheVariants as job_is
 
 -- the modes that the program has
 abbrev pub modes : List Mode
-modes = Checking ∷ Planning ∷ Running ∷ Benching ∷ []
+modes = Checking ∷ Planning ∷ Running ∷ Benching ∷ Recalling ∷ Deriving ∷ Sharing ∷ []
 
 -- the job's mode is one of them
 abbrev pub IsBuilt : Job → Type 0
@@ -19,6 +19,14 @@ job_of job_is.Check = Check
 job_of (job_is.Plan n) = Plan n
 job_of (job_is.Exec n) = Exec n
 job_of (job_is.Bench n) = Bench n
+job_of (job_is.Recall n) = Recall n
+job_of job_is.Derive = Derive
+job_of (job_is.Shared n) = Shared n
+
+-- the positional words are its mode and its number, whatever the bounds of the number
+pub record AreSpelled (words : List Text) (job : Job) : Type 0 where
+  pub built : IsBuilt job
+  pub spelled : words ≡ mode_word (mode_of job) ∷ number_words (number_of_job job)
 
 -- the positional words are those of the job
 abbrev pub AreWordsOf : List Text → Job → Type 0

@@ -11,4 +11,10 @@ pub enum Job {
     Exec(u8),
     /// Plan over the generated file with this many objects, from 1 to 64.
     Bench(u8),
+    /// Plan to this depth, from 0 to 16, and tell what each leaf of the plan knows of every moment.
+    Recall(u8),
+    /// Read a file, and tell the knowledge effects that follow from the text of its actions.
+    Derive,
+    /// Plan to this depth, from 0 to 16, and list the plan with its equal parts once.
+    Shared(u8),
 }

@@ -28,7 +28,13 @@ fn jobs_of_words(rt: HostRuntime) -> Result<(), Fail> {
         ("", Err(WordsEnd::Refused)),
         ("--help", Err(WordsEnd::Refused)),
         ("plan --version", Err(WordsEnd::Refused)),
-        ("recall 3", Err(WordsEnd::Refused)),
+        ("recall 3", Ok(Job::Recall(3))),
+        ("recall", Err(WordsEnd::Refused)),
+        ("derive", Ok(Job::Derive)),
+        ("derive 3", Err(WordsEnd::Refused)),
+        ("shared 16", Ok(Job::Shared(16))),
+        ("shared 17", Err(WordsEnd::Refused)),
+        ("explain 3", Err(WordsEnd::Refused)),
     ];
     for (text, wanted) in rows {
         assert!(rt; job(alloc, text)? == wanted, "{text}");

@@ -10,7 +10,7 @@ use Rattle.pks_answer.specs.declared.reply.Verdict.TheVariants.{Done}
 use Rattle.pks_answer.specs.Accepting.{IsRunIn}
 use Rattle.pks_answer.specs.Replies.{IsReply}
 use Rattle.pks_answer.proofs.Accepting.{none_applies}
-use Rattle.pks_answer.proofs.Planning.{run_is_given, run_is_stated, plan_reply, run_reply, bench_reply}
+use Rattle.pks_answer.proofs.Planning.{run_is_given, run_is_stated, plan_reply, run_reply, bench_reply, recall_reply, derive_reply, shared_reply}
 use Rattle.pks_answer.proofs.reply.concluded.Goals as goal
 
 pub returns-in_ok-accepted_text-in-Check : goal.returns-in_ok-accepted_text-in-Check
@@ -48,3 +48,24 @@ returns-in-Bench c =
     IfOk-weaker c.bench.result _ _ (λ a plans.
     subst (λ (j : Job). NoneApplies (RefusesFile (job_of j) f) → IsReply (job_of j) f a.0 a.1.items) (sym c.in-Bench.is) (λ none. bench_reply c.in-Bench.n f a.0 a.1.items none plans)
     (none_applies (job_of c.args.job) f (five_of c.args.accepted.first) c.args.accepted.world c.requires.accepts)) c.bench.ensures
+
+pub returns-in-Recall : goal.returns-in-Recall
+returns-in-Recall c =
+    let f = file_of c.args.f.now in
+    IfOk-weaker c.plan_and_recall.result _ _ (λ a plans.
+    subst (λ (j : Job). NoneApplies (RefusesFile (job_of j) f) → IsReply (job_of j) f a.0 a.1.items) (sym c.in-Recall.is) (λ none. recall_reply c.in-Recall.depth f a.0 a.1.items none plans)
+    (none_applies (job_of c.args.job) f (five_of c.args.accepted.first) c.args.accepted.world c.requires.accepts)) c.plan_and_recall.ensures
+
+pub returns-in_ok-derive-in-Derive : goal.returns-in_ok-derive-in-Derive
+returns-in_ok-derive-in-Derive c =
+    let f = file_of c.args.f.now in
+    let text = c.in_ok-derive-in-Derive.field-0.items in
+    subst (λ (j : Job). NoneApplies (RefusesFile (job_of j) f) → IsReply (job_of j) f Done text) (sym c.in-Derive.is) (λ none. derive_reply f text none c.in_ok-derive-in-Derive.ensures)
+    (none_applies (job_of c.args.job) f (five_of c.args.accepted.first) c.args.accepted.world c.requires.accepts)
+
+pub returns-in-Shared : goal.returns-in-Shared
+returns-in-Shared c =
+    let f = file_of c.args.f.now in
+    IfOk-weaker c.plan_shared.result _ _ (λ a plans.
+    subst (λ (j : Job). NoneApplies (RefusesFile (job_of j) f) → IsReply (job_of j) f a.0 a.1.items) (sym c.in-Shared.is) (λ none. shared_reply c.in-Shared.depth f a.0 a.1.items none plans)
+    (none_applies (job_of c.args.job) f (five_of c.args.accepted.first) c.args.accepted.world c.requires.accepts)) c.plan_shared.ensures

@@ -3,7 +3,7 @@ use Rattle.pks_words.specs.JobViews.{job_of}
 use Rattle.pks_words.proofs.Built.{are_built}
 use Rattle.pks_file.specs.Views.{file_of}
 use Rattle.pks_answer.specs.Replies.{IsReply}
-use Rattle.pks_answer.proofs.OneReply.{one_reply, good_reply}
+use Rattle.pks_answer.proofs.OneReply.{one_reply, good_reply, told_reply}
 use Rattle.pks_answer.proofs.reply.reply_about.Goals as goal
 
 pub returns : goal.returns
@@ -15,4 +15,5 @@ returns c =
       reply = c.in_ok-answer.ensures;
       only = λ v other is. one_reply j f v c.in_ok-answer.answer.0 other text (are_built c.args.job) is c.in_ok-answer.ensures;
       good = λ done. good_reply j f text c.requires.whole.valid.says (subst (λ v. IsReply j f v text) done c.in_ok-answer.ensures);
+      told = λ done. told_reply j f text c.requires.whole.valid.says (subst (λ v. IsReply j f v text) done c.in_ok-answer.ensures);
     }

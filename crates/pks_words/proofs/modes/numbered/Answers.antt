@@ -1,13 +1,9 @@
-use Rattle.std.proofs.Common.{◌∙◌, sym, arith}
-use Rattle.pks_words.proofs.Spelling.{plan_or_exec, plan_or_bench, exec_or_bench, no_job}
+use Rattle.std.proofs.Common.{◌∙◌, ◌<◌, ◌∷◌, [], decimal, IfSome, sym, subst, true≢false, arith}
+use Rattle.pks_words.specs.JobViews.{job_of}
+use Rattle.pks_words.proofs.Spelling.{out_of_bounds}
 use Rattle.pks_words.proofs.modes.numbered.Goals as goal
 
-pub returns-in_default-clause-none : goal.returns-in_default-clause-none
-returns-in_default-clause-none c =
-    no_job c.args.mode.now c.args.number (omega (arith, c.ranges.number.fits)) (λ plan few. absurd (omega (arith, few, c.if-number-le16.false)))
-    (λ exec few. plan_or_exec (sym c.in-plan.is ∙ exec)) (λ bench some few. plan_or_bench (sym c.in-plan.is ∙ bench))
-
-pub returns-in_default-2-clause-none : goal.returns-in_default-2-clause-none
-returns-in_default-2-clause-none c =
-    no_job c.args.mode.now c.args.number (omega (arith, c.ranges.number.fits)) (λ plan few. plan_or_exec (sym plan ∙ c.in-exec.is))
-    (λ exec few. absurd (omega (arith, few, c.if-number-le16-2.false))) (λ bench some few. exec_or_bench (sym c.in-exec.is ∙ bench))
+pub returns-else-is_in_bounds-clause-none : goal.returns-else-is_in_bounds-clause-none
+returns-else-is_in_bounds-clause-none c =
+    out_of_bounds (c.args.mode.now ∷ decimal c.args.number ∷ []) (job_of c.in_ok-job.job) c.in_ok-job.ensures.found (subst (λ o. IfSome o (λ n. n < 256)) (sym c.in_ok-job.ensures.number) (omega (arith, c.ranges.number.fits)))
+    (λ within. true≢false (sym (c.is_in_bounds.ensures.1 within) ∙ c.if-is_in_bounds.false))

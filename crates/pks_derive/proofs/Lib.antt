@@ -1,0 +1,5 @@
+pub mod AddTexts
+pub mod Appended
+pub mod Fronts
+pub mod Offered
+pub mod Replaced

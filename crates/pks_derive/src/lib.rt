@@ -1,0 +1,13 @@
+//! Knowledge effects that follow from the text of actions.
+#![tactic(auto)]
+
+mod actions;
+mod bytes;
+pub mod laws;
+mod offering;
+mod parts;
+mod same;
+mod shapes;
+mod text;
+
+pub use actions::derive;

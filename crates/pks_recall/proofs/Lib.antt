@@ -1,0 +1,6 @@
+pub mod Lengths
+pub mod Readiness
+pub mod Stepping
+pub mod Gathering
+pub mod Telling
+pub mod LeafLaws

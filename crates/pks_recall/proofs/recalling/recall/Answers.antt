@@ -1,0 +1,7 @@
+use Rattle.pks_plan.specs.TreeViews.{tree_of}
+use Rattle.pks_recall.specs.Walking.{state_of}
+use Rattle.pks_recall.proofs.Readiness.{start_ready}
+use Rattle.pks_recall.proofs.recalling.recall.Goals as goal
+
+pub add_leaves-requires : goal.add_leaves-requires
+add_leaves-requires c = start_ready c.args.p.now (state_of c.in_ok-x.x) (tree_of c.args.t.now) c.requires.valid c.requires.justified c.requires.derived c.requires.depth c.in_ok-x.ensures

@@ -1,0 +1,11 @@
+//! What each leaf of a plan knows of every moment, and its text.
+#![tactic(auto)]
+
+mod bytes;
+mod leaves;
+mod print;
+pub mod laws;
+pub mod recalling;
+mod states;
+
+pub use recalling::recall;
