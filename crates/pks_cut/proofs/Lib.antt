@@ -1,0 +1,9 @@
+pub mod Alike
+pub mod Objects
+pub mod Given
+pub mod Small
+pub mod Ends
+pub mod Total
+pub mod Sequence
+pub mod Trees
+pub mod Cut

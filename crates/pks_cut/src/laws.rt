@@ -1,0 +1,23 @@
+//! The laws, each the clause of a function that does nothing.
+
+ghost use Rattle.std.specs.Prelude.{◌↔◌, ℕ, Option};
+ghost use Rattle.pks_terms.specs.Sets.{Each};
+ghost use Rattle.pks_terms.specs.Databases.{Five};
+ghost use Rattle.pks_terms.specs.Actions.{Instance};
+ghost use Rattle.pks_terms.specs.Moments.{AreMomentsOf};
+ghost use Rattle.pks_terms.specs.Problems.{Problem};
+ghost use Rattle.pks_terms.specs.Settling.{History, At};
+ghost use Rattle.pks_terms.specs.Trees.{Tree, Derives, IsBestAt};
+ghost use Rattle.pks_terms.specs.Valid.{IsValid};
+ghost use Rattle.pks_terms.specs.Versions.{IsNow};
+ghost use Rattle.pks_cut.specs.Transparent.{IsTransparent, AreSetsAlong, with_first};
+
+/// Where the first step of a history hides nothing and each aim is one of the last moment, the history without its first moment has the same derived trees.
+pub fn transparent_step_keeps_trees()
+    ensures { (p : Problem) (before : Five) (i : Instance) (h : History) (t : Tree) → IsValid p → Each IsNow p.goal → AreMomentsOf p (with_first before i h) → AreSetsAlong (with_first before i h) → IsTransparent p before i h.start → (Derives p (At (with_first before i h)) t ↔ Derives p (At h) t) }
+{}
+
+/// And so the same best tree of at most a depth.
+pub fn transparent_step_keeps_best()
+    ensures { (p : Problem) (before : Five) (i : Instance) (h : History) (n : ℕ) (o : Option Tree) → IsValid p → Each IsNow p.goal → AreMomentsOf p (with_first before i h) → AreSetsAlong (with_first before i h) → IsTransparent p before i h.start → (IsBestAt p (At (with_first before i h)) n o ↔ IsBestAt p (At h) n o) }
+{}
