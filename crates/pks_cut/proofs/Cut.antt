@@ -1,18 +1,18 @@
 -- Where the first step of a history is transparent, the history without its first moment has the same derived trees.
-use Rattle.std.proofs.Common.{◌≡◌, ◌⊎◌, ◌&&◌, ◌++◌, ℕ, zero, suc, Bool, true, false, cond, Option, List, [], ◌∷◌, map, refl, sym, ap, ◌∙◌, subst, inl, inr, ⊎_elim, true≢false}
+use Rattle.std.proofs.Common.{◌≡◌, ◌⊎◌, ◌&&◌, ◌++◌, ℕ, zero, suc, Bool, true, false, not, cond, Option, List, [], ◌∷◌, map, filter, refl, sym, ap, ◌∙◌, subst, inl, inr, ⊎_elim, true≢false}
 use Rattle.std.specs.List.{list_all}
 use Rattle.std.proofs.lemmas.Bool.{cases_Bool}
 use Rattle.pks_terms.specs.Sets.{Each, IsIn, IsOrdered}
-use Rattle.pks_terms.specs.Syntax.{Literal}
-use Rattle.pks_terms.specs.Orders.{literal_cmp}
+use Rattle.pks_terms.specs.Syntax.{object, Literal}
+use Rattle.pks_terms.specs.Orders.{literal_cmp, equation}
 use Rattle.pks_terms.specs.Totality.{literal_cmp_total}
 use Rattle.pks_terms.specs.Signatures.{Signature}
-use Rattle.pks_terms.specs.Databases.{Entry, Five, AreSets}
+use Rattle.pks_terms.specs.Databases.{Entry, Five, AreSets, holds}
 use Rattle.pks_terms.specs.Queries.{answers}
 use Rattle.pks_terms.specs.Closure.{additions, round, rounds, tidied, Outcome, Next, Clash}
 use Rattle.pks_terms.specs.Actions.{Instance}
 use Rattle.pks_terms.specs.Aims.{is_met, met}
-use Rattle.pks_terms.specs.Branching.{instances, Choice, Act, BranchOn, CasesOn, Side, AsTrue, AsFalse, Is, IsMember, assumed, Assumes}
+use Rattle.pks_terms.specs.Branching.{instances, Choice, Act, BranchOn, CasesOn, Side, AsTrue, AsFalse, Is, IsMember, denials, assumed, Assumes}
 use Rattle.pks_terms.specs.Moments.{IsMomentOf, AreMomentsOf}
 use Rattle.pks_terms.specs.Handed.{IsStepOf}
 use Rattle.pks_terms.specs.Problems.{Aim, Now, AtStart, Always, Once, Problem, schema_of}
@@ -78,8 +78,8 @@ module _ (p : Problem) where
 assumed_more : (s : Signature) (d : Five) (c : Choice) (side : Side) → Within d.kf (assumed s d c side).kf × (d.kx ≡ (assumed s d c side).kx) × (d.lcw ≡ (assumed s d c side).lcw)
 unfolding assumed
 assumed_more s d (BranchOn c) AsTrue = (λ l i. added_in literal_cmp_total literal_cmp_tells d.kf c l (inl i), refl, refl)
-assumed_more s d (BranchOn c) AsFalse = (λ l i. added_in literal_cmp_total literal_cmp_tells d.kf _ l (inl i), refl, refl)
-assumed_more s d (CasesOn t) (Is e) = (λ l i. inserted_in literal_cmp_total literal_cmp_tells _ d.kf l (inr i), refl, refl)
+assumed_more s d (BranchOn c) AsFalse = (λ l i. added_in literal_cmp_total literal_cmp_tells d.kf (denials (filter (λ l. not (holds s d l)) c)) l (inl i), refl, refl)
+assumed_more s d (CasesOn t) (Is e) = (λ l i. inserted_in literal_cmp_total literal_cmp_tells (equation t (object e)) d.kf l (inr i), refl, refl)
 assumed_more s d (BranchOn c) (Is e) = (λ l i. i, refl, refl)
 assumed_more s d (CasesOn t) AsTrue = (λ l i. i, refl, refl)
 assumed_more s d (CasesOn t) AsFalse = (λ l i. i, refl, refl)
