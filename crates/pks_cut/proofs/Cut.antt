@@ -29,7 +29,6 @@ use Rattle.pks_laws.specs.OfSignature.{IsSideOf}
 use Rattle.pks_laws.proofs.Belonging.{end_of}
 use Rattle.pks_laws.proofs.Choosing.{best_same}
 use Rattle.pks_laws.proofs.ClosedAgain.{closed_fine, closed_saturated}
-use Rattle.pks_laws.proofs.Least.{rounds_keep}
 use Rattle.pks_laws.proofs.SearchStates.{last_of_it, acts_of, settled_history_of, with_last_of, side_moment}
 use Rattle.pks_laws.proofs.Sorted.{tidied_sets, progressed_sets, assumed_sets, closed_sets}
 use Rattle.pks_cut.specs.Transparent.{AreObjects, IsTransparent, AreSetsAlong, with_first}
@@ -91,6 +90,11 @@ rounds_have : (s : Signature) (n : ℕ) (d : Five) → Within d.kf (rounds s n d
 unfolding round
 rounds_have s zero d l i = i
 rounds_have s (suc n) d l i = added_in literal_cmp_total literal_cmp_tells (rounds s n d).kf (additions s (rounds s n d)) l (inl (rounds_have s n d l i))
+
+rounds_leave : (s : Signature) (n : ℕ) (d : Five) → (d.kx ≡ (rounds s n d).kx) × (d.lcw ≡ (rounds s n d).lcw)
+unfolding round
+rounds_leave s zero d = (refl, refl)
+rounds_leave s (suc n) d = rounds_leave s n d
 
 module _ (p : Problem) (v : IsValid p) (plain : Each IsNow p.goal) (i : Instance) (before after : Five) (start : IsStart p i before after) where
   abbrev S : Signature
@@ -216,10 +220,10 @@ module _ (p : Problem) (v : IsValid p) (plain : Each IsNow p.goal) (i : Instance
   assumed_follows d moment next c side f a =
       let e = end_of S (assumed S next c side) d a in
       let more = assumed_more S next c side in
-      let keep = rounds_keep S a.count (assumed S next c side) in
+      let keep = rounds_leave S a.count (assumed S next c side) in
       subst (Follows p i before after moment) (sym e.1)
       (second_tidied p v.signature.values i before after start moment (rounds S a.count (assumed S next c side))
-      (second_grows p v.signature.values i before after start moment next (rounds S a.count (assumed S next c side)) f (λ l j. rounds_have S a.count (assumed S next c side) l (more.0 l j)) (more.1 ∙ sym keep.0) (more.2 ∙ sym keep.1)))
+      (second_grows p v.signature.values i before after start moment next (rounds S a.count (assumed S next c side)) f (λ l j. rounds_have S a.count (assumed S next c side) l (more.0 l j)) (more.1 ∙ keep.0) (more.2 ∙ keep.1)))
 
   replaced_steps : (moment next : Five) (rest : List (Instance × Five)) (d : Five)
       → (with_last (whole moment (record { start = next; steps = rest })) d).steps ≡ (i, (with_last (record { start = next; steps = rest }) d).start) ∷ (with_last (record { start = next; steps = rest }) d).steps
