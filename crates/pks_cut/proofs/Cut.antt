@@ -305,6 +305,11 @@ module _ (p : Problem) (v : IsValid p) (plain : Each IsNow p.goal) (i : Instance
   pub with_the_first : (h g : History) → IsPair h g → (t : Tree) → Derives p (At g) t → Derives p (At h) t
   with_the_first h g k t d = like_trees p Turned back t (At g) (At h) k d
 
+pub settles : (p : Problem) (h : History) → IsValid p → AreMomentsOf p h → AreSetsAlong h → (x : State) × Settles p h x
+settles p h v m a =
+    let t = settling_is_total p v h m (ordered_of p h a) in
+    (cond (clashes p.signature (settle_rounds p t.0 h)) Stopped (At (tidied_history (settle_rounds p t.0 h))), record { count = t.0; last = t.1; gives = refl })
+
 -- the law
 start_of_step : (p : Problem) → IsValid p → (before : Five) (i : Instance) (after : Five) → IsMomentOf p.signature before → IsTransparent p before i after → IsStart p i before after
 start_of_step p v before i after m t = record {

@@ -226,17 +226,23 @@ module _ (p : Problem) (inhabited : HasValues p.signature) where
             let c = first_closed end'.start end'.steps short_closed in
             let g = given_of moment next end'.start f w.0 w.1 w.2 c.0 c.1 in
             settled_least p inhabited n whole big
-            ((f.bounded end'.start w.0 c.0 c.1, refl, refl), refl, short_had)
-            ((saturated_before p.signature before after end'.start moment (effects_of p i) g, no_clash p.signature before after end'.start moment (effects_of p i) g),
-            onward_in p.signature before after end'.start moment (effects_of p i) g, backward_in p.signature before after end'.start moment (effects_of p i) g, short_closed)
+            ((f.bounded end'.start w.0 c.0 c.1, refl, refl), refl, short_had) (
+              (saturated_before p.signature before after end'.start moment (effects_of p i) g, no_clash p.signature before after end'.start moment (effects_of p i) g),
+              onward_in p.signature before after end'.start moment (effects_of p i) g,
+              backward_in p.signature before after end'.start moment (effects_of p i) g,
+              short_closed,
+            )
 
         big_closed : ClosedAlong p big.start big.steps
         big_closed =
             let w = first_within next rest end'.start end'.steps short_had in
             let c = first_closed end'.start end'.steps short_closed in
-            let g = given_of moment next end'.start f w.0 w.1 w.2 c.0 c.1 in
-            ((saturated_before p.signature before after end'.start moment (effects_of p i) g, no_clash p.signature before after end'.start moment (effects_of p i) g),
-            onward_in p.signature before after end'.start moment (effects_of p i) g, backward_in p.signature before after end'.start moment (effects_of p i) g, short_closed)
+            let g = given_of moment next end'.start f w.0 w.1 w.2 c.0 c.1 in (
+              (saturated_before p.signature before after end'.start moment (effects_of p i) g, no_clash p.signature before after end'.start moment (effects_of p i) g),
+              onward_in p.signature before after end'.start moment (effects_of p i) g,
+              backward_in p.signature before after end'.start moment (effects_of p i) g,
+              short_closed,
+            )
 
         pub whole_quiet : clashes p.signature end ≡ false
         whole_quiet = quiet_within end.start end.steps big.start big.steps in_big big_closed

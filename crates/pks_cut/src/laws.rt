@@ -6,11 +6,16 @@ ghost use Rattle.pks_terms.specs.Databases.{Five};
 ghost use Rattle.pks_terms.specs.Actions.{Instance};
 ghost use Rattle.pks_terms.specs.Moments.{AreMomentsOf};
 ghost use Rattle.pks_terms.specs.Problems.{Problem};
-ghost use Rattle.pks_terms.specs.Settling.{History, At};
+ghost use Rattle.pks_terms.specs.Settling.{History, State, At, Settles};
 ghost use Rattle.pks_terms.specs.Trees.{Tree, Derives, IsBestAt};
 ghost use Rattle.pks_terms.specs.Valid.{IsValid};
 ghost use Rattle.pks_terms.specs.Versions.{IsNow};
 ghost use Rattle.pks_cut.specs.Transparent.{IsTransparent, AreSetsAlong, with_first};
+
+/// A history of the problem whose sets are in order settles: the rounds come to an end.
+pub fn settling_comes_to_an_end()
+    ensures { (p : Problem) (h : History) → IsValid p → AreMomentsOf p h → AreSetsAlong h → (x : State) × Settles p h x }
+{}
 
 /// Where the first step of a history hides nothing and each aim is one of the last moment, the history without its first moment has the same derived trees.
 pub fn transparent_step_keeps_trees()
