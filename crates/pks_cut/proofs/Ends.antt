@@ -3,14 +3,14 @@ use Rattle.std.proofs.Common.{◌≡◌, ◌⊎◌, ◌&&◌, ◌||◌, ◌==◌
 use Rattle.std.specs.List.{list_any, list_all}
 use Rattle.std.proofs.lemmas.Bool.{or_cases, and_parts, and_from, not_from_false, false_from_ne_true, not-true, cases_Bool, or_parts}
 use Rattle.pks_terms.specs.Sets.{Each, IsIn, IsOrdered, set_of, added}
-use Rattle.pks_terms.specs.Syntax.{Term, as_object, Relation, Named, Equality, Literal, Atom, negated}
-use Rattle.pks_terms.specs.Orders.{literal_cmp, conj_cmp, atom_cmp}
+use Rattle.pks_terms.specs.Syntax.{Inner, Term, term_of, as_object, Relation, Named, Equality, Literal, Atom, negated}
+use Rattle.pks_terms.specs.Orders.{literal_cmp, conj_cmp, atom_cmp, number_of, arguments_of}
 use Rattle.pks_terms.specs.Totality.{literal_cmp_total, conj_cmp_total, entry_cmp_total}
 use Rattle.pks_terms.specs.Signatures.{Signature, HasValues}
 use Rattle.pks_terms.specs.Databases.{Entry, entry_cmp, Five, normal, normal_literal, some_differ, holds}
-use Rattle.pks_terms.specs.Closure.{first_clash, additions, in_sequence, normal_atom, normal_pattern, normal_group, normal_entry, tidied}
+use Rattle.pks_terms.specs.Closure.{first_clash, applications_in, additions, in_sequence, normal_atom, normal_pattern, normal_group, normal_entry, tidied}
 use Rattle.pks_terms.specs.Actions.{Target, Set, Unset, Clear, Assign, Effect, Instance}
-use Rattle.pks_terms.specs.Spoiling.{may_fire}
+use Rattle.pks_terms.specs.Spoiling.{may_fire, may_change}
 use Rattle.pks_terms.specs.Progress.{fixed_terms, entry_terms}
 use Rattle.pks_terms.specs.Problems.{Problem}
 use Rattle.pks_terms.specs.Settling.{History, effects_of, forward, grown, from_next, settled_steps, settle_round, settle_rounds, clashes, tidied_history}
@@ -23,9 +23,11 @@ use Rattle.pks_laws.proofs.LeastFamily.{settled_least}
 use Rattle.pks_laws.proofs.NormalMembers.{map_fixed}
 use Rattle.pks_laws.proofs.SettledEnd.{rounds_have_start, end_closed}
 use Rattle.pks_cut.specs.Transparent.{AreObjects, IsOfObjects, Makes, IsDecided, IsKept, LastsAsGroup}
-use Rattle.pks_cut.proofs.Alike.{nothing_found, not_denied}
-use Rattle.pks_cut.proofs.Objects.{is_of_objects, objects_normal, literal_normal, denied_by}
-use Rattle.pks_cut.proofs.Given.{IsGiven, known_then, first_known, no_clash, saturated_before, onward_in, backward_in}
+use Rattle.pks_cut.proofs.Lists.{nothing_found, any_more}
+use Rattle.pks_cut.proofs.Alike.{not_denied}
+use Rattle.pks_cut.proofs.Objects.{objects_normal, literal_normal, denied_by}
+use Rattle.pks_cut.proofs.Given.{IsGiven, changed_in, stays_in, touched_in, returns_in, is_own, known_then, first_known, no_clash}
+use Rattle.pks_cut.proofs.Rules.{saturated_before, onward_in, backward_in}
 
 -- ---- a step, and what is known at its two moments later
 
@@ -121,8 +123,9 @@ first_within d (x ∷ xs) e [] w = absurd w
 
 -- ---- what is known at the moment before grows with what is known after
 
-any_more : {X : Type 0} (q r : X → Bool) (xs : List X) → ((x : X) → IsIn x xs → q x ≡ true → r x ≡ true) → list_any q xs ≡ true → list_any r xs ≡ true
-any_more q r xs f h = let c = found_in q xs h in any_in r xs c.0 c.1 (f c.0 c.1 c.2)
+all_more : {X : Type 0} (q r : X → Bool) → ((x : X) → q x ≡ true → r x ≡ true) → (xs : List X) → list_all q xs ≡ true → list_all r xs ≡ true
+all_more q r f [] h = refl
+all_more q r f (x ∷ xs) h = let p = and_parts (q x) _ h in and_from _ _ (f x p.0) (all_more q r f xs p.1)
 
 module _ (s : Signature) (later big : Five) (inhabited : HasValues s) (within : Within later.kf big.kf) (saturated : IsSaturated s big) (fine : first_clash s big ≡ None) where
   apart_grows : (ts us : List Term) → not (some_differ s big.kf ts us) ≡ true → not (some_differ s later.kf ts us) ≡ true
@@ -135,23 +138,39 @@ module _ (s : Signature) (later big : Five) (inhabited : HasValues s) (within : 
   denied_back (Named p) ts true (Set a) l m h = h
   denied_back (Named p) ts false (Unset a) l m h = h
   denied_back (Named p) ts b (Clear y) l m h = absurd m
-  denied_back (Named p) ts b (Assign g us v) l m h = absurd m
+  denied_back (Named p) ts true (Assign g us v) l m h = h
+  denied_back (Named p) ts false (Assign g us v) l m h = h
   denied_back Equality ts b x l m h = h
+
+  change_back : (f : ℕ) (us : List Inner) (x : Target) → may_change s big.kf f us x ≡ true → may_change s later.kf f us x ≡ true
+  change_back f us (Assign g vs v) h = let q = and_parts (g == f) _ h in and_from _ _ q.0 (apart_grows (map term_of vs) (map term_of us) q.1)
+  change_back f us (Set a) h = h
+  change_back f us (Unset a) h = h
+  change_back f us (Clear y) h = h
+
+  stays_more : (before : Five) (es : List Effect) (t : Term) → stays_in s before later es t ≡ true → stays_in s before big es t ≡ true
+  stays_more before es t h =
+      all_more (λ u. not (changed_in s before later es u)) (λ u. not (changed_in s before big es u))
+      (λ u k. not_from_false _ (false_from_ne_true _ (λ c. true≢false (sym
+      (any_more (λ e. may_fire s before e && may_change s big.kf (number_of u) (arguments_of u) e.target) (λ e. may_fire s before e && may_change s later.kf (number_of u) (arguments_of u) e.target) es
+      (λ e i z. let q = and_parts (may_fire s before e) _ z in and_from _ _ q.0 (change_back (number_of u) (arguments_of u) e.target q.1)) c) ∙ not-true _ k))))
+      (applications_in t) h
 
   known_then_grows : (before after : Five) (es : List Effect) → Each (IsDecided before after) es → Within (known_then s before later es) (known_then s before big es)
   known_then_grows before after es decided l i =
       ⊎_elim
-      (λ j. in_left (filter is_of_objects before.kf) _ l j)
+      (λ j. in_left (filter is_own before.kf) (filter (returns_in s before big es) big.kf) l j)
       (λ j.
-      let test : Five → Literal → Bool = λ d l. list_any (λ e. may_fire s before e && denied_by s d.kf l.relation l.arguments (not l.positive) e.target) es in
-      let r = in_filtered (λ l. not (test later l)) later.kf l j in
-      in_right (filter is_of_objects before.kf) (filter (λ l. not (test big l)) big.kf) l
-      (in_filter (λ l. not (test big l)) big.kf l (within l r.0)
+      let r = in_filtered (returns_in s before later es) later.kf l j in
+      let q = and_parts (list_all (stays_in s before later es) l.arguments) _ r.1 in
+      in_right (filter is_own before.kf) (filter (returns_in s before big es) big.kf) l
+      (in_filter (returns_in s before big es) big.kf l (within l r.0)
+      (and_from _ _ (all_more (stays_in s before later es) (stays_in s before big es) (stays_more before es) l.arguments q.0)
       (not_from_false _ (false_from_ne_true _ (λ t. true≢false (sym
       (any_more (λ e. may_fire s before e && denied_by s big.kf l.relation l.arguments (not l.positive) e.target) (λ e. may_fire s before e && denied_by s later.kf l.relation l.arguments (not l.positive) e.target) es
-      (λ e k h. let d = each_in (IsDecided before after) es e decided k in let q = and_parts (may_fire s before e) _ h in and_from _ _ q.0 (denied_back l.relation l.arguments (not l.positive) e.target d.made d.makes q.1)) t)
-      ∙ not-true _ r.1))))))
-      (in_appended (filter is_of_objects before.kf) _ l i)
+      (λ e k h. let d = each_in (IsDecided before after) es e decided k in let z = and_parts (may_fire s before e) _ h in and_from _ _ z.0 (denied_back l.relation l.arguments (not l.positive) e.target d.made d.makes z.1)) t)
+      ∙ not-true _ q.1)))))))
+      (in_appended (filter is_own before.kf) (filter (returns_in s before later es) later.kf) l i)
 
 one_normal : (kf : List Literal) (t : Term) → is_some (as_object t) ≡ true → normal kf t ≡ t
 one_normal kf t a = let e : normal kf t ∷ [] ≡ t ∷ [] = objects_normal kf (t ∷ []) (a, tt) in cc

@@ -1,6 +1,6 @@
 //! The laws, each the clause of a function that does nothing.
 
-ghost use Rattle.std.specs.Prelude.{◌↔◌, ℕ, Option};
+ghost use Rattle.std.specs.Prelude.{◌↔◌, ◌≡◌, ℕ, true, Option};
 ghost use Rattle.pks_terms.specs.Sets.{Each};
 ghost use Rattle.pks_terms.specs.Databases.{Five};
 ghost use Rattle.pks_terms.specs.Actions.{Instance};
@@ -10,6 +10,7 @@ ghost use Rattle.pks_terms.specs.Settling.{History, State, At, Settles};
 ghost use Rattle.pks_terms.specs.Trees.{Tree, Derives, IsBestAt};
 ghost use Rattle.pks_terms.specs.Valid.{IsValid};
 ghost use Rattle.pks_terms.specs.Versions.{IsNow};
+ghost use Rattle.pks_cut.specs.Testing.{hides_nothing};
 ghost use Rattle.pks_cut.specs.Transparent.{IsTransparent, AreSetsAlong, with_first};
 
 /// A history of the problem whose sets are in order settles: the rounds come to an end.
@@ -25,4 +26,9 @@ pub fn transparent_step_keeps_trees()
 /// And so the same best tree of at most a depth.
 pub fn transparent_step_keeps_best()
     ensures { (p : Problem) (before : Five) (i : Instance) (h : History) (n : ℕ) (o : Option Tree) → IsValid p → Each IsNow p.goal → AreMomentsOf p (with_first before i h) → AreSetsAlong (with_first before i h) → IsTransparent p before i h.start → (IsBestAt p (At (with_first before i h)) n o ↔ IsBestAt p (At h) n o) }
+{}
+
+/// A step that passes the test hides nothing.
+pub fn tested_steps_hide_nothing()
+    ensures { (p : Problem) (before : Five) (i : Instance) (after : Five) → hides_nothing p before i after ≡ true → IsTransparent p before i after }
 {}
