@@ -1,8 +1,8 @@
 -- In databases that the rules add nothing to and that don't clash, terms and literals of one normal form are alike.
-use Rattle.std.proofs.Common.{◌≡◌, ◌⊎◌, ◌&&◌, ◌||◌, ◌==◌, ◌++◌, ℕ, Bool, true, false, not, cond, find, List, [], ◌∷◌, map, flat_map, Option, Some, None, option_and_then, is_lt, refl, sym, ap, ◌∙◌, subst, inl, inr, ⊎_elim, true≢false}
-use Rattle.std.specs.List.{list_any, list_all}
+use Rattle.std.proofs.Common.{◌≡◌, ◌⊎◌, ◌||◌, ℕ, Bool, true, false, not, cond, find, List, [], ◌∷◌, map, flat_map, Option, Some, None, option_and_then, is_lt, refl, sym, ap, ◌∙◌, subst, inl, inr, ⊎_elim, true≢false}
+use Rattle.std.specs.List.{list_all}
 use Rattle.std.specs.Option.{option_map_or}
-use Rattle.std.proofs.lemmas.Bool.{or_cases, or_left, or_right, and_parts, and_from, cases_Bool, eq-eqb}
+use Rattle.std.proofs.lemmas.Bool.{or_cases, or_left, or_right, and_parts, and_from, eq-eqb}
 use Rattle.std.proofs.lemmas.Option.{none-some}
 use Rattle.pks_terms.specs.Sets.{Each, IsIn, all_some, one_replaced, with_others}
 use Rattle.pks_terms.specs.Syntax.{Object, Parameter, Apply, Inner, Term, as_object, Relation, Named, Equality, Literal, negated}

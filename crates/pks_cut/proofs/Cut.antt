@@ -1,5 +1,5 @@
 -- Where the first step of a history is transparent, the history without its first moment has the same derived trees.
-use Rattle.std.proofs.Common.{◌≡◌, ◌⊎◌, ◌&&◌, ◌++◌, ℕ, zero, suc, Bool, true, false, not, cond, Option, List, [], ◌∷◌, map, filter, refl, sym, ap, ◌∙◌, subst, inl, inr, ⊎_elim, true≢false}
+use Rattle.std.proofs.Common.{◌≡◌, ◌&&◌, ◌++◌, ℕ, zero, suc, false, not, cond, Option, List, [], ◌∷◌, map, filter, refl, sym, ap, ◌∙◌, subst, inl, inr, ⊎_elim}
 use Rattle.std.specs.List.{list_all}
 use Rattle.std.proofs.lemmas.Bool.{cases_Bool}
 use Rattle.pks_terms.specs.Sets.{Each, IsIn, IsOrdered}
@@ -32,7 +32,7 @@ use Rattle.pks_laws.proofs.ClosedAgain.{closed_fine, closed_saturated}
 use Rattle.pks_laws.proofs.SearchStates.{last_of_it, acts_of, settled_history_of, with_last_of, side_moment}
 use Rattle.pks_laws.proofs.Sorted.{tidied_sets, progressed_sets, assumed_sets, closed_sets}
 use Rattle.pks_cut.specs.Transparent.{AreObjects, IsTransparent, AreSetsAlong, with_first}
-use Rattle.pks_cut.proofs.Ends.{IsStart, Follows, AreOrdered, same_clash, ends_meet, ends_follow, short_quiet, first_tidied, second_tidied, second_grows, step_follows}
+use Rattle.pks_cut.proofs.Ends.{IsStart, Follows, AreOrdered, same_clash, ends_meet, ends_follow, first_tidied, second_tidied, second_grows, step_follows}
 use Rattle.pks_cut.proofs.Sequence.{groups_sequenced, regions_listed}
 use Rattle.pks_cut.proofs.Total.{settling_is_total}
 use Rattle.pks_cut.proofs.Trees.{Likens, like_trees}

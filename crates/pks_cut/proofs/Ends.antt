@@ -1,32 +1,31 @@
 -- A history whose first step is transparent, and the one without its first moment: settled they end alike.
-use Rattle.std.proofs.Common.{◌≡◌, ◌⊎◌, ◌&&◌, ◌||◌, ◌==◌, ◌++◌, ℕ, zero, suc, Bool, true, false, not, cond, is_some, List, [], ◌∷◌, map, filter, flat_map, Option, Some, None, option_map, refl, sym, ap, ◌∙◌, subst, inl, inr, ⊎_elim, true≢false}
+use Rattle.std.proofs.Common.{◌≡◌, ◌&&◌, ◌||◌, ◌==◌, ◌++◌, ℕ, zero, suc, Bool, true, false, not, is_some, List, [], ◌∷◌, map, filter, flat_map, Option, Some, None, option_map, refl, sym, ap, ◌∙◌, subst, ⊎_elim, true≢false}
 use Rattle.std.specs.List.{list_any, list_all}
-use Rattle.std.proofs.lemmas.Bool.{or_cases, and_parts, and_from, not_from_false, false_from_ne_true, not-true, cases_Bool, or_parts}
-use Rattle.pks_terms.specs.Sets.{Each, IsIn, IsOrdered, set_of, added}
+use Rattle.std.proofs.lemmas.Bool.{and_parts, and_from, not_from_false, false_from_ne_true, not-true, cases_Bool}
+use Rattle.pks_terms.specs.Sets.{Each, IsIn, IsOrdered, set_of}
 use Rattle.pks_terms.specs.Syntax.{Inner, Term, term_of, as_object, Relation, Named, Equality, Literal, Atom, negated}
-use Rattle.pks_terms.specs.Orders.{literal_cmp, conj_cmp, atom_cmp, number_of, arguments_of}
+use Rattle.pks_terms.specs.Orders.{literal_cmp, atom_cmp, number_of, arguments_of}
 use Rattle.pks_terms.specs.Totality.{literal_cmp_total, conj_cmp_total, entry_cmp_total}
 use Rattle.pks_terms.specs.Signatures.{Signature, HasValues}
-use Rattle.pks_terms.specs.Databases.{Entry, entry_cmp, Five, normal, normal_literal, some_differ, holds}
-use Rattle.pks_terms.specs.Closure.{first_clash, applications_in, additions, in_sequence, normal_atom, normal_pattern, normal_group, normal_entry, tidied}
+use Rattle.pks_terms.specs.Databases.{Entry, Five, normal, normal_literal, some_differ, holds}
+use Rattle.pks_terms.specs.Closure.{first_clash, applications_in, additions, in_sequence, normal_atom, normal_group, normal_entry, tidied}
 use Rattle.pks_terms.specs.Actions.{Target, Set, Unset, Clear, Assign, Effect, Instance}
 use Rattle.pks_terms.specs.Spoiling.{may_fire, may_change}
 use Rattle.pks_terms.specs.Progress.{fixed_terms, entry_terms}
 use Rattle.pks_terms.specs.Problems.{Problem}
-use Rattle.pks_terms.specs.Settling.{History, effects_of, forward, grown, from_next, settled_steps, settle_round, settle_rounds, clashes, tidied_history}
+use Rattle.pks_terms.specs.Settling.{History, effects_of, forward, grown, from_next, settled_steps, settle_round, settle_rounds, clashes}
 use Rattle.pks_terms.specs.Saturated.{Within, IsSaturated, WithinAlong, ClosedAlong}
-use Rattle.pks_terms.proofs.ListLaws.{each_in, each_front, each_back, found_in, any_in, in_filter, in_filtered, in_appended, in_mapped, in_map}
+use Rattle.pks_terms.proofs.ListLaws.{each_in, each_front, each_back, in_filter, in_filtered, in_appended, in_mapped, in_map}
 use Rattle.pks_terms.proofs.OrderLaws.{literal_cmp_tells, conj_cmp_tells, entry_cmp_tells}
 use Rattle.pks_terms.proofs.SetLaws.{ordered_added, in_set_of, set_of_in, same_members}
 use Rattle.pks_laws.proofs.Least.{in_left, in_right, one_value, ranged, holds_grows, some_differ_grows}
 use Rattle.pks_laws.proofs.LeastFamily.{settled_least}
-use Rattle.pks_laws.proofs.NormalMembers.{map_fixed}
 use Rattle.pks_laws.proofs.SettledEnd.{rounds_have_start, end_closed}
 use Rattle.pks_cut.specs.Transparent.{AreObjects, IsOfObjects, Makes, IsDecided, IsKept, LastsAsGroup}
 use Rattle.pks_cut.proofs.Lists.{nothing_found, any_more}
 use Rattle.pks_cut.proofs.Alike.{not_denied}
 use Rattle.pks_cut.proofs.Objects.{objects_normal, literal_normal, denied_by}
-use Rattle.pks_cut.proofs.Given.{IsGiven, changed_in, stays_in, touched_in, returns_in, is_own, known_then, first_known, no_clash}
+use Rattle.pks_cut.proofs.Given.{IsGiven, changed_in, stays_in, returns_in, is_own, known_then, first_known, no_clash}
 use Rattle.pks_cut.proofs.Rules.{saturated_before, onward_in, backward_in}
 
 -- ---- a step, and what is known at its two moments later

@@ -1,36 +1,33 @@
 -- What the moment before a transparent step may come to, where all that the moment after comes to is given.
-use Rattle.std.proofs.Common.{◌≡◌, ◌⊎◌, ◌&&◌, ◌||◌, ◌==◌, ◌++◌, ℕ, Bool, true, false, not, cond, is_some, is_lt, slice_get, List, [], ◌∷◌, map, filter, filter_map, flat_map, option_and_then, Option, Some, None, refl, sym, ap, ◌∙◌, subst, inl, inr, ⊎_elim, true≢false}
+use Rattle.std.proofs.Common.{◌≡◌, ◌⊎◌, ◌&&◌, ◌||◌, ◌==◌, ◌++◌, ℕ, Bool, true, false, not, cond, is_some, is_lt, List, [], ◌∷◌, map, filter, flat_map, option_and_then, Option, Some, None, refl, sym, ap, ◌∙◌, subst, inl, inr, ⊎_elim, true≢false}
 use Rattle.std.specs.List.{list_any, list_all}
 use Rattle.std.specs.Option.{option_map_or, option_map}
-use Rattle.std.proofs.lemmas.Bool.{or_cases, or_left, or_right, and_parts, and_from, not_from_false, false_from_ne_true, not-true, cases_Bool, cond-true, eq-eqb, eqb-true, ne_eqb, or_parts}
+use Rattle.std.proofs.lemmas.Bool.{or_cases, or_left, or_right, and_parts, and_from, not_from_false, false_from_ne_true, not-true, cases_Bool, cond-true, eq-eqb, ne_eqb}
 use Rattle.std.proofs.lemmas.Option.{none-some}
-use Rattle.pks_terms.specs.Sets.{Each, IsIn, all_some, one_replaced, with_others, with_later, choices_from}
+use Rattle.pks_terms.specs.Sets.{Each, IsIn, all_some}
 use Rattle.pks_terms.specs.Syntax.{Object, Parameter, Apply, Inner, Term, object, term_of, place, as_object, Relation, Named, Equality, Literal, Atom, negated}
-use Rattle.pks_terms.specs.Orders.{term_cmp, term_eq, literal_eq, in_order, literal, equation, inequation, number_of, arguments_of}
-use Rattle.pks_terms.specs.Signatures.{Shape, Signature, HasValues, objects_of, object_is_of, is_foreign, range_of}
-use Rattle.pks_terms.specs.Databases.{Entry, Five, Told, value_if_at, told, values_at, least, applied, inner_normal, normal, normal_literal, is_known, is_evident, is_plain, differ, some_differ, fits, is_shut_out, is_closed_off, holds}
-use Rattle.pks_terms.specs.Closure.{first_clash, inner_steps, term_steps, by_value, by_member, by_group, is_application, applications_in, is_last_left, by_range, additions}
+use Rattle.pks_terms.specs.Orders.{term_cmp, term_eq, in_order, literal, equation, inequation, number_of, arguments_of}
+use Rattle.pks_terms.specs.Signatures.{Signature, HasValues}
+use Rattle.pks_terms.specs.Databases.{Entry, Five, Told, value_if_at, told, values_at, least, applied, normal, normal_literal, is_known, is_evident, is_plain, differ, some_differ, fits, is_shut_out, is_closed_off, holds}
+use Rattle.pks_terms.specs.Closure.{first_clash, is_application, applications_in}
 use Rattle.pks_terms.specs.Actions.{Target, Set, Unset, Clear, Assign, Effect}
-use Rattle.pks_terms.specs.Spoiling.{may_fire, may_make_true, may_make_false, may_change, may_be_changed, is_stable, are_stable, may_be_denied, spoils}
-use Rattle.pks_terms.specs.Settling.{inner_forms, argument_forms, term_forms, stable_forms, target_forms, makes_same, is_made_otherwise, lasting, lasted, fired, must_have_fired, cannot_have_fired}
+use Rattle.pks_terms.specs.Spoiling.{may_fire, may_change}
 use Rattle.pks_terms.specs.Progress.{fixed_terms, entry_terms}
 use Rattle.pks_terms.specs.Saturated.{Within, IsSaturated}
-use Rattle.pks_terms.proofs.ListLaws.{each_in, each_of, each_filter, each_from_all, all_from_each, each_front, each_back, found_in, any_in, in_filter, in_filtered, in_appended, in_mapped, in_map, in_flat_mapped, map-map}
-use Rattle.pks_terms.proofs.OrderLaws.{term_cmp_tells, same_literal, same_term}
+use Rattle.pks_terms.proofs.ListLaws.{each_in, each_of, each_from_all, all_from_each, each_front, each_back, found_in, any_in, in_filter, in_filtered, in_appended}
+use Rattle.pks_terms.proofs.OrderLaws.{term_cmp_tells, same_term}
 use Rattle.pks_terms.specs.Totality.{term_cmp_total}
-use Rattle.pks_terms.proofs.Types.{are_objects_of}
-use Rattle.pks_laws.proofs.Least.{in_left, in_right, in_flat, in_filter_map, literal_eq_itself, term_eq_itself, one_value, least_one, addition_in, value_literal, ranged}
+use Rattle.pks_laws.proofs.Least.{in_left, in_right, in_filter_map, term_eq_itself, one_value, least_one, value_literal}
 use Rattle.pks_laws.proofs.ClosedAgain.{holds-normal}
 use Rattle.pks_laws.proofs.Values.{least_in}
 use Rattle.pks_laws.proofs.Holding.{eqb_comm, same_objects_itself}
 use Rattle.pks_laws.proofs.NormalMembers.{eq_turned}
-use Rattle.pks_laws.proofs.BelongingHistories.{later_each, other_each}
-use Rattle.pks_cut.specs.Transparent.{AreObjects, is_named, IsOfObjects, is_place, gives_value, IsOfPlace, left_of, Makes, is_about, assigns_in, at_other_objects, is_elsewhere, Assigns, HadValue, SurelyFires, NeverFires, IsDecided, IsWritten, IsAssigned, IsUntouched, IsKeptAtom, IsKeptValue, IsKept, LastsAsGroup}
-use Rattle.pks_cut.proofs.Lists.{not_twice, negated_twice, in_cond, nothing_found, any_each, any_more, self_or_other, replaced_alike, replaced_too}
-use Rattle.pks_cut.proofs.Alike.{objects_stay, normal_relation, normal_sign, normal_arguments, negated_normal, normal_of, evident_equation, found_known, holds_cases, evident_holds, off_holds, known_holds, differ_holds, group_closed, not_denied, no_both, some_differ_alike, not_apart, inner_step_normal, step_normal, member_grows, member_is}
-use Rattle.pks_cut.proofs.Agreeing.{objects_all, objects_are, normal-term_of, normal_agrees, normals_agree}
+use Rattle.pks_cut.specs.Transparent.{AreObjects, is_named, IsOfObjects, gives_value, IsOfPlace, left_of, Makes, is_about, assigns_in, is_elsewhere, Assigns, HadValue, SurelyFires, NeverFires, IsDecided, IsAssigned, IsUntouched, IsKept, LastsAsGroup}
+use Rattle.pks_cut.proofs.Lists.{not_twice, negated_twice, nothing_found, any_each}
+use Rattle.pks_cut.proofs.Alike.{objects_stay, normal_relation, normal_sign, normal_arguments, negated_normal, evident_equation, found_known, holds_cases, evident_holds, off_holds, known_holds, differ_holds, not_denied, some_differ_alike, not_apart}
+use Rattle.pks_cut.proofs.Agreeing.{objects_all, objects_are, normal_agrees, normals_agree}
 use Rattle.pks_cut.specs.Testing.{is_of_objects}
-use Rattle.pks_cut.proofs.Objects.{of_objects, of_objects_test, objects_normal, literal_normal, no_steps, no_applications, other_objects, others_differ, objects_shut_out, denied_by, makes_one, makes_about, none_apart, denies, denies_about, named_gives_none, OfPlace, of_place, objects_of_place, none_inside, place_is, equation_is}
+use Rattle.pks_cut.proofs.Objects.{of_objects, of_objects_test, objects_normal, literal_normal, others_differ, objects_shut_out, denied_by, makes_one, none_apart, denies, denies_about, named_gives_none, OfPlace, of_place, objects_of_place, none_inside, place_is, equation_is}
 
 pub same_predicate : (p q : ℕ) → Named p ≡ Named q → p ≡ q
 same_predicate p q e = cc

@@ -1,10 +1,10 @@
 -- Literals at objects, and what effects on them deny.
-use Rattle.std.proofs.Common.{◌≡◌, ◌&&◌, ◌||◌, ◌==◌, ◌++◌, ℕ, Bool, true, false, not, cond, is_some, List, [], ◌∷◌, map, filter, flat_map, Option, Some, None, refl, sym, ap, ◌∙◌, subst, inl, inr, ⊎_elim, true≢false, is_lt}
-use Rattle.std.specs.List.{list_any, list_all}
+use Rattle.std.proofs.Common.{◌≡◌, ◌||◌, ◌==◌, ℕ, Bool, true, false, not, cond, is_some, List, [], ◌∷◌, map, filter, flat_map, Option, Some, None, refl, sym, ap, ◌∙◌, subst, ⊎_elim, true≢false, is_lt}
+use Rattle.std.specs.List.{list_all}
 use Rattle.std.proofs.lemmas.Bool.{or_cases, or_left, or_right, and_parts, and_from, cases_Bool, eq-eqb, eqb-true, not_from_false, false_from_ne_true, not-true}
-use Rattle.pks_terms.specs.Sets.{Each, IsIn, all_some, one_replaced}
-use Rattle.pks_terms.specs.Syntax.{Object, Parameter, Apply, Inner, Term, object, term_of, place, as_object, are_two_objects, Relation, Named, Equality, Literal, Atom, negated, affirmed, denied}
-use Rattle.pks_terms.specs.Orders.{term_cmp, term_eq, in_order, literal, equation, inequation, number_of}
+use Rattle.pks_terms.specs.Sets.{IsIn, all_some, one_replaced}
+use Rattle.pks_terms.specs.Syntax.{Object, Parameter, Apply, Inner, Term, object, term_of, place, as_object, are_two_objects, Relation, Named, Equality, Literal, Atom}
+use Rattle.pks_terms.specs.Orders.{term_cmp, term_eq, in_order, literal, equation}
 use Rattle.pks_terms.specs.Signatures.{Signature}
 use Rattle.pks_terms.specs.Databases.{Entry, normal, normal_literal, is_evident, is_plain, differ, some_differ, fits, is_shut_out}
 use Rattle.pks_terms.specs.Closure.{term_steps, is_application, applications_in}
@@ -13,7 +13,7 @@ use Rattle.pks_terms.specs.Spoiling.{may_make_true, may_make_false}
 use Rattle.pks_terms.specs.Progress.{fixed_terms, entry_terms}
 use Rattle.pks_terms.proofs.ListLaws.{each_front, each_back, in_mapped}
 use Rattle.pks_laws.proofs.Holding.{eqb_comm}
-use Rattle.pks_cut.specs.Transparent.{AreObjects, is_named, IsOfObjects, is_place, gives_value, IsOfPlace, Makes, is_about, assigns_in, at_other_objects}
+use Rattle.pks_cut.specs.Transparent.{AreObjects, is_named, IsOfObjects, is_place, gives_value, IsOfPlace, Makes, is_about, at_other_objects}
 use Rattle.pks_cut.specs.Testing.{are_objects, is_of_objects}
 use Rattle.pks_cut.proofs.Lists.{not_twice}
 

@@ -1,15 +1,15 @@
 -- What stands in sequence already is left as it is; so are the groups and regions of closed databases.
-use Rattle.std.proofs.Common.{◌≡◌, ◌++◌, append-nil, Bool, true, false, List, [], ◌∷◌, map, Ordering, Less, Equal, Greater, refl, sym, ap, ◌∙◌, subst, inl, inr, ⊎_elim, true≢false}
+use Rattle.std.proofs.Common.{◌≡◌, ◌++◌, append-nil, Bool, true, false, List, [], ◌∷◌, map, Ordering, Less, Equal, Greater, refl, sym, ap, ◌∙◌, subst, inl, inr, true≢false}
 use Rattle.std.specs.Ordering.{ordering_reverse}
 use Rattle.std.proofs.lemmas.Cmp.{tied_itself}
-use Rattle.pks_terms.specs.Sets.{Each, IsIn, IsOrdered, set_of}
+use Rattle.pks_terms.specs.Sets.{Each, IsIn, set_of}
 use Rattle.pks_terms.specs.Syntax.{Literal, Atom}
-use Rattle.pks_terms.specs.Orders.{literal_cmp, conj_cmp, atom_cmp}
+use Rattle.pks_terms.specs.Orders.{literal_cmp, atom_cmp}
 use Rattle.pks_terms.specs.Totality.{literal_cmp_total, conj_cmp_total, atom_cmp_total, entry_cmp_total}
 use Rattle.pks_terms.specs.Signatures.{Signature}
-use Rattle.pks_terms.specs.Databases.{Entry, entry_cmp, Five, normal_literal}
+use Rattle.pks_terms.specs.Databases.{Entry, Five, normal_literal}
 use Rattle.pks_terms.specs.Closure.{put_in, all_put_in, in_sequence, normal_atom, normal_group, normal_entry, rounds, tidied, IsClosed}
-use Rattle.pks_terms.proofs.ListLaws.{each_in, each_of, each_append, each_weaker, in_mapped}
+use Rattle.pks_terms.proofs.ListLaws.{each_in, each_of, each_weaker, in_mapped}
 use Rattle.pks_terms.proofs.OrderLaws.{literal_cmp_tells, conj_cmp_tells, atom_cmp_tells, entry_cmp_tells}
 use Rattle.pks_terms.proofs.SetLaws.{in_set_of, set_of_in, ordered_set_of, same_members}
 use Rattle.pks_laws.proofs.Belonging.{end_of}

@@ -1,18 +1,16 @@
 -- Literals in which all numbers and lengths are below a bound, and the rules that lead to no others.
-use Rattle.std.proofs.Common.{◌≡◌, ◌⊎◌, ◌&&◌, ◌||◌, ◌==◌, ◌++◌, ◌+◌, ◌<◌, ◌≤◌, ℕ, zero, suc, Bool, true, false, not, cond, List, [], ◌∷◌, length, map, filter, flat_map, slice_get, Option, Some, None, refl, sym, ap, ◌∙◌, subst, inl, inr, ⊎_elim, true≢false, is_lt, arith}
-use Rattle.std.specs.List.{list_any, list_all}
+use Rattle.std.proofs.Common.{◌≡◌, ◌++◌, ◌<◌, ◌≤◌, ℕ, suc, Bool, true, false, not, cond, List, [], ◌∷◌, length, map, filter, flat_map, slice_get, Option, Some, None, refl, sym, ap, subst, inl, inr, ⊎_elim, true≢false, is_lt, arith}
+use Rattle.std.specs.List.{list_all}
 use Rattle.std.specs.Option.{option_map_or}
-use Rattle.std.proofs.lemmas.Bool.{and_parts}
-use Rattle.std.proofs.lemmas.Option.{none-some}
 use Rattle.pks_terms.specs.Sets.{Each, IsIn, all_some, one_replaced, with_others, with_later, choices_from}
-use Rattle.pks_terms.specs.Syntax.{Form, Object, Parameter, Apply, Inner, Term, object, term_of, place, as_object, Relation, Named, Equality, Literal, negated}
+use Rattle.pks_terms.specs.Syntax.{Form, Object, Parameter, Apply, Inner, Term, object, term_of, as_object, Relation, Named, Equality, Literal, negated}
 use Rattle.pks_terms.specs.Orders.{term_cmp, in_order, literal, equation}
 use Rattle.pks_terms.specs.Signatures.{Shape, Signature, objects_of, object_is_of, fits_type, range_of}
 use Rattle.pks_terms.specs.Databases.{Five, values_at, holds}
 use Rattle.pks_terms.specs.Closure.{inner_steps, term_steps, by_value, by_member, by_group, is_application, applications_in, is_last_left, by_range, additions}
 use Rattle.pks_terms.specs.Actions.{Target, Set, Unset, Clear, Assign, Effect}
 use Rattle.pks_terms.specs.Spoiling.{is_stable, are_stable, spoils}
-use Rattle.pks_terms.specs.Settling.{inner_forms, argument_forms, term_forms, stable_forms, target_forms, can_be_undone, is_made_otherwise, lasting, lasted, fired, must_have_fired, cannot_have_fired}
+use Rattle.pks_terms.specs.Settling.{inner_forms, argument_forms, term_forms, stable_forms, target_forms, lasting, lasted, fired, must_have_fired, cannot_have_fired}
 use Rattle.pks_terms.proofs.ListLaws.{each_in, each_of, each_append, each_map, each_filter, each_kept, each_flat_map, each_weaker, in_mapped, in_appended, in_flat_mapped, in_filtered}
 use Rattle.pks_terms.proofs.Types.{objects_are_of}
 use Rattle.pks_laws.proofs.Least.{value_literal}

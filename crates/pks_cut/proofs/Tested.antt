@@ -5,8 +5,8 @@ use Rattle.std.specs.Option.{option_map_or}
 use Rattle.std.proofs.lemmas.Bool.{or_cases, and_parts, not-true}
 use Rattle.std.proofs.lemmas.Option.{none-some, same_Some}
 use Rattle.pks_terms.specs.Sets.{Each, IsIn}
-use Rattle.pks_terms.specs.Syntax.{Object, Apply, Inner, Term, object, as_object, Relation, Equality, Literal, negated, affirmed, denied}
-use Rattle.pks_terms.specs.Orders.{term_eq, literal_eq, conj_cmp, equation}
+use Rattle.pks_terms.specs.Syntax.{Object, Apply, Inner, Term, object, as_object, Equality, Literal, negated, affirmed, denied}
+use Rattle.pks_terms.specs.Orders.{literal_eq, conj_cmp, equation}
 use Rattle.pks_terms.specs.Databases.{Entry, entry_cmp, Five}
 use Rattle.pks_terms.specs.Actions.{Target, Set, Unset, Clear, Assign, Effect, Instance}
 use Rattle.pks_terms.specs.Progress.{entry_terms}
@@ -14,7 +14,7 @@ use Rattle.pks_terms.specs.Problems.{Problem}
 use Rattle.pks_terms.specs.Settling.{effects_of}
 use Rattle.pks_terms.proofs.ListLaws.{each_from_all, found_in}
 use Rattle.pks_terms.proofs.OrderLaws.{same_literal, same_term, conj_cmp_tells, entry_cmp_tells}
-use Rattle.pks_cut.specs.Transparent.{AreObjects, is_named, IsOfObjects, gives_value, IsOfPlace, left_of, Makes, is_about, assigns_in, is_elsewhere, Assigns, HadValue, SurelyFires, NeverFires, IsDecided, IsWritten, IsAssigned, IsUntouched, IsKept, LastsAsGroup, IsTransparent}
+use Rattle.pks_cut.specs.Transparent.{AreObjects, IsOfObjects, gives_value, left_of, Makes, is_about, assigns_in, is_elsewhere, Assigns, HadValue, SurelyFires, NeverFires, IsDecided, IsWritten, IsAssigned, IsUntouched, IsKept, LastsAsGroup, IsTransparent}
 use Rattle.pks_cut.specs.Testing.{has, are_objects, is_of_objects, made_by, tells, had_value, fires_surely, fires_never, is_decided_to, is_decided, is_written, assigns, is_assigned, is_untouched, is_kept, lasts_as_group, lasts_as_region, hides_nothing}
 use Rattle.pks_cut.proofs.Objects.{of_objects, of_place, equation_is}
 

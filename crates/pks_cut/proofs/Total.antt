@@ -1,5 +1,5 @@
 -- Settling comes to an end: there are only so many literals below a bound, and a round that isn't the last adds some.
-use Rattle.std.proofs.Common.{◌≡◌, ◌⊎◌, ◌&&◌, ◌||◌, ◌==◌, ◌++◌, ◌+◌, ◌<◌, ◌≤◌, ℕ, zero, suc, Bool, true, false, List, [], ◌∷◌, length, map, flat_map, slice_get, Option, Some, None, Ordering, Less, Equal, Greater, is_lt, is_eq, refl, sym, ap, ◌∙◌, subst, inl, inr, ⊎_elim, true≢false, arith}
+use Rattle.std.proofs.Common.{◌≡◌, ◌⊎◌, ◌&&◌, ◌++◌, ◌+◌, ◌<◌, ◌≤◌, ℕ, zero, suc, Bool, true, false, List, [], ◌∷◌, length, map, flat_map, slice_get, Option, Some, None, Ordering, Less, is_lt, is_eq, refl, sym, ap, ◌∙◌, subst, inl, inr, ⊎_elim, true≢false, arith}
 use Rattle.std.specs.Option.{option_map_or}
 use Rattle.std.specs.Ordering.{ordering_reverse}
 use Rattle.std.specs.Cmp.{IsTotalOrder}
@@ -16,12 +16,12 @@ use Rattle.pks_terms.specs.Databases.{Five}
 use Rattle.pks_terms.specs.Closure.{additions}
 use Rattle.pks_terms.specs.Actions.{Target, Set, Unset, Clear, Assign, Effect, Instance}
 use Rattle.pks_terms.specs.Problems.{Problem}
-use Rattle.pks_terms.specs.Settling.{History, effects_of, forward, backward, grown, from_next, settled_steps, settle_round, settle_rounds}
+use Rattle.pks_terms.specs.Settling.{History, effects_of, forward, grown, from_next, settled_steps, settle_round, settle_rounds}
 use Rattle.pks_terms.specs.Saturated.{Within}
-use Rattle.pks_terms.specs.Valid.{all_fit, form_fits, inner_fits, term_fits, is_term, type_in, is_related, is_literal, AreOf, IsTargetText, IsValid}
+use Rattle.pks_terms.specs.Valid.{all_fit, form_fits, inner_fits, term_fits, is_term, is_related, is_literal, AreOf, IsTargetText, IsValid}
 use Rattle.pks_terms.specs.Handed.{IsStepOf}
 use Rattle.pks_terms.specs.Moments.{IsMomentOf, AreMomentsOf}
-use Rattle.pks_terms.proofs.ListLaws.{each_in, each_of, each_append, each_added, each_weaker, in_map, in_mapped}
+use Rattle.pks_terms.proofs.ListLaws.{each_in, each_append, each_added, each_weaker, in_map}
 use Rattle.pks_terms.proofs.OrderLaws.{literal_cmp_tells}
 use Rattle.pks_terms.proofs.SetLaws.{added_longer, added_same, ordered_set_of, set_of_in}
 use Rattle.pks_laws.proofs.Belonging.{L, related}

@@ -1,8 +1,8 @@
 -- States that lead to like states have the same derived trees.
-use Rattle.std.proofs.Common.{◌≡◌, ℕ, true, List, [], ◌∷◌, ap, ◌∙◌, sym, subst, true≢false}
+use Rattle.std.proofs.Common.{◌≡◌, ℕ, true, List, ap, ◌∙◌, sym, subst, true≢false}
 use Rattle.pks_laws.proofs.BelongingHistories.{is_clash}
 use Rattle.pks_terms.specs.Sets.{Each, IsIn}
-use Rattle.pks_terms.specs.Syntax.{Term, Literal}
+use Rattle.pks_terms.specs.Syntax.{Term}
 use Rattle.pks_terms.specs.Actions.{Instance}
 use Rattle.pks_terms.specs.Aims.{met}
 use Rattle.pks_terms.specs.Branching.{instances, is_undecided, left, may_split, Choice, BranchOn, CasesOn, Side, AsTrue, AsFalse, Is, IsMember}

@@ -2,7 +2,7 @@
 use Rattle.std.specs.Prelude.{ℕ, true, false, ◌≡◌, ◌⊎◌, ◌==◌, ◌&&◌, ◌||◌, not, Bool, is_some, List, [], ◌∷◌, map}
 use Rattle.std.specs.List.{list_any, list_all}
 use Rattle.pks_terms.specs.Sets.{Each, IsIn}
-use Rattle.pks_terms.specs.Syntax.{Object, Parameter, Apply, Inner, Term, object, term_of, as_object, are_two_objects, Relation, Named, Equality, Literal, negated, affirmed, denied}
+use Rattle.pks_terms.specs.Syntax.{Object, Parameter, Apply, Term, object, term_of, as_object, are_two_objects, Relation, Named, Equality, Literal, negated, affirmed, denied}
 use Rattle.pks_terms.specs.Orders.{equation, number_of}
 use Rattle.pks_terms.specs.Databases.{Five, AreSets}
 use Rattle.pks_terms.specs.Closure.{applications_in}
