@@ -1,0 +1,13 @@
+pub mod Lists
+pub mod Alike
+pub mod Agreeing
+pub mod Objects
+pub mod Given
+pub mod Rules
+pub mod Small
+pub mod Ends
+pub mod Total
+pub mod Sequence
+pub mod Trees
+pub mod Cut
+pub mod Tested

@@ -1,0 +1,2 @@
+pub mod Transparent
+pub mod Testing
