@@ -1,2 +1,3 @@
 pub mod Transparent
 pub mod Testing
+pub mod Examples
