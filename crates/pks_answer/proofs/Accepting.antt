@@ -2,12 +2,18 @@
 use Rattle.std.proofs.Common.{◌≡◌, ℕ, List, [], ◌∷◌, ◌⊎◌, inl, inr, Option, Some, None, Result, Ok, Err, OnOk, IfOk, IfErr, sym, ap, subst, ◌∙◌}
 use Rattle.pks_terms.specs.Databases.{Five}
 use Rattle.pks_terms.specs.Syntax.{Literal}
-use Rattle.pks_terms.specs.Closure.{Next, Clash}
+use Rattle.pks_terms.specs.Closure.{Next, Clash, Closes}
 use Rattle.pks_terms.specs.Problems.{Problem, initial}
 use Rattle.pks_terms.specs.Jobs.{Job, Check, Plan, Exec, Bench, Recall, Agent, Explain, Derive, Shared}
 use Rattle.pks_terms.specs.Printed as printed
 use Rattle.pks_terms.specs.Answers.{Stated, NoWorld, BadWorld, GivenWorld, File, refusal, unjustified, RefusesAdd, RefusesStart, RefusesWorld, RefusesRun, RefusesFor, NoneApplies, RefusesFile}
+use Rattle.pks_terms.specs.Views.{literal_of}
+use Rattle.pks_terms.specs.declared.literal.Literal.{Literal as CodeLiteral}
+use Rattle.pks_closing.specs.Closing.{IfClash}
+use Rattle.pks_closing.specs.declared.closing.CloseEnd.{CloseEnd}
+use Rattle.pks_closing.specs.declared.closing.CloseEnd.TheVariants as end_is
 use Rattle.pks_grammar.specs.declared.report.Extra.{Extra}
+use Rattle.pks_grammar.specs.declared.report.Refusal.{Refusal}
 use Rattle.pks_grammar.specs.declared.report.Turned.{Turned}
 use Rattle.pks_grammar.specs.declared.report.Turned.TheVariants.{Refused, Memory}
 use Rattle.pks_laws.proofs.Unique.{closes_one}
@@ -73,18 +79,16 @@ refused_as : (f : InputFile) (P Q : printed.Refusal → Type 0) (e : Turned) →
 refused_as f P Q (Refused r) as_q refused = as_q (printed_of f r) refused
 refused_as f P Q Memory as_q refused = tt
 
--- the first codes refuse the file for every job
-pub first_refuses : (j : Job) (f : InputFile) (e : Turned) → IfRefused f (RefusesFirst (file_of f)) e → IfRefused f (RefusesFile j (file_of f)) e
-first_refuses j f e refused = refused_as f (RefusesFirst (file_of f)) (RefusesFile j (file_of f)) e whole refused
-  where
-    whole : (r : printed.Refusal) → RefusesFirst (file_of f) r → RefusesFile j (file_of f) r
-    whole r (inl a) = inl a
-    whole r (inr a) = inr (a.0, inl a.1)
-
--- so does what the job asks of the world, where the first databases are there
+-- what the job asks of the world refuses it, where the first databases are there
 pub world_refuses : (j : Job) (f : InputFile) (d : Five) (e : Turned) → Begins (file_of f).problem d → IfRefused f (RefusesFor j (file_of f)) e → IfRefused f (RefusesFile j (file_of f)) e
 world_refuses j f d e begins refused =
     refused_as f (RefusesFor j (file_of f)) (RefusesFile j (file_of f)) e (λ r a. inr (no_add (file_of f) begins.justified, inr (no_clash (file_of f) d begins, a))) refused
+
+-- first databases that clash
+pub clash_refuses : (f : InputFile) (end : CloseEnd) (l : CodeLiteral) (r : Refusal) → unjustified (file_of f).problem ≡ [] → end ≡ end_is.Clash l
+    → IfClash (λ l. Closes (file_of f).problem.signature (initial (file_of f).problem) (Clash (literal_of l))) end → printed_of f r ≡ refusal (file_of f).init_at 270 [] → RefusesFirst (file_of f) (printed_of f r)
+clash_refuses f end l r none is clashes says =
+    inr (no_add (file_of f) none, (literal_of l, subst (IfClash (λ l. Closes (file_of f).problem.signature (initial (file_of f).problem) (Clash (literal_of l)))) is clashes, says))
 
 -- ---- the world of a file
 
@@ -105,11 +109,3 @@ sound_fits f (Err e) says = tt
 pub sound_refused : (f : InputFile) (r : Result (Option World) Turned) → IfErr r (IsBadWorld f) → IfErr r (IfRefused f (RefusesWorld (file_of f) (file_of f).world))
 sound_refused f (Ok w) bad = tt
 sound_refused f (Err e) bad = bad_world f e bad
-
-pub any_world : (r : Result (Option World) Turned) → IfOk r (λ w. Unit {0})
-any_world (Ok w) = tt
-any_world (Err e) = tt
-
--- so a run is refused, too
-pub run_refuses : (f : InputFile) (e : Turned) → IsBadWorld f e → IfRefused f (RefusesAnyRun (file_of f)) e
-run_refuses f e bad = refused_as f (RefusesWorld (file_of f) (file_of f).world) (RefusesAnyRun (file_of f)) e (λ r a. inl a) (bad_world f e bad)

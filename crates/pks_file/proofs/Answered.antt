@@ -1,12 +1,11 @@
 -- Answers to an input.
-use Rattle.std.proofs.Common.{◌≡◌, ◌∙◌, ℕ, ◌≤◌, List, Some, None, Result, Ok, Err, IsOk, IfOk, IfErr, length, map, refl, sym, ap, subst, arith}
+use Rattle.std.proofs.Common.{◌≡◌, ◌∙◌, ℕ, ◌≤◌, List, Some, None, Result, Ok, Err, IsOk, IfOk, IfErr, length, map, sym, subst, arith}
 use Rattle.std.proofs.lemmas.Option.{none-some}
-use Rattle.std.proofs.lemmas.Bool.{false≢true}
 use Rattle.pks_terms.specs.Printed.{Text}
 use Rattle.pks_terms.specs.Problems.{Problem}
 use Rattle.pks_terms.specs.Answers.{File}
 use Rattle.pks_terms.specs.Views.{problem_of}
-use Rattle.pks_text.specs.Forms.{Form, list_of}
+use Rattle.pks_text.specs.Forms.{Form}
 use Rattle.pks_text.specs.FormViews.{form_view, forms_view}
 use Rattle.pks_grammar.specs.Files.{Fault}
 use Rattle.pks_stated.specs.Spans.{named_of}

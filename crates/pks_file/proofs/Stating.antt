@@ -1,14 +1,12 @@
 -- What the forms of a text declare, and the answers to a text.
-use Rattle.std.proofs.Common.{◌≡◌, ◌∙◌, ◌≤◌, ℕ, List, Option, Some, None, Result, Ok, Err, IfOk, length, map, refl, sym, ap, subst}
+use Rattle.std.proofs.Common.{◌≡◌, ◌∙◌, ◌≤◌, ℕ, List, Option, Result, Ok, Err, IfOk, length, map, sym, ap, subst}
 use Rattle.pks_terms.specs.Problems.{Problem}
-use Rattle.pks_terms.specs.Signatures.{Signature}
 use Rattle.pks_terms.specs.ValidProblems.{IsValidProblem}
-use Rattle.pks_terms.specs.Views.{signature_of, problem_of}
-use Rattle.pks_text.specs.Forms.{Form, Forms, no_forms}
+use Rattle.pks_terms.specs.Views.{problem_of}
+use Rattle.pks_text.specs.Forms.{Form, no_forms}
 use Rattle.pks_text.specs.FormViews.{form_view}
-use Rattle.pks_grammar.specs.declared.grammar.Version.{Version}
 use Rattle.pks_grammar.specs.Files.{number_of, version_of}
-use Rattle.pks_meaning.specs.Scopes.{Scope, signature_in}
+use Rattle.pks_meaning.specs.Scopes.{signature_in}
 use Rattle.pks_meaning.specs.Parts.{behind_head}
 use Rattle.pks_meaning.specs.Meaning.{scope_of}
 use Rattle.pks_stated.specs.Spans.{named_of}

@@ -1,12 +1,6 @@
-use Rattle.std.proofs.Common.{◌≡◌, ℕ, List, Some, None, IsOk, IfOk, IfErr, map, sym, subst}
+use Rattle.std.proofs.Common.{◌≡◌, ℕ, List, Some, None, IfOk, IfErr, sym, subst}
 use Rattle.std.proofs.lemmas.Bool.{false≢true}
-use Rattle.pks_terms.specs.Problems.{Problem}
-use Rattle.pks_terms.specs.Views.{problem_of}
 use Rattle.pks_text.specs.FormViews.{forms_view}
-use Rattle.pks_grammar.specs.Files.{Fault}
-use Rattle.pks_stated.specs.Spans.{named_of}
-use Rattle.pks_stated.specs.Stated.{Named}
-use Rattle.pks_grammar.specs.declared.report.Turned.TheVariants.{Memory}
 use Rattle.pks_reader.specs.Texts.{Reads, States, IsRefused}
 use Rattle.pks_grammar.specs.Refusals.{Turns}
 use Rattle.pks_file.specs.Inputs.{first_high}
