@@ -1,16 +1,18 @@
 -- From the best plan, as a text, to the reply.
-use Rattle.std.proofs.Common.{◌≡◌, ◌≤◌, ◌<◌, ◌^◌, ℕ, Option, Some, None, IsSome, refl, subst, arith}
+use Rattle.std.proofs.Common.{◌≡◌, ◌≤◌, ◌<◌, ◌^◌, ◌++◌, ◌∙◌, ℕ, List, Option, Some, None, IsSome, refl, ap₂, subst, arith}
 use Rattle.pks_terms.specs.Worlds as worlds
 use Rattle.pks_terms.specs.Problems.{Problem}
 use Rattle.pks_terms.specs.Trees.{Tree, depth, start_state, IsBest}
 use Rattle.pks_terms.specs.Knowledge.{run_of}
 use Rattle.pks_terms.specs.Jobs.{Plan, Exec, Bench, Recall, Derive, Shared}
-use Rattle.pks_terms.specs.Printed.{Text, nodes_of, tree_text, run_text, bench_text}
+use Rattle.pks_terms.specs.Printed.{Text, Names, nodes_of, tree_text, run_text, bench_text}
+use Rattle.pks_terms.specs.Nodes.{Node, IsShared, shared_text}
 use Rattle.pks_terms.specs.Shapes.{derive_text}
 use Rattle.pks_terms.specs.Answers.{Stated, GivenWorld, File, RefusesFile, NoneApplies}
 use Rattle.pks_world.specs.Contents.{world_of}
 use Rattle.pks_world.specs.declared.worlds.World.{World}
 use Rattle.pks_bench.proofs.Sizes.{plans_small}
+use Rattle.pks_recall.specs.Walking.{Recalls}
 use Rattle.pks_answer.specs.declared.reply.Verdict.{Verdict}
 use Rattle.pks_answer.specs.declared.reply.Verdict.TheVariants.{Done, NoPlan, Refused}
 use Rattle.pks_answer.specs.Accepting.{IsRunIn}
@@ -61,3 +63,11 @@ pub shared_reply : (n : ℕ) (f : File) (v : Verdict) (x : Text) → NoneApplies
 shared_reply n f Done x none plans = (none, λ input. plans)
 shared_reply n f NoPlan x none plans = (none, (n, refl, plans.0, plans.1))
 shared_reply n f Refused x none plans = absurd plans
+
+-- ---- texts that are made of a plan and more
+
+pub says_recalled : (p : Problem) (names : Names) (t : Tree) (front behind text : Text) → front ≡ tree_text names t → Recalls p names t behind → text ≡ front ++ behind → SaysRecalled p names text t
+says_recalled p names t front behind text e r f = (r.leaves, r.recalled, f ∙ ap₂ (λ x y. x ++ y) e r.says)
+
+pub says_shared : (names : Names) (t : Tree) (nodes : List Node) (text : Text) → IsShared t nodes → text ≡ shared_text names nodes → SaysShared names text t
+says_shared names t nodes text shared e = (nodes, shared, e)

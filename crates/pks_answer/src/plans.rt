@@ -83,6 +83,7 @@ pub fn plan_and_run(
 }
 
 // The text of a plan, and of what each of its leaves knows.
+#[tactic(auto, using(crate::proofs::Planning::says_recalled))]
 fn recalled_text(alloc: Global, p: &Problem<'_>, t: &Tree) -> Result<Vec<u8>, AllocError>
     requires valid { IsValidProblem p.now }
     requires justified { unjustified (problem_of p.now) ≡ [] }
@@ -115,6 +116,7 @@ pub fn plan_and_recall(
 }
 
 // The nodes of a plan, as text.
+#[tactic(auto, using(crate::proofs::Planning::says_shared))]
 fn nodes_text(alloc: Global, p: &Problem<'_>, t: &Tree) -> Result<Vec<u8>, AllocError>
     ensures { IfOk result (λ text. SaysShared (names_of p.now) text.items (tree_of t.now)) }
 {

@@ -1,6 +1,7 @@
 pub mod Lengths
 pub mod Readiness
 pub mod Stepping
+pub mod Sizes
 pub mod Gathering
 pub mod Telling
 pub mod LeafLaws

@@ -1,4 +1,17 @@
+use Rattle.std.proofs.Common.{◌≡◌, ◌+◌, map, Some, arith}
+use Rattle.std.specs.List.{flat_map, slice_get}
+use Rattle.pks_terms.specs.Branching.{numbered}
+use Rattle.pks_terms.specs.Recalled.{leaf_text}
+use Rattle.pks_terms.specs.Views.{names_of}
+use Rattle.pks_recall.specs.Walking.{state_of}
+use Rattle.pks_recall.proofs.Telling.{one_told}
 use Rattle.pks_recall.proofs.print.print_leaves.Goals as goal
 
 pub loop-i-preserved : goal.loop-i-preserved
-loop-i-preserved c = ?
+loop-i-preserved c =
+    let text = leaf_text (names_of c.args.p.now) in
+    let all = map state_of c.args.leaves.now in
+    let same : 1 + c.loop-i.i ≡ c.loop-i.i + 1 = omega arith in
+    let index = c.index-leaves-i.is in
+    let there : slice_get all c.loop-i.i ≡ Some (state_of c.index-leaves-i.result) = ? in
+    one_told text 1 all c.loop-i.i (c.loop-i.i + 1) (state_of c.index-leaves-i.result) c.loop-i.text.items c.print_leaf.new.out.items (flat_map text (numbered 1 all)) same there c.in_ok-print_leaf.ensures c.loop-i.invariant
