@@ -6,10 +6,13 @@ from . import limits
 from .names import Names
 from .text import Refusal, typed
 
+# What needs those that can't be said is refused where it stands.
 REQUIREMENTS = """:strips :typing :negative-preconditions :disjunctive-preconditions :equality
 :existential-preconditions :universal-preconditions :quantified-preconditions :conditional-effects
-:adl :fluents :object-fluents :action-costs :constants :contingent :partial-observability :sensing
-:open-world :unknown :true-negation :htn-free""".split()
+:adl :fluents :object-fluents :numeric-fluents :action-costs :constants :contingent :sensing
+:partial-observability :non-deterministic :open-world :unknown :derived-predicates
+:durative-actions :duration-inequalities :continuous-effects :timed-initial-literals :preferences
+:constraints""".split()
 OBJECT = 'object'
 
 

@@ -67,8 +67,9 @@ class Start:
 
     def add_group(self, form, members):
         members = list(dict.fromkeys(members))
-        if any(not isinstance(m, Literal) for m in members):
-            raise Refusal(form, 'a value can\'t be a member', 'Write `(= (f) value)`.')
+        if not members or any(not isinstance(m, Literal) for m in members):
+            raise Refusal(form, 'a group has facts as members, or their negations',
+                          'Write `(oneof (p) (q))`, and of values `(= (f) v)`.')
         limits.at_most(limits.GROUP, len(members), form, 'a group has at most {} members',
                        'Take fewer objects.')
         if len(members) == 1:
@@ -80,6 +81,9 @@ class Start:
 
     def add_clause(self, form):
         members = [self.literal(part) for part in form.rest()]
+        if not members or any(not isinstance(m, Literal) for m in members):
+            raise Refusal(form, 'an `or` has facts as members, or their negations',
+                          'Write `(or (p) (q))`, and of values `(= (f) v)`.')
         for member in members:
             self.leave_open(member)
         self.clauses.append((form, tuple(dict.fromkeys(members))))
