@@ -74,10 +74,11 @@ def action(act, cost, adds, remarks):
              ('senses', act.senses), ('knows', adds)]
     first = section(f'action {act.name}' + (f' (cost {cost})' if cost else ''),
                     section(*parts[0], 0) if parts[0][1] else [], 2)
-    lines += first[:-1] + [first[-1][:-1]] + comments(remarks, 4)
-    for head, found in parts[1:]:
-        if found:
-            lines += section(head, found, 4)
+    given = [(head, found) for head, found in parts[1:] if found]
+    above = [] if given else comments(remarks, 2)
+    lines += above + first[:-1] + [first[-1][:-1]] + (comments(remarks, 4) if given else [])
+    for head, found in given:
+        lines += section(head, found, 4)
     lines[-1] += ')'
     return lines
 
