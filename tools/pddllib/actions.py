@@ -15,7 +15,7 @@ UNSAID = {
     ':process': ('processes can\'t be said', 'Write an `:action`, which takes one step.'),
     ':event': ('events can\'t be said', 'Let each action do what follows from its effects.'),
     ':sensor': ('sensors that tell by themselves can\'t be said',
-                'Write an `:action` with `:observe`, or add it to the actions after which it tells.'),
+                'Write an `:action` with `:observe`, or add `:observe` to other actions.'),
     ':constraints': ('constraints aren\'t read',
                      'Write `(always ..)` or `(once ..)` into the goal of what is translated.'),
 }

@@ -61,6 +61,8 @@ class Scope:
         for name, kind in typed(forms):
             if not name.is_variable():
                 raise Refusal(name, f'`{name.text()}` is no variable', 'Variables begin with `?`.')
+            if name.word in found:
+                raise Refusal(name, f'`{name.raw}` stands twice', 'Give it another name.')
             term = '?' + fitting(name.word[1:])
             wanted, number = term, 2
             while term in taken:
@@ -143,7 +145,8 @@ def equation(form, scope):
     if len(form.parts) != 3:
         raise Refusal(form, 'an equation has two sides', 'Write `(= a b)`.')
     for part in form.rest():
-        refuse_number(part)
+        if not scope.declared.names.find('object', part.word):
+            refuse_number(part)
     (left, one), (right, other) = (term(part, scope) for part in form.rest())
     fits = scope.declared.fits
     if left == right:
@@ -183,12 +186,12 @@ def alternatives(form, scope, positive=True):
     if head in ('imply', '=>'):
         if len(parts) != 2:
             raise Refusal(form, 'an implication has two parts', 'Write `(imply a b)`.')
-        found = [alternatives(parts[0], scope, not positive), alternatives(parts[1], scope, positive)]
+        found = [alternatives(parts[0], scope, not positive),
+                 alternatives(parts[1], scope, positive)]
         return joined(form, found, not positive)
     if head in ('forall', 'exists'):
-        body = quantified(form)
-        found = [alternatives(body, inner, positive)
-                 for inner in scope.instances(parts[0].parts)]
+        variables, body = quantified(form)
+        found = [alternatives(body, inner, positive) for inner in scope.instances(variables)]
         return joined(form, found, (head == 'forall') == positive)
     return literal_alternatives(form, scope, positive)
 
@@ -232,11 +235,11 @@ def only(form):
 
 
 def quantified(form):
-    """The body of `forall` and `exists`."""
+    """The variables of `forall` and `exists`, and what is said of them."""
     if len(form.parts) != 3 or not form.parts[1].is_list():
         raise Refusal(form, f'`{form.head()}` has a list of variables and one part',
                       f'Write `({form.head()} (?x - t) (p ?x))`.')
-    return form.parts[2]
+    return form.parts[1].parts, form.parts[2]
 
 
 # Queries
@@ -257,11 +260,12 @@ class Queries:
             for part in form.rest():
                 scope = self.read(part, scope)
         elif head == 'forall':
-            for inner in scope.instances(form.parts[1].parts if quantified(form) else []):
-                self.read(form.parts[2], inner)
+            variables, body = quantified(form)
+            for inner in scope.instances(variables):
+                self.read(body, inner)
         elif head == 'exists' and self.what == 'precondition':
-            body = quantified(form)
-            more = scope.parameters(form.parts[1].parts)
+            variables, body = quantified(form)
+            more = scope.parameters(variables)
             self.parameters.update({term: kind for term, kind in more.values()})
             self.read(body, scope.adding(more))
             scope = scope.adding({'; ' + value[0]: value for value in more.values()})
@@ -302,7 +306,7 @@ class Queries:
 
 
 def formula(form, scope):
-    """The literals of a conjunction whose truth is found or asked; an `or` is that of its negation."""
+    """The literals of a conjunction whose truth is asked; an `or` is asked by its negation."""
     found = alternatives(form, scope)
     if len(found) != 1:
         found = alternatives(form, scope, False)

@@ -40,10 +40,6 @@ class Declared:
         for name, parent in pairs:
             if parent is not None and name.word != OBJECT:
                 self.set_parent(name, parent)
-        words = [word for word in self.names.known.get('type', {})]
-        limits.at_most(limits.TYPES, len(words), found[0] if found else None,
-                       'there are at most {} types',
-                       'Leave types out, or tell kinds of objects apart by predicates.')
 
     def declare_type(self, form):
         need_word(form, 'a type')
@@ -82,6 +78,12 @@ class Declared:
             own = self.parents.get(own)
         return own == wanted or wanted == OBJECT
 
+    def check_types(self, domain):
+        """The limit on types; `object` counts where it is used."""
+        limits.at_most(limits.TYPES, len(self.kinds()), (sections(domain, ':types') or [domain])[0],
+                       'there are at most {} types',
+                       'Leave types out, or tell kinds of objects apart by predicates.')
+
     def kinds(self):
         """The types with their parents, each behind its parent."""
         above = {t: p or (OBJECT if self.uses_object else None) for t, p in self.parents.items()}
@@ -113,7 +115,7 @@ class Declared:
             if self.names.find('predicate', head.word) is not None or head.word == '=':
                 if head.word == '=':
                     continue
-                raise Refusal(head, f'the predicate `{head.raw}` is declared twice', 'Take one away.')
+                raise Refusal(head, f'the predicate `{head.raw}` stands twice', 'Take one away.')
             types = [self.type_of(kind) for _, kind in typed(form.rest())]
             limits.at_most(limits.PREDICATE_ARGUMENTS, len(types), form,
                            'a predicate has at most {} arguments',

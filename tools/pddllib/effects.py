@@ -8,7 +8,7 @@ from collections import namedtuple
 
 from . import limits
 from .conditions import (Literal, alternatives, application, arguments, atom, formula, only,
-                         quantified, term, term_text)
+                         quantified, term_text)
 from .text import Refusal, typed
 
 CHANCE = ('oneof', 'or', 'probabilistic', 'unknown')
@@ -63,7 +63,7 @@ class Effects:
             self.assign(form, scope, conditions)
         elif head in NUMERIC:
             self.increase(form, conditions)
-        elif head in OBSERVING:
+        elif head in OBSERVING and not self.declared.names.find('predicate', head):
             self.told(form, scope, conditions)
         elif head in CHANCE:
             refuse_chance(form)
@@ -89,39 +89,39 @@ class Effects:
 
     def forall(self, form, scope, conditions):
         """Writes an effect out for all objects, or takes it as a `clear`."""
-        body = quantified(form)
-        names = [name.word for name, _ in typed(form.parts[1].parts)]
+        variables, body = quantified(form)
+        names = [name.word for name, _ in typed(variables)]
         if body.head() == 'when' and not parts_of_when(body)[0].mentions(names):
             conditions, body = under(body, scope, conditions), body.parts[2]
-        pattern = self.pattern(form, body, scope, names)
+        pattern = self.pattern(body, scope, scope.parameters(variables))
         if pattern is not None:
             self.add(form, conditions, 'clear', (pattern,))
             return
-        for inner in scope.instances(form.parts[1].parts):
+        for inner in scope.instances(variables):
             self.read(body, inner, conditions)
 
-    def pattern(self, form, body, scope, names):
-        """The pattern of all facts that are taken away, or None."""
-        if body.head() != 'not' or not body.parts[1:] or not body.parts[1].parts:
+    def pattern(self, body, scope, own):
+        """The pattern of all facts that a negation takes away, or None where it isn't one."""
+        if body.head() != 'not' or len(body.parts) != 2 or not body.parts[1].parts:
             return None
         fact = body.parts[1]
         name = self.declared.names.find('predicate', fact.head())
         types = self.declared.predicates.get(name, [])
-        own = scope.parameters(form.parts[1].parts)
+        open_places = [part.word for part in fact.rest() if part.word in own]
+        if len(fact.rest()) != len(types) or sorted(open_places) != sorted(own) \
+                or len(open_places) > limits.WILDCARDS:
+            return None
         slots = []
         for part, wanted in zip(fact.rest(), types):
             if part.word in own:
                 slots.append('_')
                 if self.declared.objects_of(own[part.word][1]) != self.declared.objects_of(wanted):
                     return None
-            elif part.mentions(names):
+            elif part.mentions(own):
                 return None
             else:
-                slots.append(term(part, scope)[0])
-        words = [part.word for part in fact.rest() if part.word in own]
-        if sorted(words) != sorted(names) or len(words) > limits.WILDCARDS:
-            return None
-        return (name,) + tuple(slots) if len(slots) == len(fact.rest()) == len(types) else None
+                slots.append(arguments(fact, [part], [wanted], scope)[0])
+        return (name,) + tuple(slots)
 
     def assign(self, form, scope, conditions):
         if len(form.parts) != 3:
@@ -160,14 +160,15 @@ class Effects:
         if form.is_list() and form.parts and form.parts[0].is_list():
             for part in form.parts:
                 self.observe(part, scope)
-        elif head in OBSERVING:
+        elif head in OBSERVING and not self.declared.names.find('predicate', head):
             self.told(form, scope, ((),))
         elif head == 'forall':
-            for inner in scope.instances(form.parts[1].parts if quantified(form) else []):
-                self.observe(form.parts[2], inner)
+            variables, body = quantified(form)
+            for inner in scope.instances(variables):
+                self.observe(body, inner)
         elif self.declared.names.find('function', head or form.word):
             self.sense(f'(sense-value {term_text(application(form, scope)[0])})')
-        elif form.parts:
+        elif form.parts or not form.is_list():
             self.sense('(sense ' + ' '.join(map(str, formula(form, scope))) + ')')
 
     def sense(self, text):
@@ -197,4 +198,4 @@ def refuse_chance(form):
         raise Refusal(form, 'an effect can\'t make a fact unknown',
                       'Set it under a condition, `when`, that nobody knows.')
     raise Refusal(form, f'an effect can\'t turn out by chance, as `{form.head()}` says',
-                  'Put what it hangs on into a fact that is `unknown` in `:init`, and write `when`.')
+                  'Put what it hangs on into a fact that is `unknown` in `:init`, under `when`.')

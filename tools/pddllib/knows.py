@@ -60,7 +60,7 @@ def chosen(adds):
 
 
 def untold(action, adds):
-    """The effects of which the agent doesn't know that they are so, each with the one that may undo it."""
+    """What the agent doesn't know to be so after an effect, each with what may undo it."""
     told = [add for add in adds if '(kf ' in add]
     for place, effect in enumerate(action.effects):
         literal = effect.literal()

@@ -1,5 +1,6 @@
 """The file that is written, laid out to be read and changed by hand."""
 
+import re
 import textwrap
 
 from .start import item, region
@@ -40,7 +41,7 @@ def wrapped(text, first, others):
 def comment(text, indent=0):
     """A comment in lines."""
     first = ' ' * indent + '; '
-    plain = text.encode('ascii', 'replace').decode('ascii').replace('\t', ' ')
+    plain = re.sub('[^ -~]', '?', text.replace('\t', ' '))
     indented = ' ' * (len(plain) - len(plain.lstrip()))
     return wrapped(plain.strip(), first + indented, first + indented + '  ') or [first.rstrip()]
 

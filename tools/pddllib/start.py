@@ -29,8 +29,9 @@ class Start:
             for part in form.rest():
                 self.read(part)
         elif head == 'forall':
-            for inner in self.scope.instances(form.parts[1].parts if quantified(form) else []):
-                self.within(inner, form.parts[2])
+            variables, body = quantified(form)
+            for inner in self.scope.instances(variables):
+                self.within(inner, body)
         elif head == 'unknown':
             self.leave_open(self.literal(only(form)))
         elif head == 'oneof':
@@ -121,8 +122,8 @@ class Start:
         if len(members) == 1:
             self.facts.append(members[0])
         elif len(members) > 2:
-            raise Refusal(form, 'that one of three or more is true can\'t be said, but that exactly '
-                          'one is', 'Write `(oneof ..)`, if that is so.')
+            raise Refusal(form, 'that one of three or more is true can\'t be said, but that '
+                          'exactly one is', 'Write `(oneof ..)`, if that is so.')
         else:
             both = self.declared.names.extra('predicate', f'both-{len(self.helpers) + 1}')
             self.declared.predicates[both] = []
@@ -176,8 +177,8 @@ class Start:
 
 def is_timed(form):
     """`(at 5 (p))`."""
-    return form.head() == 'at' and len(form.parts) == 3 and \
-        NUMBER.fullmatch(form.parts[1].word or '') is not None
+    return form.head() == 'at' and len(form.parts) == 3 and form.parts[2].is_list() \
+        and NUMBER.fullmatch(form.parts[1].word or '') is not None
 
 
 def is_cost(form):

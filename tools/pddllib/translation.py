@@ -25,6 +25,7 @@ class Translation:
         self.declared.fixed = Fixed(self.declared, sections(self.domain, ':action'), self.start)
         self.actions = read_actions(self.domain, self.declared)
         self.goals = self.read_goal()
+        self.declared.check_types(self.domain)
 
     def check_sections(self):
         for form in self.problem.rest()[1:]:

@@ -60,7 +60,8 @@ class Model:
 
     def worlds(self):
         """All worlds of the start: true facts, and values as facts `(= place value)`."""
-        start = [p for part in self.under(':init') for p in (part[1:] if part[0] == 'and' else [part])]
+        start = [p for part in self.under(':init')
+                 for p in (part[1:] if part[0] == 'and' else [part])]
         sure = {p for p in start if p[0] not in ('unknown', 'oneof', 'or', 'not')}
         loose = [p for p in start if p[0] in ('oneof', 'or')]
         open_facts = sorted({p[1] for p in start if p[0] == 'unknown'} |
@@ -105,7 +106,8 @@ class Model:
         if head == 'and':
             inner = [self.changes(p, world, given) for p in parts]
         elif head == 'when':
-            inner = [self.changes(parts[1], world, given)] if self.holds(parts[0], world, given) else []
+            fires = self.holds(parts[0], world, given)
+            inner = [self.changes(parts[1], world, given)] if fires else []
         elif head == 'forall':
             inner = [self.changes(parts[1], world, g) for g in self.bindings(parts[0], given)]
         elif head in ('increase', 'knows-whether', 'knows-value'):
