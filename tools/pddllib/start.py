@@ -183,7 +183,7 @@ def is_timed(form):
 
 def is_cost(form):
     """`(= (total-cost) 0)`."""
-    return form.head() == '=' and 'total-cost' in form.parts[1].text().lower()
+    return form.head() == '=' and any(part.mentions(['total-cost']) for part in form.rest())
 
 
 def item(literal):
