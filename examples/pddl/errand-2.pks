@@ -1,0 +1,43 @@
+; The cup is in the kitchen, and nobody knows whether that is locked.
+; ./pks plan 6
+; Written by tools/from-pddl from examples/pddl/errand.pddl and examples/pddl/errand-2.pddl, to be
+;   read and changed.
+(pks 1)
+(domain
+  (types room thing)
+  (objects (room hall kitchen) (thing cup))
+  (predicates (held thing) (locked room))
+  (functions (here room) (place thing room))
+
+  ; From then on the robot knows the room, whichever it is.
+  (action ask (params (?x thing))
+    (senses (sense-value (place ?x)))
+    (knows (kv (place ?x))))
+
+  (action go (params (?to room))
+    (pre (k (not (locked ?to))))
+    (effects (assign (here) ?to))
+    (knows (kf (= (here) ?to)) (kv (here))))
+
+  (action pick (params (?x thing))
+    (pre (k (= (here) (place ?x))))
+    (effects (set (held ?x)))
+    (knows (kf (held ?x))))
+
+  ; The door tells by a lamp.
+  (action look-at-lamp (params (?r room))
+    (senses (sense (locked ?r)))
+    (knows (kw (locked ?r))))
+
+  (action unlock (params (?r room))
+    (pre (k (locked ?r)))
+    (effects (unset (locked ?r)))
+    (knows (kf (not (locked ?r))))))
+
+(problem
+  ; Unknown: (locked kitchen)
+  (init
+    (kf (= (here) hall)) (kf (= (place cup) kitchen))
+    ; All else is false.
+    (kf (not (held cup))) (kf (not (locked hall))))
+  (goal (k (held cup)) (k (= (here) hall))))

@@ -1,0 +1,318 @@
+"""Terms, literals and conditions.
+
+A term is the name of an object or a parameter, or a tuple of a function and its arguments.
+A condition becomes its alternatives: a list of conjunctions, each a list of literals, one of
+which must be true.
+"""
+
+from collections import namedtuple
+import itertools
+import re
+
+from . import limits
+from .names import fitting
+from .text import Refusal, typed
+
+MOST_ALTERNATIVES = 64
+NUMERIC = ('<', '>', '<=', '>=', '+', '-', '*', '/', 'total-cost')
+NUMBER = re.compile(r'-?\d+(\.\d+)?')
+
+
+class Literal(namedtuple('Literal', 'positive name args')):
+    """An atom or an equation (its name is `=`), or the negation of one."""
+
+    def negated(self):
+        return Literal(not self.positive, self.name, self.args)
+
+    def atom(self):
+        return Literal(True, self.name, self.args)
+
+    def __str__(self):
+        atom = term_text((self.name,) + self.args)
+        return atom if self.positive else f'(not {atom})'
+
+
+def term_text(term):
+    if isinstance(term, str):
+        return term
+    return '(' + ' '.join(term_text(part) for part in term) + ')'
+
+
+def height(term):
+    """How deep functions stand within each other."""
+    if isinstance(term, str):
+        return 0
+    return 1 + max((height(part) for part in term[1:]), default=0)
+
+
+class Scope:
+    """The variables at a place: for each the term that it stands for, and its type."""
+
+    def __init__(self, declared, variables=None):
+        self.declared = declared
+        self.variables = variables or {}
+
+    def adding(self, more):
+        return Scope(self.declared, {**self.variables, **more})
+
+    def parameters(self, forms):
+        """The parameters of a list, with the terms that stand for them here."""
+        found, taken = {}, {term for term, _ in self.variables.values()}
+        for name, kind in typed(forms):
+            if not name.is_variable():
+                raise Refusal(name, f'`{name.text()}` is no variable', 'Variables begin with `?`.')
+            if name.word in found:
+                raise Refusal(name, f'`{name.raw}` stands twice', 'Give it another name.')
+            term = '?' + fitting(name.word[1:])
+            wanted, number = term, 2
+            while term in taken:
+                term, number = f'{wanted}-{number}', number + 1
+            taken.add(term)
+            found[name.word] = (term, self.declared.type_of(kind))
+        return found
+
+    def instances(self, forms):
+        """A scope for each choice of objects for the variables of a list."""
+        found = self.parameters(forms)
+        kinds = [kind for _, kind in found.values()]
+        for objects in self.declared.tuples(kinds):
+            yield self.adding({v: (o, self.declared.objects[o]) for v, o in zip(found, objects)})
+
+
+# Terms and literals
+
+def term(form, scope):
+    """A term and its type."""
+    declared = scope.declared
+    if form.is_list():
+        return application(form, scope)
+    if form.is_variable():
+        if form.word not in scope.variables:
+            raise Refusal(form, f'the variable `{form.raw}` isn\'t declared here',
+                          'Add it to `:parameters`.')
+        return scope.variables[form.word]
+    name = declared.names.find('object', form.word)
+    if name is None and declared.names.find('function', form.word):
+        return application(form, scope)
+    if name is None:
+        refuse_undeclared(form, 'object', '`:objects` or `:constants`')
+    return name, declared.objects[name]
+
+
+def application(form, scope):
+    """A place `(f ..)`, also where it is written as `f`, and its type."""
+    head = form if not form.is_list() else form.parts[0] if form.parts else form
+    name = head.word and scope.declared.names.find('function', head.word)
+    if not name:
+        refuse_number(head)
+        refuse_undeclared(head, 'function', '`:functions`')
+    types, result = scope.declared.functions[name]
+    found = (name,) + arguments(form, form.rest() if form.is_list() else [], types, scope)
+    if height(found) > 2:
+        raise Refusal(form, 'values stand within each other more than two deep',
+                      'Assign the inner one to a function of its own first.')
+    return found, result
+
+
+def arguments(form, parts, types, scope):
+    """The terms of a list, which must be of these types."""
+    if len(parts) != len(types):
+        raise Refusal(form, f'`{form.shown()}` has {len(parts)} arguments, and {len(types)} are '
+                      'declared', 'Write as many as are declared.')
+    found = []
+    for part, wanted in zip(parts, types):
+        value, own = term(part, scope)
+        if not scope.declared.fits(own, wanted):
+            raise Refusal(part, f'`{part.text()}` is of the type `{own}`, and `{wanted}` is wanted',
+                          f'Declare it as a `{wanted}`, or `{own}` as a type below `{wanted}`.')
+        found.append(value)
+    return tuple(found)
+
+
+def atom(form, scope):
+    """A predicate with its arguments."""
+    head = form.parts[0] if form.parts else form
+    name = head.word and scope.declared.names.find('predicate', head.word)
+    if not name:
+        refuse_number(head)
+        refuse_undeclared(head, 'predicate', '`:predicates`')
+    types = scope.declared.predicates[name]
+    return Literal(True, name, arguments(form, form.rest(), types, scope))
+
+
+def equation(form, scope):
+    """An equation, or whether it is true where that is clear at once."""
+    if len(form.parts) != 3:
+        raise Refusal(form, 'an equation has two sides', 'Write `(= a b)`.')
+    for part in form.rest():
+        if not scope.declared.names.find('object', part.word):
+            refuse_number(part)
+    (left, one), (right, other) = (term(part, scope) for part in form.rest())
+    fits = scope.declared.fits
+    if left == right:
+        return True
+    if not fits(one, other) and not fits(other, one):
+        return False
+    if left in scope.declared.objects and right in scope.declared.objects:
+        return False
+    return Literal(True, '=', (left, right))
+
+
+def refuse_undeclared(form, kind, where):
+    raise Refusal(form, f'the {kind} `{form.text()}` isn\'t declared', f'Add it to {where}.')
+
+
+def refuse_number(form):
+    word = form.word or form.head() or ''
+    if word in NUMERIC or NUMBER.fullmatch(word):
+        raise Refusal(form, 'there are no numbers here but costs',
+                      'Use objects for the amounts, and facts such as `(less n1 n2)`.')
+
+
+# Conditions
+
+def alternatives(form, scope, positive=True):
+    """The alternatives of a condition, or of its negation."""
+    if not form.is_list():
+        raise Refusal(form, 'a condition is wanted here, and not a word', 'Write `(NAME ..)`.')
+    head, parts = form.head(), form.rest()
+    if not form.parts:
+        return [[]] if positive else []
+    if head == 'not':
+        return alternatives(only(form), scope, not positive)
+    if head in ('and', 'or'):
+        found = [alternatives(part, scope, positive) for part in parts]
+        return joined(form, found, (head == 'and') == positive)
+    if head in ('imply', '=>'):
+        if len(parts) != 2:
+            raise Refusal(form, 'an implication has two parts', 'Write `(imply a b)`.')
+        found = [alternatives(parts[0], scope, not positive),
+                 alternatives(parts[1], scope, positive)]
+        return joined(form, found, not positive)
+    if head in ('forall', 'exists'):
+        variables, body = quantified(form)
+        found = [alternatives(body, inner, positive) for inner in scope.instances(variables)]
+        return joined(form, found, (head == 'forall') == positive)
+    return literal_alternatives(form, scope, positive)
+
+
+def literal_alternatives(form, scope, positive):
+    if form.head() in ('knows-whether', 'knows-value', 'knows', 'know', 'unknown', 'oneof'):
+        raise Refusal(form, f'`{form.head()}` can\'t stand here',
+                      'What is known may be asked by a precondition or the goal alone, outside of '
+                      '`or`, `not` and quantifiers.')
+    found = equation(form, scope) if form.head() == '=' else atom(form, scope)
+    if isinstance(found, bool):
+        return [[]] if found == positive else []
+    return [[found if positive else found.negated()]]
+
+
+def joined(form, found, all_of):
+    """The alternatives of a conjunction, or of a disjunction."""
+    if not all_of:
+        result = [conj for part in found for conj in part]
+    else:
+        result = [[]]
+        for part in found:
+            result = [before + conj for before, conj in itertools.product(result, part)]
+            check_number(form, result)
+        result = [list(dict.fromkeys(conj)) for conj in result]
+    result = [conj for conj in result if not any(l.negated() in conj for l in conj)]
+    check_number(form, result)
+    return result
+
+
+def check_number(form, result):
+    limits.at_most(MOST_ALTERNATIVES, len(result), form,
+                   'a condition may have {} alternatives when it is written out',
+                   'Keep a fact for it, which the actions set.')
+
+
+def only(form):
+    if len(form.parts) != 2:
+        raise Refusal(form, f'`{form.head()}` has one part', f'Write `({form.head()} (p ..))`.')
+    return form.parts[1]
+
+
+def quantified(form):
+    """The variables of `forall` and `exists`, and what is said of them."""
+    if len(form.parts) != 3 or not form.parts[1].is_list():
+        raise Refusal(form, f'`{form.head()}` has a list of variables and one part',
+                      f'Write `({form.head()} (?x - t) (p ?x))`.')
+    return form.parts[1].parts, form.parts[2]
+
+
+# Queries
+
+class Queries:
+    """What a precondition or a goal asks, each as the planner's format has it."""
+
+    def __init__(self, what):
+        self.what = what
+        self.texts = []
+        self.literals = []
+        self.parameters = {}
+
+    def read(self, form, scope):
+        """Takes the conjuncts one by one."""
+        head = form.head()
+        if head == 'and':
+            for part in form.rest():
+                scope = self.read(part, scope)
+        elif head == 'forall':
+            variables, body = quantified(form)
+            for inner in scope.instances(variables):
+                self.read(body, inner)
+        elif head == 'exists' and self.what == 'precondition':
+            variables, body = quantified(form)
+            more = scope.parameters(variables)
+            self.parameters.update({term: kind for term, kind in more.values()})
+            self.read(body, scope.adding(more))
+            scope = scope.adding({'; ' + value[0]: value for value in more.values()})
+        elif head in ('knows-whether', 'knows-value', 'knows', 'know'):
+            self.known(form, scope)
+        elif form.parts or not form.is_list():
+            self.condition(form, scope)
+        return scope
+
+    def known(self, form, scope):
+        if form.head() == 'knows-value':
+            self.add(f'(kv {term_text(application(only(form), scope)[0])})')
+        elif form.head() == 'knows-whether':
+            self.add('(kw ' + ' '.join(map(str, formula(only(form), scope))) + ')')
+        else:
+            self.condition(only(form), scope)
+
+    def condition(self, form, scope):
+        found = alternatives(form, scope)
+        if not found:
+            raise Refusal(form, f'`{form.shown()}` is never true', 'Take it out.')
+        if len(found) > 1:
+            self.refuse_disjunction(form, len(found))
+        for literal in found[0]:
+            self.literals.append(literal)
+            self.add(f'(k {literal})')
+
+    def refuse_disjunction(self, form, number):
+        if self.what == 'goal':
+            raise Refusal(form, f'a goal can\'t ask for one of {number} alternatives',
+                          'Add an action for each, which sets a fact, and ask for that fact.')
+        raise Refusal(form, f'a precondition can\'t ask for one of {number} alternatives',
+                      'Write an action for each.')
+
+    def add(self, text):
+        if text not in self.texts:
+            self.texts.append(text)
+
+
+def formula(form, scope):
+    """The literals of a conjunction whose truth is asked; an `or` is asked by its negation."""
+    found = alternatives(form, scope)
+    if len(found) != 1:
+        found = alternatives(form, scope, False)
+    if len(found) != 1 or not found[0]:
+        raise Refusal(form, f'`{form.shown()}` is no conjunction of literals',
+                      'Take its parts one by one.')
+    limits.at_most(limits.CONDITION, len(found[0]), form, 'a formula has at most {} literals',
+                   'Take its parts one by one.')
+    return found[0]

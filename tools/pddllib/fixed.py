@@ -1,0 +1,29 @@
+"""Facts that no action changes."""
+
+
+def changed(form):
+    """The predicates that an effect, as PDDL writes it, may change."""
+    head = form.head()
+    if head in ('and', 'not'):
+        return {word for part in form.rest() for word in changed(part)}
+    if head in ('when', 'forall'):
+        return changed(form.parts[-1])
+    return {head}
+
+
+class Fixed:
+    """What is known for ever."""
+
+    def __init__(self, declared, actions, start):
+        self.start = start
+        self.objects = declared.objects
+        words = {word for action in actions for word, part in zip(action.parts, action.rest())
+                 if word.word == ':effect' for word in changed(part)}
+        names = {declared.names.find('predicate', word) for word in words}
+        self.predicates = set(declared.predicates) - names - set(start.helpers)
+
+    def denies(self, literal):
+        """Whether a literal over objects is false for ever."""
+        return (literal.name in self.predicates and literal.atom() not in self.start.unknown
+                and all(arg in self.objects for arg in literal.args)
+                and (literal.atom() in self.start.facts) != literal.positive)

@@ -1,0 +1,194 @@
+"""What is known at the start.
+
+All that isn't said is false in PDDL; so each predicate gets its negatives, one by one or as a
+region of which nothing else is true, whichever are fewer. What `unknown`, `oneof` and `or` speak
+of is left out of that.
+"""
+
+import itertools
+
+from . import limits
+from .conditions import (NUMBER, Literal, Scope, application, atom, equation, literal_alternatives,
+                         only, quantified, term_text)
+from .text import Refusal
+
+
+class Start:
+    """The items of `init`, each list in the order in which it is written."""
+
+    def __init__(self, declared):
+        self.declared = declared
+        self.scope = Scope(declared)
+        self.facts, self.values, self.negatives = [], [], []
+        self.regions, self.groups, self.helpers = [], [], []
+        self.unknown, self.clauses = [], []
+
+    def read(self, form):
+        head = form.head()
+        if head == 'and':
+            for part in form.rest():
+                self.read(part)
+        elif head == 'forall':
+            variables, body = quantified(form)
+            for inner in self.scope.instances(variables):
+                self.within(inner, body)
+        elif head == 'unknown':
+            self.leave_open(self.literal(only(form)))
+        elif head == 'oneof':
+            self.add_group(form, [self.literal(part) for part in form.rest()])
+        elif head == 'or':
+            self.add_clause(form)
+        elif is_timed(form):
+            raise Refusal(form, 'a fact at a later time can\'t be said', 'Take it out.')
+        elif form.parts and not is_cost(form):
+            self.add_fact(form)
+
+    def within(self, scope, form):
+        outer, self.scope = self.scope, scope
+        self.read(form)
+        self.scope = outer
+
+    def literal(self, form):
+        """A literal that `oneof`, `or` or `unknown` names."""
+        if form.head() in ('and', 'or', 'oneof', 'imply', 'forall', 'exists'):
+            raise Refusal(form, f'`{form.shown()}` can\'t be a member here: members are facts and '
+                          'their negations', 'Give it a predicate of its own, and name that.')
+        inner = only(form) if form.head() == 'not' else form
+        if self.declared.names.find('function', inner.head() or inner.word):
+            return application(inner, self.scope)[0]
+        found = literal_alternatives(inner, self.scope, form.head() != 'not')
+        if not found or not found[0]:
+            raise Refusal(form, 'it is known whether this equation is so', 'Take it out.')
+        return found[0][0]
+
+    def leave_open(self, literal):
+        if isinstance(literal, Literal) and literal.name != '=':
+            if literal.atom() not in self.unknown:
+                self.unknown.append(literal.atom())
+
+    def add_group(self, form, members):
+        members = list(dict.fromkeys(members))
+        if not members or any(not isinstance(m, Literal) for m in members):
+            raise Refusal(form, 'a group has facts as members, or their negations',
+                          'Write `(oneof (p) (q))`, and of values `(= (f) v)`.')
+        limits.at_most(limits.GROUP, len(members), form, 'a group has at most {} members',
+                       'Take fewer objects.')
+        if len(members) == 1:
+            self.facts.append(members[0])
+            return
+        for member in members:
+            self.leave_open(member)
+        self.groups.append((members, None))
+
+    def add_clause(self, form):
+        members = [self.literal(part) for part in form.rest()]
+        if not members or any(not isinstance(m, Literal) for m in members):
+            raise Refusal(form, 'an `or` has facts as members, or their negations',
+                          'Write `(or (p) (q))`, and of values `(= (f) v)`.')
+        for member in members:
+            self.leave_open(member)
+        self.clauses.append((form, tuple(dict.fromkeys(members))))
+
+    def add_fact(self, form):
+        negative = form.head() == 'not'
+        inner = only(form) if negative else form
+        if inner.head() == '=':
+            found = equation(inner, self.scope)
+            if isinstance(found, Literal):
+                found = found.negated() if negative else found
+                (self.values if found.positive else self.negatives).append(found)
+        else:
+            found = atom(inner, self.scope)
+            self.facts.append(found.negated() if negative else found)
+
+    # Clauses
+
+    def settle_clauses(self):
+        """Writes each `or` as a group, alone or with those that say that no two are true."""
+        pairs = {frozenset(members) for _, members in self.clauses if len(members) == 2}
+        used = set()
+        for form, members in self.clauses:
+            excluded = {frozenset((a.negated(), b.negated()))
+                        for a, b in itertools.combinations(members, 2)}
+            if frozenset(members) not in used and excluded and excluded <= pairs:
+                used |= excluded | {frozenset(members)}
+                self.add_group(form, list(members))
+        for form, members in self.clauses:
+            if frozenset(members) not in used:
+                used.add(frozenset(members))
+                self.settle_clause(form, members)
+
+    def settle_clause(self, form, members):
+        if len(members) == 1:
+            self.facts.append(members[0])
+        elif len(members) > 2:
+            raise Refusal(form, 'that one of three or more is true can\'t be said, but that '
+                          'exactly one is', 'Write `(oneof ..)`, if that is so.')
+        else:
+            both = self.declared.names.extra('predicate', f'both-{len(self.helpers) + 1}')
+            self.declared.predicates[both] = []
+            self.helpers.append(both)
+            limits.at_most(limits.PREDICATES, len(self.declared.predicates), form,
+                           'there are at most {} predicates, with one for each `or`',
+                           'Leave out those that nothing uses.')
+            said = f'{form.shown().lower()}; ({both}) is true where both are'
+            self.groups.append(([m.negated() for m in members] + [Literal(True, both, ())], said))
+
+    # The closed world
+
+    def finish(self):
+        """Adds to what is said that all else is false."""
+        self.settle_clauses()
+        stated = list(dict.fromkeys(self.facts))
+        self.facts = [literal for literal in stated if literal.positive]
+        self.negatives += [literal for literal in stated
+                           if not literal.positive and literal.atom() in self.unknown]
+        for name, types in self.declared.predicates.items():
+            if name not in self.helpers:
+                choices = [self.declared.objects_of(t) for t in types]
+                for found in self.closed(name, choices, [None] * len(types)):
+                    (self.negatives if isinstance(found, Literal) else self.regions).append(found)
+
+    def closed(self, name, choices, fixed):
+        """The fewest items by which all of a pattern that isn't true is known to be false."""
+        mine = lambda atoms: [l for l in atoms if l.name == name and l.positive and
+                              all(f in (None, a) for f, a in zip(fixed, l.args))]
+        open_here, true_here = mine(self.unknown), mine(self.facts)
+        size = 1
+        for choice, value in zip(choices, fixed):
+            size *= 1 if value is not None else len(choice)
+        left = size - len({l for l in open_here + true_here})
+        if left == 0:
+            return []
+        free = [i for i, value in enumerate(fixed) if value is None]
+        if not open_here and left > 1 and len(free) <= limits.WILDCARDS:
+            return [(name,) + tuple(value or '_' for value in fixed)]
+        if not free:
+            return [Literal(False, name, tuple(fixed))]
+        ways = [self.split(name, choices, fixed, place) for place in free]
+        return min(ways, key=len)
+
+    def split(self, name, choices, fixed, place):
+        found = []
+        for value in choices[place]:
+            found += self.closed(name, choices, fixed[:place] + [value] + fixed[place + 1:])
+        return found
+
+
+def is_timed(form):
+    """`(at 5 (p))`."""
+    return form.head() == 'at' and len(form.parts) == 3 and form.parts[2].is_list() \
+        and NUMBER.fullmatch(form.parts[1].word or '') is not None
+
+
+def is_cost(form):
+    """`(= (total-cost) 0)`."""
+    return form.head() == '=' and any(part.mentions(['total-cost']) for part in form.rest())
+
+
+def item(literal):
+    return f'(kf {literal})'
+
+
+def region(pattern):
+    return '(lcw (' + ' '.join(term_text(part) for part in pattern) + '))'

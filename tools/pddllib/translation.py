@@ -1,0 +1,124 @@
+"""A domain and a problem, read and written."""
+
+from . import knows, layout, limits
+from .actions import UNSAID, read_actions
+from .conditions import Queries, Scope
+from .declared import Declared, sections
+from .fixed import Fixed
+from .start import Start
+from .text import Refusal, definition
+
+SECTIONS = (':domain', ':requirements', ':objects', ':init', ':goal', ':metric')
+
+
+class Translation:
+    """What a domain and a problem say, in the words of the planner's format."""
+
+    def __init__(self, domain_source, problem_source):
+        self.sources = domain_source, problem_source
+        self.domain = definition(domain_source, 'domain')
+        self.problem = definition(problem_source, 'problem')
+        self.check_sections()
+        self.declared = Declared(self.domain, self.problem)
+        self.minimizes = self.read_metric()
+        self.start = self.read_start()
+        self.declared.fixed = Fixed(self.declared, sections(self.domain, ':action'), self.start)
+        self.actions = read_actions(self.domain, self.declared)
+        self.goals = self.read_goal()
+        self.declared.check_types(self.domain)
+
+    def check_sections(self):
+        for form in self.problem.rest()[1:]:
+            if form.head() in UNSAID:
+                raise Refusal(form, *UNSAID[form.head()])
+            if form.head() not in SECTIONS:
+                raise Refusal(form, f'a problem can\'t have `{form.shown()}`',
+                              'It has `:domain`, `:objects`, `:init`, `:goal` and `:metric`.')
+
+    def read_metric(self):
+        """Whether costs count."""
+        for form in sections(self.problem, ':metric'):
+            if [p.text().lower() for p in form.rest()] not in (
+                    ['minimize', '(total-cost)'], ['minimize', 'total-cost']):
+                raise Refusal(form, 'this metric can\'t be said',
+                              'Write `(:metric minimize (total-cost))`, or take it out.')
+            return True
+        return False
+
+    def read_start(self):
+        start = Start(self.declared)
+        for section in sections(self.problem, ':init'):
+            for form in section.rest():
+                start.read(form)
+        start.finish()
+        return start
+
+    def read_goal(self):
+        found = Queries('goal')
+        goals = sections(self.problem, ':goal')
+        for form in goals:
+            for part in form.rest():
+                found.read(part, Scope(self.declared))
+        place = goals[0] if goals else self.problem
+        if not found.texts:
+            raise Refusal(place, 'there is no goal', 'Write `(:goal (p))`.')
+        limits.at_most(limits.GOALS, len(found.texts), place, 'a goal has at most {} parts',
+                       'Let an action with these preconditions set a fact, and ask for that.')
+        return found.texts
+
+    # What is written
+
+    def version(self):
+        parents = any(self.declared.kinds().values())
+        many = len(self.declared.objects) > limits.OBJECTS_OF_VERSION_1
+        return 2 if parents or many or self.minimizes else 1
+
+    def heading(self):
+        domain, problem = self.sources
+        said = problem.first_comment()
+        said.append(f'Written by tools/from-pddl from {domain.path} and {problem.path}, '
+                    'to be read and changed.')
+        table = self.declared.names.table()
+        return said + (['Names that were changed:'] + table if table else [])
+
+    def cost(self, action):
+        return action.did.cost if self.minimizes else 0
+
+    def with_adds(self, adds):
+        """The file where each action has these adds."""
+        actions = []
+        for action, own in zip(self.actions, adds):
+            kept, left_out = knows.chosen(own)
+            remarks = list(knows.remarks(action, own, left_out))
+            if self.minimizes and not action.did.cost:
+                remarks.append('It costs nothing in PDDL, and 1 here: no cost is less.')
+            actions.append((action, self.cost(action), kept, remarks))
+        return layout.written(self.heading(), self.version(), self.declared, actions,
+                              (self.start, self.goals))
+
+    def written(self):
+        bare = self.with_adds([[] for _ in self.actions])
+        self.check_size(bare)
+        refused, adds = knows.derived(bare)
+        if refused:
+            self.refuse(refused)
+        text = self.with_adds(adds)
+        self.check_size(text)
+        said = knows.answer(['check'], text)
+        if said.startswith('refused'):
+            self.refuse(said)
+        return text
+
+    def check_size(self, text):
+        limits.at_most(limits.BYTES, len(text), self.problem, 'a file has at most {:,} bytes',
+                       'Take fewer objects.')
+
+    def refuse(self, said):
+        """What the planner doesn't accept."""
+        inits = sections(self.problem, ':init')
+        if said.split()[2] == '270':
+            raise Refusal(inits[0] if inits else self.problem, 'the start contradicts itself',
+                          'Look for a fact that is true and false, or a `oneof` of which none, or '
+                          'more than one, can be true.')
+        raise Refusal(self.problem, f'what was written is not accepted: {said.strip()}',
+                      'This is a fault of tools/from-pddl itself.')

@@ -1,0 +1,197 @@
+"""PDDL's own meaning: a plan of the planner is run in every world that a problem allows.
+
+This shares the reading of parentheses with tools/from-pddl, and nothing else. Of what is known it
+says nothing: `knows-whether` and `knows-value` hold.
+"""
+
+import itertools
+import re
+
+
+class Wrong(Exception):
+    """What goes wrong in some world."""
+
+
+def plain(form):
+    """A form as nested tuples of words in small letters."""
+    return form.word if form.word is not None else tuple(plain(part) for part in form.parts)
+
+
+def typed(parts):
+    """The names of a typed list with their types."""
+    found, waiting, parts = [], [], list(parts)
+    while parts:
+        word = parts.pop(0)
+        if word == '-':
+            kind = parts.pop(0)
+            found += [(name, kind) for name in waiting]
+            waiting = []
+        else:
+            waiting.append(word)
+    return found + [(name, 'object') for name in waiting]
+
+
+class Model:
+    """A domain and a problem."""
+
+    def __init__(self, domain, problem):
+        self.parts = domain[2:] + problem[2:]
+        self.parents = dict(typed(self.under(':types')))
+        self.objects = dict(typed(self.under(':constants') + self.under(':objects')))
+        self.actions = {part[1]: dict(zip(part[2::2], part[3::2]))
+                        for part in self.parts if part[0] == ':action'}
+        self.goal = ('and',) + self.under(':goal')
+
+    def under(self, head):
+        return tuple(p for part in self.parts if part[0] == head for p in part[1:])
+
+    def objects_of(self, kind):
+        def fits(own):
+            while own not in (kind, 'object', None):
+                own = self.parents.get(own)
+            return own == kind or kind == 'object'
+        return [name for name, own in self.objects.items() if fits(own)]
+
+    def bindings(self, variables, given):
+        """All ways to choose objects for variables."""
+        pairs = typed(variables)
+        for chosen in itertools.product(*(self.objects_of(kind) for _, kind in pairs)):
+            yield {**given, **{name: o for (name, _), o in zip(pairs, chosen)}}
+
+    def worlds(self):
+        """All worlds of the start: true facts, and values as facts `(= place value)`."""
+        start = [p for part in self.under(':init')
+                 for p in (part[1:] if part[0] == 'and' else [part])]
+        sure = {p for p in start if p[0] not in ('unknown', 'oneof', 'or', 'not')}
+        loose = [p for p in start if p[0] in ('oneof', 'or')]
+        open_facts = sorted({p[1] for p in start if p[0] == 'unknown'} |
+                            {m[1] if m[0] == 'not' else m for p in loose for m in p[1:]}, key=str)
+        for choice in itertools.product((False, True), repeat=len(open_facts)):
+            world = frozenset(sure | {f for f, so in zip(open_facts, choice) if so})
+            places = [fact[1] for fact in world if fact[0] == '=']
+            if len(places) > len(set(places)):
+                continue
+            counts = [(p[0], sum(self.holds(m, world, {}) for m in p[1:])) for p in loose]
+            if all(n == 1 if head == 'oneof' else n > 0 for head, n in counts):
+                yield world
+
+    # Conditions and effects in one world
+
+    def value(self, term, world, given):
+        if isinstance(term, str):
+            return given.get(term, term)
+        place = (term[0],) + tuple(self.value(t, world, given) for t in term[1:])
+        return next((p[2] for p in world if p[0] == '=' and p[1] == place), None)
+
+    def holds(self, form, world, given):
+        head, parts = (form[0], form[1:]) if form else ('and', ())
+        if head == 'and':
+            return all(self.holds(p, world, given) for p in parts)
+        if head in ('knows-whether', 'knows-value'):
+            return True
+        if head == 'or':
+            return any(self.holds(p, world, given) for p in parts)
+        if head == 'not':
+            return not self.holds(parts[0], world, given)
+        if head in ('forall', 'exists'):
+            found = [self.holds(parts[1], world, g) for g in self.bindings(parts[0], given)]
+            return all(found) if head == 'forall' else any(found)
+        if head == '=':
+            return self.value(parts[0], world, given) == self.value(parts[1], world, given)
+        return (head,) + tuple(self.value(p, world, given) for p in parts) in world
+
+    def changes(self, form, world, given):
+        """What an effect takes away and what it adds."""
+        head, parts = (form[0], form[1:]) if form else ('and', ())
+        if head == 'and':
+            inner = [self.changes(p, world, given) for p in parts]
+        elif head == 'when':
+            fires = self.holds(parts[0], world, given)
+            inner = [self.changes(parts[1], world, given)] if fires else []
+        elif head == 'forall':
+            inner = [self.changes(parts[1], world, g) for g in self.bindings(parts[0], given)]
+        elif head in ('increase', 'knows-whether', 'knows-value'):
+            inner = []
+        elif head == 'assign':
+            place = (parts[0][0],) + tuple(self.value(p, world, given) for p in parts[0][1:])
+            gone = {p for p in world if p[0] == '=' and p[1] == place}
+            inner = [(gone, {('=', place, self.value(parts[1], world, given))})]
+        else:
+            fact = parts[0] if head == 'not' else form
+            fact = (fact[0],) + tuple(self.value(p, world, given) for p in fact[1:])
+            inner = [({fact}, set()) if head == 'not' else (set(), {fact})]
+        return (set().union(*(gone for gone, _ in inner)), set().union(*(new for _, new in inner)))
+
+    def done(self, step, world):
+        action = self.actions[step[0]]
+        names = [name for name, _ in typed(action.get(':parameters', ()))]
+        given = dict(zip(names, (self.value(t, world, {}) for t in step[1:])))
+        if not self.holds(action.get(':precondition', ()), world, given):
+            raise Wrong(f'{step} is done where its precondition does not hold')
+        gone, new = self.changes(action.get(':effect', ()), world, given)
+        return frozenset(world - gone | new)
+
+    def run(self, plan, world):
+        """Follows a plan to the goal."""
+        for head, *rest in plan:
+            if head == 'do':
+                world = self.done(rest[0], world)
+            elif head == 'goal':
+                if not self.holds(self.goal, world, {}):
+                    raise Wrong('the plan ends where the goal does not hold')
+                return
+            elif head == 'impossible':
+                raise Wrong('a world comes to a side that is called impossible')
+            elif head == 'branch':
+                test = all(self.holds(p, world, {}) for p in rest[0])
+                return self.run(rest[1] if test else rest[2], world)
+            else:
+                return self.run(rest[1][self.value(rest[0], world, {})], world)
+
+
+# Plans as they are printed
+
+def terms(text):
+    """The terms of a line, as nested tuples."""
+    stack = [[]]
+    for token in re.findall(r'[()]|[^\s()]+', text):
+        if token == '(':
+            stack.append([])
+        elif token == ')':
+            stack[-2].append(tuple(stack.pop()))
+        else:
+            stack[-1].append(token)
+    return tuple(stack[0])
+
+
+def tree(lines):
+    """The steps of a plan whose lines are given; they are taken off the list."""
+    steps = []
+    while lines:
+        line = lines.pop(0).strip()
+        word = line.split()[0]
+        if word in ('goal', 'impossible'):
+            return steps + [(word,)]
+        if word == 'branch':
+            lines.pop(0)
+            yes = tree(lines)
+            lines.pop(0)
+            return steps + [('branch', terms(line)[1:], yes, tree(lines))]
+        if word == 'cases':
+            sides = {}
+            while lines and lines[0].split()[0] == 'case':
+                name = lines.pop(0).split()[1]
+                sides[name] = tree(lines)
+            return steps + [('cases', terms(line)[1], sides)]
+        steps.append(('do', terms(line)[0]))
+    return steps
+
+
+def check(domain, problem, text):
+    """Runs a printed plan in every world; gives how many there are."""
+    model = Model(plain(domain), plain(problem))
+    plan = tree(text.splitlines()[1:])
+    worlds = list(model.worlds())
+    for world in worlds:
+        model.run(plan, world)
+    return len(worlds)

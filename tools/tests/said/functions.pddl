@@ -1,0 +1,31 @@
+(define (domain functions)
+  (:requirements :strips :typing :object-fluents)
+  (:types room item)
+  (:constants hall - room)
+  (:predicates (held ?i - item))
+  (:functions (loc ?i - item) - room (room-of ?i - item) - room (here) - room)
+  (:action go
+    :parameters (?to - room)
+    :effect (assign (here) ?to))
+  (:action ask
+    :parameters (?i - item)
+    :observe (loc ?i))
+  (:action pick
+    :parameters (?i - item)
+    :precondition (and (= (here) (loc ?i)) (not (held ?i)))
+    :effect (held ?i)))
+(define (problem functions-1)
+  (:domain functions)
+  (:objects kitchen study - room cup - item)
+  (:init (= (here) hall) (oneof (= (loc cup) kitchen) (= (loc cup) study)))
+  (:goal (held cup)))
+
+; writes: (functions (loc item room) (room-of item room) (here room))
+; writes: (pre (k (= (here) (loc ?i))) (k (not (held ?i))))
+; writes: (effects (assign (here) ?to))
+; writes: (knows (kf (= (here) ?to)) (kv (here)))
+; writes: (senses (sense-value (loc ?i)))
+; writes: (knows (kv (loc ?i)))
+; writes: (kf (= (here) hall))
+; writes: (kx (= (loc cup) kitchen) (= (loc cup) study))
+; plans: 4

@@ -1,0 +1,20 @@
+(define (domain implications)
+  (:requirements :adl)
+  (:predicates (on ?x ?y) (wet) (done))
+  (:constants a)
+  (:action paint
+    :precondition (not (imply (wet) (done)))
+    :effect (done))
+  (:action pile
+    :parameters (?x ?y)
+    :precondition (and (not (= ?x ?y)) (not (= a ?x)) (imply (= a a) (on a ?x)))
+    :effect (when (and (not (= ?y a)) (imply (not (= a a)) (wet)) (on ?y a)) (done))))
+(define (problem implications-1)
+  (:domain implications)
+  (:objects b)
+  (:init (on a b))
+  (:goal (done)))
+
+; writes: (pre (k (wet)) (k (not (done))))
+; writes: (pre (k (not (= ?x ?y))) (k (not (= a ?x))) (k (on a ?x)))
+; writes: (when ((not (= ?y a)) (on ?y a)) (set (done)))

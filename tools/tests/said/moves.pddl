@@ -1,0 +1,17 @@
+(define (domain moves)
+  (:requirements :strips)
+  (:predicates (at ?x) (road ?x ?y))
+  (:action move
+    :parameters (?from ?to)
+    :precondition (and (at ?from) (road ?from ?to))
+    :effect (and (at ?to) (not (at ?from)))))
+(define (problem moves-1)
+  (:domain moves)
+  (:objects a b)
+  (:init (at a) (road a b))
+  (:goal (and (at b) (not (at a)))))
+
+; writes: ; (not (at ?from)) isn't known afterwards: (at ?to) may be about the same. With (k (not (= ?from ?to))) in pre it is.
+; writes: (lcw (road _ _))
+; writes: (kf (not (at b)))
+; plans not: 3
