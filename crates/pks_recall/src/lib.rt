@@ -2,9 +2,9 @@
 #![tactic(auto)]
 
 mod bytes;
+pub mod laws;
 mod leaves;
 mod print;
-pub mod laws;
 pub mod recalling;
 mod states;
 

@@ -40,12 +40,7 @@ fn print_known(p: &Problem<'_>, kf: &Kf, out: &mut Vec<u8>) -> Result<(), AllocE
 }
 
 /// Appends a moment: its number, and what is known of it.
-fn print_moment(
-    p: &Problem<'_>,
-    number: u32,
-    d: &Db,
-    out: &mut Vec<u8>,
-) -> Result<(), AllocError>
+fn print_moment(p: &Problem<'_>, number: u32, d: &Db, out: &mut Vec<u8>) -> Result<(), AllocError>
     ensures { OnOk result (out.new.items ≡ out.old.items ++ moment_text (names_of p.now) (number, five_of d.now)) }
 {
     put(out, b"moment ")?;

@@ -42,7 +42,10 @@ fn refusal_of(alloc: Global, input: &[u8], r: Refusal) -> Result<Vec<u8>, AllocE
 pub fn usage(alloc: Global) -> Result<Vec<u8>, AllocError>
     ensures { IfOk result (λ text. text.items ≡ usage_text modes) }
 {
-    let text = b"usage: pks check | plan DEPTH | exec DEPTH | bench N | recall DEPTH | derive | shared DEPTH\n".to_vec(alloc)?;
+    let text =
+        b"usage: pks check | plan DEPTH | exec DEPTH | bench N | recall DEPTH | derive | shared DEPTH\n".to_vec(
+            alloc,
+        )?;
     Ok(text)
 }
 
