@@ -1,5 +1,5 @@
 -- The text of an add with queries.
-use Rattle.std.proofs.Common.{◌≡◌, ◌≤◌, ℕ, List, [], ◌∷◌, ◌++◌, map, take, length, codes, append_assoc, append-nil, arith, refl, sym, ap, ◌∙◌, subst}
+use Rattle.std.proofs.Common.{◌≡◌, ◌≤◌, ℕ, List, [], ◌∷◌, ◌++◌, map, take, length, codes, append_assoc, append-nil, arith, sym, ap, ◌∙◌}
 use Rattle.std.specs.List.{join_with_byte}
 use Rattle.pks_terms.specs.declared.schema.Query as query
 use Rattle.pks_terms.specs.declared.schema.Adds.{Adds}

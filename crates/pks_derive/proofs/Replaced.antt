@@ -1,16 +1,15 @@
 -- Progression with other adds that have a case.
-use Rattle.std.proofs.Common.{◌≡◌, Bool, true, false, cond, is_some, List, [], ◌∷◌, map, filter, Option, refl, sym, ap, ◌∙◌, subst}
+use Rattle.std.proofs.Common.{◌≡◌, Bool, true, false, cond, is_some, List, [], ◌∷◌, map, filter, refl, sym, ap, ◌∙◌, subst}
 use Rattle.std.specs.List.{list_any}
 use Rattle.pks_terms.specs.Sets.{Each, IsIn, first_of_each}
 use Rattle.pks_terms.specs.Syntax.{Literal}
-use Rattle.pks_terms.specs.Signatures.{Signature}
 use Rattle.pks_terms.specs.Worlds.{World}
 use Rattle.pks_terms.specs.Databases.{Five}
 use Rattle.pks_terms.specs.Meaning.{IsWorld, IsTrueOf}
 use Rattle.pks_terms.specs.Closure.{Outcome, Next}
 use Rattle.pks_terms.specs.Queries.{Plain}
 use Rattle.pks_terms.specs.Actions.{Item, ItemKf, ItemKw, ItemKv, ItemLcw, Add, Schema, Instance, sense_at, applied_to, observed}
-use Rattle.pks_terms.specs.Justified.{Case, given_of, whether_case, item_case, case_of}
+use Rattle.pks_terms.specs.Justified.{given_of, whether_case, item_case, case_of}
 use Rattle.pks_terms.specs.Progress.{progressed, Progress}
 use Rattle.pks_terms.specs.Problems.{Problem, schema_of}
 use Rattle.pks_terms.specs.Typed.{IsTyped, AreJustified}

@@ -1,5 +1,5 @@
 -- Adds that are offered one after another.
-use Rattle.std.specs.Prelude.{Bool, cond, not, ◌&&◌, is_some, List, [], ◌∷◌, ◌++◌, map, Option, Some, None}
+use Rattle.std.specs.Prelude.{cond, not, ◌&&◌, is_some, List, [], ◌∷◌, ◌++◌, Option, Some, None}
 use Rattle.std.specs.List.{list_any}
 use Rattle.pks_terms.specs.declared.schema.Adds.{Adds}
 use Rattle.pks_terms.specs.Actions.{Add, Schema}
