@@ -1,24 +1,24 @@
 -- What an action keeps of closed databases is closed.
-use Rattle.std.proofs.Common.{◌≡◌, ◌⊎◌, ◌&&◌, ◌||◌, ◌==◌, ◌++◌, ℕ, Bool, true, false, not, cond, find, List, [], ◌∷◌, map, filter, filter_map, flat_map, Option, Some, None, option_map, refl, sym, ap, ◌∙◌, subst, inl, inr, ⊎_elim, true≢false}
+use Rattle.std.proofs.Common.{◌≡◌, ◌⊎◌, ◌&&◌, ◌||◌, ◌==◌, ℕ, Bool, true, false, not, cond, find, List, [], ◌∷◌, map, filter, filter_map, flat_map, Option, Some, None, option_map, refl, sym, ap, ◌∙◌, subst, inl, inr, ⊎_elim, true≢false}
 use Rattle.std.specs.List.{list_any, list_all}
-use Rattle.std.proofs.lemmas.Bool.{or_cases, or_left, or_right, or_parts, and_parts, and_from, not-true, not_from_false, false_from_ne_true, not-false, cases_Bool}
+use Rattle.std.proofs.lemmas.Bool.{or_cases, or_left, or_right, or_parts, and_parts, and_from, not-true, not_from_false, not-false}
 use Rattle.std.proofs.lemmas.Option.{none-some, same_Some, option_and_then_some, cond_some}
 use Rattle.pks_terms.specs.Sets.{Each, IsIn, insert_in, set_of, with_others}
 use Rattle.pks_terms.specs.Syntax.{Term, object, Relation, Named, Equality, Literal, Atom, Pattern, negated}
 use Rattle.pks_terms.specs.Orders.{atom_cmp, equation, inequation, literal, in_order}
 use Rattle.pks_terms.specs.Totality.{atom_cmp_total}
 use Rattle.pks_terms.specs.Signatures.{Signature, HasValues, range_of}
-use Rattle.pks_terms.specs.Databases.{Entry, entry_cmp, Five, values_at, normal, some_differ, fits, is_shut_out, is_plain, is_closed_off, holds}
+use Rattle.pks_terms.specs.Databases.{Entry, entry_cmp, Five, normal, some_differ, fits, is_shut_out, is_plain, is_closed_off, holds}
 use Rattle.pks_terms.specs.Closure.{by_value, by_member, by_group, applications_in, is_last_left, by_range, additions, normal_atom, first_clash, IsClosed}
 use Rattle.pks_terms.specs.Saturated.{Within, IsSaturated}
 use Rattle.pks_terms.specs.Moments.{IsInOrder}
 use Rattle.pks_terms.specs.Actions.{Target, Set, Unset, Clear, Assign, Effect}
-use Rattle.pks_terms.specs.Spoiling.{may_fire, some_fixed_differ, is_stable, are_stable, may_be_denied, spoils}
+use Rattle.pks_terms.specs.Spoiling.{may_fire, some_fixed_differ, is_stable, are_stable, spoils}
 use Rattle.pks_terms.specs.Progress.{is_untouched, entry_terms, widened_by, widened, kept_entry}
-use Rattle.pks_terms.proofs.ListLaws.{found_in, any_in, in_map, in_mapped, in_appended, in_flat_mapped, in_filtered, in_filter}
+use Rattle.pks_terms.proofs.ListLaws.{found_in, any_in, in_mapped, in_appended, in_flat_mapped, in_filtered, in_filter}
 use Rattle.pks_terms.proofs.OrderLaws.{atom_cmp_tells, entry_cmp_tells}
 use Rattle.pks_terms.proofs.SetLaws.{inserted_in, in_set_of}
-use Rattle.pks_laws.proofs.Least.{in_left, in_right, in_flat, within_append, within_map, in_filter_mapped, one_value, ranged, holds_grows, additions_within}
+use Rattle.pks_laws.proofs.Least.{in_left, in_right, in_flat, within_append, within_map, in_filter_mapped, holds_grows, additions_within}
 use Rattle.pks_laws.proofs.ClosedAgain.{closed_saturated, closed_fine}
 use Rattle.pks_lasting.proofs.Steps.{all_each, all_of, all_in_order, part_stable, step_unspoiled}
 
@@ -120,7 +120,7 @@ in_cond : {X : Type 0} (b : Bool) (xs : List X) (x : X) → IsIn x (cond b xs []
 in_cond true xs x i = i
 in_cond false xs x i = absurd i
 
-none_from : {X : Type 0} (p : X → Bool) (xs : List X) → ((x : X) → IsIn x xs → p x ≡ true → ⊥) → find p xs ≡ None
+pub none_from : {X : Type 0} (p : X → Bool) (xs : List X) → ((x : X) → IsIn x xs → p x ≡ true → ⊥) → find p xs ≡ None
 none_from p [] h = refl
 none_from {X} p (x ∷ xs) h =
     elim (p x) as (λ b. p x ≡ b → cond b (Some x) (find p xs) ≡ None) [
@@ -128,7 +128,7 @@ none_from {X} p (x ∷ xs) h =
       | false ↦ λ q. none_from p xs (λ y i. h y (inr i))
     ] refl
 
-none_found : {X : Type 0} (p : X → Bool) (xs : List X) → find p xs ≡ None → (x : X) → IsIn x xs → p x ≡ true → ⊥
+pub none_found : {X : Type 0} (p : X → Bool) (xs : List X) → find p xs ≡ None → (x : X) → IsIn x xs → p x ≡ true → ⊥
 none_found p [] h x i t = i
 none_found {X} p (y ∷ ys) h x i t =
     elim (p y) as (λ b. p y ≡ b → cond b (Some y) (find p ys) ≡ None → ⊥) [

@@ -1,17 +1,14 @@
 -- Terms of the same normal form differ from the same terms, so the same effects may hit them.
-use Rattle.std.proofs.Common.{◌≡◌, ◌&&◌, ◌||◌, ◌==◌, ℕ, Bool, true, false, not, cond, is_lt, List, [], ◌∷◌, map, filter, Option, Some, None, refl, sym, ap, ◌∙◌}
+use Rattle.std.proofs.Common.{◌≡◌, ◌&&◌, ◌||◌, ◌==◌, ℕ, Bool, true, false, not, cond, is_lt, List, [], ◌∷◌, map, Option, Some, None, refl, sym, ap, ◌∙◌}
 use Rattle.std.specs.List.{list_any}
-use Rattle.pks_terms.specs.Syntax.{Object, Parameter, Apply, Inner, Term, term_of, Relation, Named, Equality, Literal, Pattern}
-use Rattle.pks_terms.specs.Orders.{term_cmp, term_eq, literal_eq, in_order, literal, inequation, number_of, arguments_of}
-use Rattle.pks_terms.specs.Totality.{term_cmp_total}
+use Rattle.pks_terms.specs.Syntax.{Object, Parameter, Apply, Inner, Term, term_of, Relation, Named, Equality, Literal}
+use Rattle.pks_terms.specs.Orders.{term_cmp, literal_eq, in_order, literal, inequation}
 use Rattle.pks_terms.specs.Signatures.{Signature}
 use Rattle.pks_terms.specs.Databases.{Five, normal, normal_literal, is_known, is_evident, is_plain, differ, some_differ}
 use Rattle.pks_terms.specs.Actions.{Target, Set, Unset, Clear, Assign, Effect}
 use Rattle.pks_terms.specs.Spoiling.{some_fixed_differ, may_fire, may_make_true, may_make_false, may_change, some_may, may_be_changed, may_be_denied}
-use Rattle.pks_terms.proofs.OrderLaws.{term_cmp_tells}
 use Rattle.pks_laws.proofs.Holding.{eqb_comm}
 use Rattle.pks_laws.proofs.Least.{in_order-map}
-use Rattle.pks_laws.proofs.NormalMembers.{eq_turned}
 
 -- the lists are as long as each other, and R holds of each two in the same place
 abbrev pub Related : {X : Type 0} → (X → X → Type 0) → List X → List X → Type 0

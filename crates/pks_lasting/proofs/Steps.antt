@@ -1,11 +1,11 @@
 -- A literal with an application replaced by a value that is kept isn't spoiled where the literal isn't.
-use Rattle.std.proofs.Common.{◌≡◌, ◌&&◌, ◌||◌, ◌==◌, ◌++◌, ℕ, Bool, true, false, not, cond, is_lt, List, [], ◌∷◌, map, filter, Option, Some, None, option_and_then, refl, sym, ap, ◌∙◌, subst, inl, inr, ⊎_elim, true≢false}
+use Rattle.std.proofs.Common.{◌≡◌, ◌||◌, ◌++◌, ℕ, Bool, true, false, not, cond, is_lt, List, [], ◌∷◌, map, filter, Option, Some, None, option_and_then, refl, sym, ap, ◌∙◌, subst, inl, inr, ⊎_elim}
 use Rattle.std.specs.List.{list_all}
 use Rattle.std.specs.Option.{option_map_or}
-use Rattle.std.proofs.lemmas.Bool.{or_parts, and_parts, and_from, not-true, not-false, not_from_false, cases_Bool}
+use Rattle.std.proofs.lemmas.Bool.{or_parts, and_parts, and_from, not-false}
 use Rattle.std.proofs.lemmas.Option.{none-some, same_Some}
 use Rattle.pks_terms.specs.Sets.{IsIn, all_some, one_replaced}
-use Rattle.pks_terms.specs.Syntax.{Object, Parameter, Apply, Inner, Term, term_of, place, object, as_object, Relation, Named, Equality, Literal}
+use Rattle.pks_terms.specs.Syntax.{Object, Parameter, Apply, Inner, Term, term_of, place, as_object, Relation, Named, Equality, Literal}
 use Rattle.pks_terms.specs.Orders.{term_cmp, in_order, literal}
 use Rattle.pks_terms.specs.Signatures.{Signature, HasValues}
 use Rattle.pks_terms.specs.Databases.{Five, values_at, least, applied, inner_normal, normal}
