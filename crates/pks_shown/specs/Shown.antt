@@ -1,0 +1,61 @@
+-- Facts that proofs along a path can come to.
+use Rattle.std.specs.Prelude.{ℕ, suc, ◌≡◌, true, List, [], ◌∷◌, ◌++◌, Some, slice_get}
+use Rattle.pks_terms.specs.Syntax.{Literal}
+use Rattle.pks_terms.specs.Sets.{Each, IsIn}
+use Rattle.pks_terms.specs.Databases.{Entry, Five}
+use Rattle.pks_terms.specs.Closure.{in_sequence}
+use Rattle.pks_terms.specs.Actions.{Instance}
+use Rattle.pks_terms.specs.Problems.{StartKx, Problem}
+use Rattle.pks_terms.specs.Settling.{History}
+use Rattle.pks_terms.specs.Moments.{IsInOrder}
+use Rattle.pks_terms.specs.Proofs.{Fact, FactLit, FactKx, FactLcw, Path, deeds, Line, Proof, nth}
+use Rattle.pks_terms.specs.Accepting.{are_allowed}
+
+-- a line of the proof has the fact at the moment
+pub record HasLine (proof : Proof) (m : ℕ) (f : Fact) : Type 0 where
+  pub number : ℕ
+  pub line : Line
+  pub there : nth proof number ≡ Some line
+  pub moment : line.moment ≡ m
+  pub fact : line.fact ≡ f
+
+-- allowed lines, after which a line has the fact
+pub record Extends (p : Problem) (path : Path) (proof : Proof) (m : ℕ) (f : Fact) : Type 0 where
+  pub more : Proof
+  pub allowed : are_allowed p path (proof ++ more) ≡ true
+  pub has : HasLine (proof ++ more) m f
+
+-- to any allowed lines such lines may be added
+abbrev pub IsShown : Problem → Path → ℕ → Fact → Type 0
+IsShown p path m f = (proof : Proof) → are_allowed p path proof ≡ true → Extends p path proof m f
+
+-- what stands in databases is shown at a moment, the sides of equations in order
+pub record AreShown (p : Problem) (path : Path) (m : ℕ) (d : Five) : Type 0 where
+  pub known : (l : Literal) → IsIn l d.kf → IsShown p path m (FactLit l)
+  pub ordered : (l : Literal) → IsIn l d.kf → IsInOrder l
+  pub groups : (g : List Literal) → IsIn g d.kx → IsShown p path m (FactKx g)
+  pub members : (g : List Literal) → IsIn g d.kx → Each IsInOrder g
+  pub sorted : (g : List Literal) → IsIn g d.kx → in_sequence g ≡ g
+  pub regions : (e : Entry) → IsIn e d.lcw → IsShown p path m (FactLcw e)
+
+-- so along the moments of a history, the first of which is m
+abbrev pub AreShownAlong : Problem → Path → ℕ → Five → List (Instance × Five) → Type 0
+AreShownAlong p path m d [] = AreShown p path m d
+AreShownAlong p path m d (step ∷ steps) = AreShown p path m d × AreShownAlong p path (suc m) step.1 steps
+
+-- the instances of the steps are those of the path from the moment m on
+abbrev pub AreSteps : Path → ℕ → List (Instance × Five) → Type 0
+AreSteps path m [] = Unit {0}
+AreSteps path m (step ∷ steps) = (slice_get (deeds path) m ≡ Some step.0) × AreSteps path (suc m) steps
+
+-- so at all moments of a history along the path
+abbrev pub HistoryShown : Problem → Path → History → Type 0
+HistoryShown p path h = AreSteps path 0 h.steps × AreShownAlong p path 0 h.start h.steps
+
+-- each group of the start stands in sequence
+abbrev pub HasSortedGroups : Problem → Type 0
+HasSortedGroups p = (g : List Literal) → IsIn (StartKx g) p.init → in_sequence g ≡ g
+
+-- the literal is shown, its sides in order
+abbrev pub Good : Problem → Path → ℕ → Literal → Type 0
+Good p path m l = IsShown p path m (FactLit l) × IsInOrder l
