@@ -34,7 +34,7 @@ are_applications (Parameter d) = tt
 are_applications (Apply f ts) = (refl, each_filter (λ u. is_application u ≡ true) is_application (map term_of ts) (λ u i h. h))
 
 -- each element is taken out once
-taken_out : {X : Type 0} (xs : List X) (x : X) → IsIn x xs → (q : X × List X) × IsIn q (with_others xs) × (q.0 ≡ x)
+pub taken_out : {X : Type 0} (xs : List X) (x : X) → IsIn x xs → (q : X × List X) × IsIn q (with_others xs) × (q.0 ≡ x)
 taken_out [] x i = absurd i
 taken_out {X} (y ∷ xs) x (inl e) = ((y, xs), inl refl, e)
 taken_out {X} (y ∷ xs) x (inr i) =
