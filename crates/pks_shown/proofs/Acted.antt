@@ -28,7 +28,8 @@ use Rattle.pks_terms.specs.Reasons.{are_cited_apart, is_barred, are_barred, is_s
 use Rattle.pks_shown.specs.Shown.{Good, IsShown, AreShown}
 use Rattle.pks_shown.proofs.Equal.{Lit, Same, AllSame, evident_shown, same_itself, same_turned, all_replaced, least_shown, map_same, some_all, inner_normal_shown, from_normals, objects_same}
 use Rattle.pks_shown.proofs.Needed.{Needs, needs_nothing, needs_then, needs_and, needs_all, needs_cited, all_at, needs_steady, needs_all_steady, needs_kept}
-use Rattle.pks_shown.proofs.Adding.{literal_ordered, held}
+use Rattle.pks_shown.proofs.Equal.{literal_ordered}
+use Rattle.pks_shown.proofs.Derived.{held}
 use Rattle.pks_shown.proofs.Formed.{form_by, has_itself, form_itself, equal_forms, assignment_among}
 use Rattle.pks_shown.proofs.Stepped.{within, orderly, after_by}
 

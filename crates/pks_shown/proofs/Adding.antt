@@ -18,14 +18,10 @@ use Rattle.pks_terms.specs.Proofs.{Fact, FactLit, FactKx, Path, final_moment, By
 use Rattle.pks_terms.specs.Judging.{Judge, is_cited, are_cited, is_group_that}
 use Rattle.pks_shown.specs.Shown.{AreShown, Good}
 use Rattle.pks_shown.proofs.Growing.{shown_within}
-use Rattle.pks_shown.proofs.Equal.{cited_in, Lit, Same, AllSame, AllSameInner, ordered, all_replaced, same_itself, value_shown, same_applied, objects_same}
-use Rattle.pks_shown.proofs.Derived.{made_ordered, holds_shown}
+use Rattle.pks_shown.proofs.Equal.{literal_ordered, cited_in, Lit, Same, AllSame, AllSameInner, ordered, all_replaced, same_itself, value_shown, same_applied, objects_same}
+use Rattle.pks_shown.proofs.Derived.{made_ordered, held}
 use Rattle.pks_shown.proofs.Needed.{needs_nothing, needs_then, needs_all, needs_cited, negated_ordered, all_at}
 use Rattle.pks_proof.proofs.Groups.{this_in, other_in}
-
-pub literal_ordered : (r : Relation) (ts : List Term) (b : Bool) → IsInOrder (literal r ts b)
-unfolding literal
-literal_ordered r ts b = ap (λ (l : Literal). l.arguments) (ordered r ts b)
 
 -- an application that occurs in a term is one
 pub are_applications : (t : Term) → Each (λ u. is_application u ≡ true) (applications_in t)
@@ -129,9 +125,6 @@ module _ (p : Problem) (path : Path) (m : ℕ) (within : m ≤ final_moment path
 
   -- ---- groups
 
-  pub held : (l : Literal) → IsInOrder l → holds p.signature d l ≡ true → L l
-  held l o h = subst L (made_ordered l o) (holds_shown p path m within d shown l h)
-
   by_member_shown : (g : List Literal) → IsIn g d.kx → (q : Literal × List Literal) → IsIn q (with_others g) → Each G (by_member p.signature d q)
   by_member_shown g i q k =
       each_append G (cond (list_all (λ m. holds p.signature d (negated m)) q.1) (q.0 ∷ []) []) (cond (holds p.signature d q.0) (map negated q.1) []) only others
@@ -143,7 +136,7 @@ module _ (p : Problem) (path : Path) (m : ℕ) (within : m ≤ final_moment path
       only = elim (list_all (λ m. holds p.signature d (negated m)) q.1) as (λ b. list_all (λ m. holds p.signature d (negated m)) q.1 ≡ b → Each G (cond b (q.0 ∷ []) [])) [
         | false ↦ λ e. tt
         | true ↦ λ e.
-            let n = needs_all p path m (λ j l. is_cited j m (negated l)) q.1 (λ l x. needs_cited p path m (negated l) (held (negated l) (negated_ordered l (member l (other_in g q k l x))) (all_at (λ m. holds p.signature d (negated m)) q.1 e l x))) in
+            let n = needs_all p path m (λ j l. is_cited j m (negated l)) q.1 (λ l x. needs_cited p path m (negated l) (held p path m within d shown (negated l) (negated_ordered l (member l (other_in g q k l x))) (all_at (λ m. holds p.signature d (negated m)) q.1 e l x))) in
             let fs : List Fact = FactKx g ∷ n.facts in (
               (
                 shown_within p path fs m (shown.groups g i, n.so) (FactLit q.0) ByOnly within (λ j f.
@@ -166,7 +159,7 @@ module _ (p : Problem) (path : Path) (m : ℕ) (within : m ≤ final_moment path
         | true ↦ λ e. each_map G negated q.1 (each_of (λ l. G (negated l)) q.1 (λ l x.
             let r = taken_other g q k l x in
             let fs : List Fact = FactKx g ∷ FactLit q.0 ∷ [] in (
-              shown_within p path fs m (shown.groups g i, (held q.0 (member q.0 (this_in g q k)) e, tt)) (FactLit (negated l)) ByOthers within (λ j f.
+              shown_within p path fs m (shown.groups g i, (held p path m within d shown q.0 (member q.0 (this_in g q k)) e, tt)) (FactLit (negated l)) ByOthers within (λ j f.
                   ap (list_any (is_group_that (λ g. list_any (λ q'. literal_eq (negated l) (negated q'.0) && list_any (is_cited j m) q'.1) (with_others g)))) f
                   ∙ or_left (list_any (λ q'. literal_eq (negated l) (negated q'.0) && list_any (is_cited j m) q'.1) (with_others g)) _
                   (any_in (λ q'. literal_eq (negated l) (negated q'.0) && list_any (is_cited j m) q'.1) (with_others g) r.0 r.1
@@ -193,7 +186,7 @@ module _ (p : Problem) (path : Path) (m : ℕ) (within : m ≤ final_moment path
       let n = needs_all p path m (λ j o. (o == e) || is_cited j m (inequation t (object o))) objects (λ o x.
       ⊎_elim
       (λ s. needs_nothing p path m (λ j. ((o == e) || is_cited j m (inequation t (object o))) ≡ true) (λ j. or_left (o == e) _ s))
-      (λ s. needs_then p path m (λ j. is_cited j m (inequation t (object o)) ≡ true) (λ j. ((o == e) || is_cited j m (inequation t (object o))) ≡ true) (λ j c. or_right (o == e) _ c) (needs_cited p path m (inequation t (object o)) (held (inequation t (object o)) (literal_ordered Equality (t ∷ object o ∷ []) false) s)))
+      (λ s. needs_then p path m (λ j. is_cited j m (inequation t (object o)) ≡ true) (λ j. ((o == e) || is_cited j m (inequation t (object o))) ≡ true) (λ j c. or_right (o == e) _ c) (needs_cited p path m (inequation t (object o)) (held p path m within d shown (inequation t (object o)) (literal_ordered Equality (t ∷ object o ∷ []) false) s)))
       (or_cases (o == e) _ (all_at (λ o. (o == e) || holds p.signature d (inequation t (object o))) objects h o x))) in (
         shown_within p path n.facts m n.so (FactLit (equation t (object e))) ByRange within (λ j f.
             subst (λ os. (list_any (λ x. x == e) os && others_ruled_out j m t e os) ≡ true) (range_like p.signature f' ts) (and_from _ _ (any_in (λ x. x == e) objects e i (eq-eqb e e refl)) (n.then j n.facts f (λ x y. y)))),

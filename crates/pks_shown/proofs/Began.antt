@@ -22,7 +22,8 @@ use Rattle.pks_terms.specs.Reasons.{said_by, says_side}
 use Rattle.pks_shown.specs.Shown.{Good, IsShown, AreShown, HasSortedGroups}
 use Rattle.pks_shown.proofs.Growing.{shown_within}
 use Rattle.pks_shown.proofs.Needed.{Needs, needs_all, needs_cited, all_at, negated_ordered}
-use Rattle.pks_shown.proofs.Adding.{literal_ordered, held}
+use Rattle.pks_shown.proofs.Equal.{literal_ordered}
+use Rattle.pks_shown.proofs.Derived.{held}
 use Rattle.pks_shown.proofs.Gathered.{all_good}
 
 -- ---- initial items

@@ -182,3 +182,7 @@ module _ (p : Problem) (path : Path) (m : ℕ) (within : m ≤ final_moment path
   pub holds_shown : (l : Literal) → holds p.signature d l ≡ true → L (literal l.relation l.arguments l.positive)
   unfolding holds
   holds_shown l h = ⊎_elim (plain_shown l) (closed_off_shown l.relation l.arguments l.positive) (or_cases (is_plain p.signature d.kf l) _ h)
+
+  -- a literal whose sides are in order is shown where it holds
+  pub held : (l : Literal) → IsInOrder l → holds p.signature d l ≡ true → L l
+  held l o h = subst L (made_ordered l o) (holds_shown l h)

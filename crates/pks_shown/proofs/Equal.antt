@@ -9,6 +9,7 @@ use Rattle.pks_terms.specs.Syntax.{Form, Object, Parameter, Apply, Inner, Term, 
 use Rattle.pks_terms.specs.Orders.{term_cmp, term_eq, in_order, literal, equation}
 use Rattle.pks_terms.specs.Databases.{values_at, least, inner_normal, normal, is_evident}
 use Rattle.pks_terms.specs.Problems.{Problem}
+use Rattle.pks_terms.specs.Moments.{IsInOrder}
 use Rattle.pks_terms.proofs.ListLaws.{any_in}
 use Rattle.pks_laws.proofs.Values.{least_in}
 use Rattle.pks_laws.proofs.Least.{in_order_swapped, literal_eq_itself, term_eq_itself, value_literal}
@@ -56,6 +57,10 @@ in_order_twice Equality (t ∷ u ∷ v ∷ ts) = refl
 pub ordered : (r : Relation) (ts : List Term) (b : Bool) → literal r (in_order r ts) b ≡ literal r ts b
 unfolding literal
 ordered r ts b = λ i. record { relation = r; arguments = in_order_twice r ts i; positive = b }
+
+pub literal_ordered : (r : Relation) (ts : List Term) (b : Bool) → IsInOrder (literal r ts b)
+unfolding literal
+literal_ordered r ts b = ap (λ (l : Literal). l.arguments) (ordered r ts b)
 
 pub equation_turned : (t u : Term) → equation t u ≡ equation u t
 unfolding literal

@@ -23,7 +23,8 @@ use Rattle.pks_proof.proofs.Judged.{fact_eq_same}
 use Rattle.pks_shown.specs.Shown.{AreShown}
 use Rattle.pks_shown.proofs.Equal.{Same, AllSame, AllSameInner, itself, same_itself, same_turned, same_through, same_applied, value_shown}
 use Rattle.pks_shown.proofs.Needed.{Needs, needs_nothing, needs_then, needs_and, needs_cited, AreOrderly, needs_steady, needs_all_steady}
-use Rattle.pks_shown.proofs.Adding.{values_same, literal_ordered}
+use Rattle.pks_shown.proofs.Adding.{values_same}
+use Rattle.pks_shown.proofs.Equal.{literal_ordered}
 
 -- a cited literal that passes
 cited_some : (j : Judge) (m : ℕ) (l : Literal) (q : Literal → Bool) → q l ≡ true → is_cited j m l ≡ true → some_literal j m q ≡ true

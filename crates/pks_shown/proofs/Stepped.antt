@@ -24,7 +24,8 @@ use Rattle.pks_shown.proofs.Growing.{shown_step}
 use Rattle.pks_shown.proofs.Equal.{cited_in, Lit, same_itself, same_turned, all_replaced}
 use Rattle.pks_shown.proofs.Derived.{differ_shown}
 use Rattle.pks_shown.proofs.Needed.{Needs, needs_nothing, needs_then, needs_and, needs_all, needs_cited, negated_ordered, all_at, AreOrderly, misses_true, misses_false, misses_change, needs_barred, needs_kept}
-use Rattle.pks_shown.proofs.Adding.{literal_ordered, held}
+use Rattle.pks_shown.proofs.Equal.{literal_ordered}
+use Rattle.pks_shown.proofs.Derived.{held}
 use Rattle.pks_shown.proofs.Formed.{SameTarget, FormOf, forms_told}
 
 -- conditions with arguments put in have their sides in order
