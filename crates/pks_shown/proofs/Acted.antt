@@ -31,6 +31,7 @@ use Rattle.pks_shown.proofs.Needed.{Needs, needs_nothing, needs_then, needs_and,
 use Rattle.pks_shown.proofs.Equal.{literal_ordered}
 use Rattle.pks_shown.proofs.Derived.{held}
 use Rattle.pks_shown.proofs.Formed.{form_by, has_itself, form_itself, equal_forms, assignment_among}
+use Rattle.pks_shown.proofs.NormalForms.{inners_of, normal_of, normals_of}
 use Rattle.pks_shown.proofs.Stepped.{within, orderly, after_by}
 
 -- arguments put into an argument, taken as a term
@@ -68,44 +69,14 @@ module _ (p : Problem) (path : Path) (m : ℕ) (next : suc m ≤ final_moment pa
 
   -- ---- normal forms are forms
 
-  inner_normal_formed : (a : Inner) → N (λ j. are_equal_arguments j m a (inner_normal d.kf a) ≡ true)
-  inner_normal_formed (Object e) = needs_nothing p path m (λ j. are_equal_arguments j m (Object e) (Object e) ≡ true) (λ j. or_left _ _ (term_eq_itself (Object e) (Object e) refl))
-  inner_normal_formed (Parameter e) = needs_nothing p path m (λ j. are_equal_arguments j m (Parameter e) (Parameter e) ≡ true) (λ j. or_left _ _ (term_eq_itself (Parameter e) (Parameter e) refl))
-  inner_normal_formed (Apply f ds) =
-      let all : all_some (map Some (map (λ d. d) ds)) ≡ Some ds = ap (λ es. all_some (map Some es)) (map_same p path m wi d.kf shown.known ds) ∙ some_all p path m wi d.kf shown.known ds in
-      subst (λ o. N (λ j. are_equal_arguments j m (Apply f ds) (option_map_or Object (option_and_then (λ es. least (values_at d.kf f es)) o) (Apply f (map (λ d. d) ds))) ≡ true)) (sym all)
-      (elim (least (values_at d.kf f ds)) as (λ o. least (values_at d.kf f ds) ≡ o → N (λ j. are_equal_arguments j m (Apply f ds) (option_map_or Object o (Apply f (map (λ d. d) ds))) ≡ true)) [
-        | None ↦ λ q. needs_nothing p path m (λ j. are_equal_arguments j m (Apply f ds) (Apply f (map (λ d. d) ds)) ≡ true) (λ j. or_left _ _ (term_eq_itself (place f ds) (place f (map (λ d. d) ds)) (ap (place f) (sym (map_same p path m wi d.kf shown.known ds)))))
-        | Some e ↦ λ q. needs_then p path m (λ j. is_cited j m (equation (place f ds) (object e)) ≡ true) (λ j. are_equal_arguments j m (Apply f ds) (Object e) ≡ true) (λ j c. or_right (term_eq (place f ds) (object e)) _ c) (needs_cited p path m (equation (place f ds) (object e)) (least_shown p path m wi d.kf shown.known f ds e q))
-      ] refl)
-
-  pub inners_normal_formed : (ts : List Inner) → N (λ j. pointwise (are_equal_arguments j m) ts (map (inner_normal d.kf) ts) ≡ true)
-  inners_normal_formed [] = needs_nothing p path m (λ j. pointwise (are_equal_arguments j m) [] [] ≡ true) (λ j. refl)
-  inners_normal_formed (t ∷ ts) = needs_and p path m (λ j. are_equal_arguments j m t (inner_normal d.kf t)) (λ j. pointwise (are_equal_arguments j m) ts (map (inner_normal d.kf) ts)) (inner_normal_formed t) (inners_normal_formed ts)
+  inners_normal_formed : (ts : List Inner) → N (λ j. pointwise (are_equal_arguments j m) ts (map (inner_normal d.kf) ts) ≡ true)
+  inners_normal_formed ts = inners_of p.signature d (IsShown p path m) m (held p path m wi d shown) ts
 
   pub normal_formed : (t : Term) → N (λ j. is_form j m t (normal d.kf t) ≡ true)
-  unfolding normal
-  normal_formed (Object e) = needs_nothing p path m (λ j. is_form j m (Object e) (Object e) ≡ true) (λ j. form_itself j m (Object e))
-  normal_formed (Parameter e) = needs_nothing p path m (λ j. is_form j m (Parameter e) (Parameter e) ≡ true) (λ j. form_itself j m (Parameter e))
-  normal_formed (Apply f ts) =
-      let us : List Inner = map (inner_normal d.kf) ts in
-      let has : N (λ j. has_arguments j m (Apply f ts) (Apply f us) ≡ true) = needs_then p path m (λ j. pointwise (are_equal_arguments j m) ts us ≡ true) (λ j. has_arguments j m (Apply f ts) (Apply f us) ≡ true) (λ j c. and_from _ _ (eq-eqb f f refl) c) (inners_normal_formed ts) in
-      let form = needs_then p path m (λ j. has_arguments j m (Apply f ts) (Apply f us) ≡ true) (λ j. is_form j m (Apply f ts) (Apply f us) ≡ true) (λ j c. or_left _ _ c) has in
-      elim (all_some (map as_object us)) as (λ o. all_some (map as_object us) ≡ o → N (λ j. is_form j m (Apply f ts) (option_map_or Object (option_and_then (λ es. least (values_at d.kf f es)) o) (Apply f us)) ≡ true)) [
-        | None ↦ λ q. form
-        | Some ds ↦ λ q. elim (least (values_at d.kf f ds)) as (λ o. least (values_at d.kf f ds) ≡ o → N (λ j. is_form j m (Apply f ts) (option_map_or Object o (Apply f us)) ≡ true)) [
-          | None ↦ λ k. form
-          | Some e ↦ λ k.
-              let s : Same p path m wi (Apply f us) (object e) = subst (λ vs. Same p path m wi (Apply f vs) (object e)) (sym (objects_same p path m wi d.kf shown.known us ds q)) (least_shown p path m wi d.kf shown.known f ds e k) in
-              needs_then p path m (λ j. (has_arguments j m (Apply f ts) (Apply f us) && is_equation j m (Apply f us) (object e)) ≡ true) (λ j. is_form j m (Apply f ts) (object e) ≡ true)
-              (λ j c. let b = and_parts (has_arguments j m (Apply f ts) (Apply f us)) _ c in form_by j m (Apply f ts) (Apply f us) (object e) (object e) b.0 (has_itself j m (object e)) b.1)
-              (needs_and p path m (λ j. has_arguments j m (Apply f ts) (Apply f us)) (λ j. is_equation j m (Apply f us) (object e)) has (needs_cited p path m (equation (Apply f us) (object e)) s))
-        ] refl
-      ] refl
+  normal_formed t = normal_of p.signature d (IsShown p path m) m (held p path m wi d shown) t
 
-  pub normals_formed : (ts : List Term) → N (λ j. are_forms j m ts (map (normal d.kf) ts) ≡ true)
-  normals_formed [] = needs_nothing p path m (λ j. are_forms j m [] [] ≡ true) (λ j. refl)
-  normals_formed (t ∷ ts) = needs_and p path m (λ j. is_form j m t (normal d.kf t)) (λ j. are_forms j m ts (map (normal d.kf) ts)) (normal_formed t) (normals_formed ts)
+  normals_formed : (ts : List Term) → N (λ j. are_forms j m ts (map (normal d.kf) ts) ≡ true)
+  normals_formed ts = normals_of p.signature d (IsShown p path m) m (held p path m wi d shown) ts
 
   -- ---- what is given is shown
 

@@ -94,7 +94,7 @@ module _ (p : Problem) (path : Path) (m : ℕ) (within : m ≤ final_moment path
   values_same f ts =
       elim (all_some (map as_object ts)) as (λ o. all_some (map as_object ts) ≡ o → Each (λ e. Same p path m within (Apply f ts) (object e)) (option_map_or (values_at d.kf f) o [])) [
         | None ↦ λ q. tt
-        | Some ds ↦ λ q. each_of (λ e. Same p path m within (Apply f ts) (object e)) (values_at d.kf f ds) (λ e i. subst (λ vs. Same p path m within (Apply f vs) (object e)) (sym (objects_same p path m within d.kf shown.known ts ds q)) (value_shown p path m within d.kf shown.known f ds e i))
+        | Some ds ↦ λ q. each_of (λ e. Same p path m within (Apply f ts) (object e)) (values_at d.kf f ds) (λ e i. subst (λ vs. Same p path m within (Apply f vs) (object e)) (sym (objects_same ts ds q)) (value_shown p path m within d.kf shown.known f ds e i))
       ] refl
 
   term_steps_same : (t : Term) → Each (λ u. Same p path m within t u) (term_steps d.kf t)

@@ -66,6 +66,26 @@ pub equation_turned : (t u : Term) → equation t u ≡ equation u t
 unfolding literal
 equation_turned t u = λ i. record { relation = Equality; arguments = in_order_swapped t u i; positive = true }
 
+-- ---- objects as terms
+
+pub objects_same : {A : Type 0} (ts : List (Form A)) (ds : List ℕ) → all_some (map as_object ts) ≡ Some ds → ts ≡ map Object ds
+objects_same [] ds h = ap (map Object) (Rattle.std.proofs.lemmas.Option.same_Some [] ds h)
+objects_same {A} (Object d ∷ ts) ds h =
+    elim (all_some (map as_object ts)) as (λ o. all_some (map as_object ts) ≡ o → ◌≡◌ {A = Option (List ℕ)} (elim o [ None ↦ None | Some ys ↦ Some (d ∷ ys) ]) (Some ds) → Object d ∷ ts ≡ map Object ds) [
+      | None ↦ λ q k. absurd (Rattle.std.proofs.lemmas.Option.none-some ds k)
+      | Some es ↦ λ q k. (λ i. Object d ∷ objects_same ts es q i) ∙ ap (map Object) (Rattle.std.proofs.lemmas.Option.same_Some (d ∷ es) ds k)
+    ] refl h
+objects_same (Parameter d ∷ ts) ds h = absurd (Rattle.std.proofs.lemmas.Option.none-some ds h)
+objects_same (Apply f us ∷ ts) ds h = absurd (Rattle.std.proofs.lemmas.Option.none-some ds h)
+
+pub map_same : (ds : List ℕ) → map (λ d. d) ds ≡ ds
+map_same [] = refl
+map_same (d ∷ ds) = λ i. d ∷ map_same ds i
+
+pub some_all : (ds : List ℕ) → all_some (map Some ds) ≡ Some ds
+some_all [] = refl
+some_all (d ∷ ds) = ap (λ o. elim o [ None ↦ None | Some ys ↦ Some (d ∷ ys) ]) (some_all ds)
+
 -- one term replaced in a literal
 module _ (j : Judge) (m : ℕ) where
   either : (r : Relation) (ts us : List Term) → swaps_terms j m ts us ≡ true → (swaps_terms j m (in_order r ts) (in_order r us) || swaps_terms j m (in_order r ts) (turned r (in_order r us))) ≡ true
@@ -230,29 +250,11 @@ module _ (p : Problem) (path : Path) (m : ℕ) (within : m ≤ final_moment path
     unfolding literal term_cmp
     value_shown f ds e i = known (equation (place f ds) (object e)) (value_literal kf f ds e i)
 
-    pub objects_same : {A : Type 0} (ts : List (Form A)) (ds : List ℕ) → all_some (map as_object ts) ≡ Some ds → ts ≡ map Object ds
-    objects_same [] ds h = ap (map Object) (Rattle.std.proofs.lemmas.Option.same_Some [] ds h)
-    objects_same {A} (Object d ∷ ts) ds h =
-        elim (all_some (map as_object ts)) as (λ o. all_some (map as_object ts) ≡ o → ◌≡◌ {A = Option (List ℕ)} (elim o [ None ↦ None | Some ys ↦ Some (d ∷ ys) ]) (Some ds) → Object d ∷ ts ≡ map Object ds) [
-          | None ↦ λ q k. absurd (Rattle.std.proofs.lemmas.Option.none-some ds k)
-          | Some es ↦ λ q k. (λ i. Object d ∷ objects_same ts es q i) ∙ ap (map Object) (Rattle.std.proofs.lemmas.Option.same_Some (d ∷ es) ds k)
-        ] refl h
-    objects_same (Parameter d ∷ ts) ds h = absurd (Rattle.std.proofs.lemmas.Option.none-some ds h)
-    objects_same (Apply f us ∷ ts) ds h = absurd (Rattle.std.proofs.lemmas.Option.none-some ds h)
-
     abbrev InValues : ℕ → List ℕ → ℕ → Type 0
     InValues f ds e = IsIn e (values_at kf f ds)
 
     pub least_shown : (f : ℕ) (ds : List ℕ) (e : ℕ) → least (values_at kf f ds) ≡ Some e → Same (place f ds) (object e)
     least_shown f ds e h = value_shown f ds e (least_in (InValues f ds) (values_at kf f ds) e (Rattle.pks_terms.proofs.ListLaws.each_of (InValues f ds) (values_at kf f ds) (λ x i. i)) h)
-
-    pub map_same : (ds : List ℕ) → map (λ d. d) ds ≡ ds
-    map_same [] = refl
-    map_same (d ∷ ds) = λ i. d ∷ map_same ds i
-
-    pub some_all : (ds : List ℕ) → all_some (map Some ds) ≡ Some ds
-    some_all [] = refl
-    some_all (d ∷ ds) = ap (λ o. elim o [ None ↦ None | Some ys ↦ Some (d ∷ ys) ]) (some_all ds)
 
     pub inner_normal_shown : (t : Inner) → Same (term_of t) (term_of (inner_normal kf t))
     inner_normal_shown (Object d) = same_itself (Object d)
