@@ -4,16 +4,16 @@ use Rattle.std.specs.List.{list_any, list_all}
 use Rattle.std.specs.Option.{option_map_or}
 use Rattle.std.proofs.lemmas.Bool.{and_from, eq-eqb}
 use Rattle.std.proofs.lemmas.Option.{none-some, same_Some}
-use Rattle.pks_terms.specs.Sets.{Each, IsIn, with_others, added, insert_in}
+use Rattle.pks_terms.specs.Sets.{Each, IsIn, IsOrdered, with_others, added, insert_in}
 use Rattle.pks_terms.specs.Syntax.{Term, object, Equality, Literal, Pattern, negated}
-use Rattle.pks_terms.specs.Orders.{literal_cmp, conj_cmp, literal_eq, equation}
-use Rattle.pks_terms.specs.Totality.{literal_cmp_total, conj_cmp_total, entry_cmp_total}
-use Rattle.pks_terms.specs.Databases.{entry_cmp, Five, holds}
-use Rattle.pks_terms.specs.Problems.{Start, StartKf, StartKw, StartKv, StartKx, StartLcw, known_start, group_start, region_start, initial_entry, Problem, initial}
+use Rattle.pks_terms.specs.Orders.{literal_cmp, conj_cmp, atom_cmp, literal_eq, equation}
+use Rattle.pks_terms.specs.Totality.{literal_cmp_total, conj_cmp_total, atom_cmp_total, entry_cmp_total}
+use Rattle.pks_terms.specs.Databases.{Entry, entry_cmp, Five, holds}
+use Rattle.pks_terms.specs.Problems.{Start, StartKf, StartKw, StartKv, StartKx, StartLcw, known_start, group_start, region_start, atom_on, initial_entry, Problem, initial}
 use Rattle.pks_terms.specs.Branching.{Choice, BranchOn, CasesOn, Side, AsTrue, AsFalse, Is, denials, assumed_formula, assumed}
 use Rattle.pks_terms.proofs.ListLaws.{each_in, each_of, each_append, each_added, each_insert_in, in_mapped, any_in}
-use Rattle.pks_terms.proofs.OrderLaws.{literal_cmp_tells, conj_cmp_tells, entry_cmp_tells}
-use Rattle.pks_terms.proofs.SetLaws.{in_set_of}
+use Rattle.pks_terms.proofs.OrderLaws.{literal_cmp_tells, conj_cmp_tells, atom_cmp_tells, entry_cmp_tells}
+use Rattle.pks_terms.proofs.SetLaws.{ordered_set_of, in_set_of}
 use Rattle.pks_terms.specs.Moments.{IsInOrder, AreInOrder}
 use Rattle.pks_laws.proofs.Least.{literal_eq_itself, in_filter_mapped}
 use Rattle.pks_terms.specs.Proofs.{Fact, FactLit, FactKx, FactLcw, Path, final_moment, Taking, takings, nth, ByGiven, BySide}
@@ -95,6 +95,9 @@ module _ (p : Problem) (path : Path) where
         let r = in_mapped (initial_entry (initial p).kf) (filter_map region_start p.init) e (in_set_of entry_cmp_total entry_cmp_tells (map (initial_entry (initial p).kf) (filter_map region_start p.init)) e i) in
         let q = in_filter_mapped region_start p.init r.0 r.1 in
         given_shown q.0 q.1 (FactLcw e) (fact_region q.0 r.0 q.2 ∙ ap (λ x. Some (FactLcw x)) r.2) (equal_itself entry_cmp entry_cmp_total e);
+    listed = λ e i.
+        let r = in_mapped (initial_entry (initial p).kf) (filter_map region_start p.init) e (in_set_of entry_cmp_total entry_cmp_tells (map (initial_entry (initial p).kf) (filter_map region_start p.init)) e i) in
+        subst (λ (x : Entry). IsOrdered atom_cmp x.listed) r.2 (ordered_set_of atom_cmp_total atom_cmp_tells (filter_map (atom_on r.0.predicate) (initial p).kf));
   }
 
   -- ---- sides
@@ -158,7 +161,7 @@ module _ (p : Problem) (path : Path) where
         (by_side (BranchOn c) AsTrue t l (Rattle.pks_shown.proofs.Needed.needs_nothing p path m (λ j. says_side j m (BranchOn c) AsTrue l ≡ true) (λ j. any_in (literal_eq l) c l i (literal_eq_itself l l refl))), each_in IsInOrder c l o i))
 
     same_sets : (kf : List Literal) (kw : List (List Literal)) (kv : List Term) → ((l : Literal) → IsIn l kf → Good p path m l) → AreShown p path m (record { kf = kf; kw = kw; kv = kv; kx = d.kx; lcw = d.lcw })
-    same_sets kf kw kv f = record { known = λ l i. (f l i).0; ordered = λ l i. (f l i).1; groups = shown.groups; members = shown.members; sorted = shown.sorted; regions = shown.regions }
+    same_sets kf kw kv f = record { known = λ l i. (f l i).0; ordered = λ l i. (f l i).1; groups = shown.groups; members = shown.members; sorted = shown.sorted; regions = shown.regions; listed = shown.listed }
 
     pub side_shown : (c : Choice) (side : Side) → IsTaken m c side → ((b : List Literal) → c ≡ BranchOn b → Each IsInOrder b) → AreShown p path m (assumed p.signature d c side)
     unfolding assumed

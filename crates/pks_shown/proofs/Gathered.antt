@@ -35,6 +35,7 @@ module _ (p : Problem) (path : Path) where
         members = s.members;
         sorted = s.sorted;
         regions = s.regions;
+        listed = s.listed;
       }
 
   pub round_shown : (m : ℕ) → m ≤ final_moment path → (d : Five) → AreShown p path m d → AreShown p path m (round p.signature d)

@@ -1,7 +1,8 @@
 -- Facts that proofs along a path can come to.
 use Rattle.std.specs.Prelude.{ℕ, suc, ◌≡◌, true, List, [], ◌∷◌, ◌++◌, Some, slice_get}
 use Rattle.pks_terms.specs.Syntax.{Literal}
-use Rattle.pks_terms.specs.Sets.{Each, IsIn}
+use Rattle.pks_terms.specs.Sets.{Each, IsIn, IsOrdered}
+use Rattle.pks_terms.specs.Orders.{atom_cmp}
 use Rattle.pks_terms.specs.Databases.{Entry, Five}
 use Rattle.pks_terms.specs.Closure.{in_sequence}
 use Rattle.pks_terms.specs.Actions.{Instance}
@@ -37,6 +38,7 @@ pub record AreShown (p : Problem) (path : Path) (m : ℕ) (d : Five) : Type 0 wh
   pub members : (g : List Literal) → IsIn g d.kx → Each IsInOrder g
   pub sorted : (g : List Literal) → IsIn g d.kx → in_sequence g ≡ g
   pub regions : (e : Entry) → IsIn e d.lcw → IsShown p path m (FactLcw e)
+  pub listed : (e : Entry) → IsIn e d.lcw → IsOrdered atom_cmp e.listed
 
 -- so along the moments of a history, the first of which is m
 abbrev pub AreShownAlong : Problem → Path → ℕ → Five → List (Instance × Five) → Type 0
