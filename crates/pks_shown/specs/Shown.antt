@@ -7,9 +7,12 @@ use Rattle.pks_terms.specs.Databases.{Entry, Five}
 use Rattle.pks_terms.specs.Closure.{in_sequence}
 use Rattle.pks_terms.specs.Actions.{Instance}
 use Rattle.pks_terms.specs.Problems.{StartKx, Problem}
-use Rattle.pks_terms.specs.Settling.{History}
+use Rattle.pks_terms.specs.Settling.{History, last_moment, At}
+use Rattle.pks_terms.specs.Branching.{instances, IsMember}
+use Rattle.pks_terms.specs.Trees.{Acts, Takes}
+use Rattle.pks_laws.specs.OfSignature.{IsSideOf}
 use Rattle.pks_terms.specs.Moments.{IsInOrder}
-use Rattle.pks_terms.specs.Proofs.{Fact, FactLit, FactKx, FactLcw, Path, deeds, Line, Proof, nth}
+use Rattle.pks_terms.specs.Proofs.{Fact, FactLit, FactKx, FactLcw, Went, Took, Path, deeds, Line, Proof, nth}
 use Rattle.pks_terms.specs.Accepting.{are_allowed}
 
 -- a line of the proof has the fact at the moment
@@ -61,3 +64,9 @@ HasSortedGroups p = (g : List Literal) → IsIn (StartKx g) p.init → in_sequen
 -- the literal is shown, its sides in order
 abbrev pub Good : Problem → Path → ℕ → Literal → Type 0
 Good p path m l = IsShown p path m (FactLit l) × IsInOrder l
+
+-- from the first history the path leads to the second: each action is a choice at the last moment, and each side is one of a choice there
+abbrev pub Leads : Problem → History → Path → History → Type 0
+Leads p h [] g = h ≡ g
+Leads p h (Went i ∷ rest) g = IsIn i (instances p (last_moment h)) × ((k : History) × Acts p h i (At k) × Leads p k rest g)
+Leads p h (Took c side ∷ rest) g = IsMember (last_moment h) c × IsSideOf p.signature c side × ((k : History) × Takes p h c side (At k) × Leads p k rest g)

@@ -1,17 +1,19 @@
 //! The laws over the definitions, each the clause of a function that does nothing.
 
-ghost use Rattle.std.specs.Prelude.{◌≡◌, ◌≤◌, ◌+◌, ℕ, true, Some, slice_get};
+ghost use Rattle.std.specs.Prelude.{◌≡◌, ◌≤◌, ◌+◌, ℕ, true, [], Some, slice_get};
 ghost use Rattle.pks_terms.specs.Syntax.{Literal};
 ghost use Rattle.pks_terms.specs.Databases.{Five, holds};
 ghost use Rattle.pks_terms.specs.Sets.{Each};
 ghost use Rattle.pks_terms.specs.Actions.{Instance};
-ghost use Rattle.pks_terms.specs.Closure.{rounds};
+ghost use Rattle.pks_terms.specs.Closure.{rounds, Next, Closes};
 ghost use Rattle.pks_terms.specs.Problems.{Problem, initial};
-ghost use Rattle.pks_terms.specs.Settling.{History, forward, backward, settle_rounds};
+ghost use Rattle.pks_terms.specs.Settling.{History, last_moment, forward, backward, settle_rounds};
+ghost use Rattle.pks_terms.specs.Typed.{AllJustified};
+ghost use Rattle.pks_terms.specs.Valid.{IsValid};
 ghost use Rattle.pks_terms.specs.Moments.{IsInOrder, AreInOrder};
 ghost use Rattle.pks_terms.specs.Proofs.{FactLit, Path, deeds, final_moment, Proof};
 ghost use Rattle.pks_terms.specs.Accepting.{accepts};
-ghost use Rattle.pks_shown.specs.Shown.{IsShown, AreShown, Good, HasSortedGroups, HistoryShown};
+ghost use Rattle.pks_shown.specs.Shown.{IsShown, AreShown, Good, HasSortedGroups, HistoryShown, Leads};
 
 /// A literal that is shown at the last moment has an accepted proof.
 pub fn what_is_shown_has_a_proof()
@@ -46,4 +48,9 @@ pub fn next_moment_is_shown()
 /// What it gives the moment before is shown there.
 pub fn moment_before_is_shown()
     ensures { (p : Problem) (path : Path) (m : ℕ) (i : Instance) (d after : Five) → m + 1 ≤ final_moment path → slice_get (deeds path) m ≡ Some i → AreShown p path m d → AreShown p path (m + 1) after → Each (Good p path m) (backward p i d after) }
+{}
+
+/// Each literal that holds at the end of a path, which leads there from the closed start of a valid problem whose adds are justified, has an accepted proof.
+pub fn what_is_derived_has_a_proof()
+    ensures { (p : Problem) (path : Path) (d : Five) (h : History) (l : Literal) → IsValid p → AllJustified p → Closes p.signature (initial p) (Next d) → Leads p (record { start = d; steps = [] }) path h → IsInOrder l → holds p.signature (last_moment h) l ≡ true → (proof : Proof) × (accepts p path proof l ≡ true) }
 {}
