@@ -1,6 +1,6 @@
 //! The laws over the definitions, each the clause of a function that does nothing.
 
-ghost use Rattle.std.specs.Prelude.{◌≡◌, ◌≤◌, ◌+◌, ℕ, true, [], Some, slice_get};
+ghost use Rattle.std.specs.Prelude.{◌≡◌, ◌≤◌, ◌+◌, ℕ, true, List, [], Some, slice_get};
 ghost use Rattle.pks_terms.specs.Syntax.{Literal};
 ghost use Rattle.pks_terms.specs.Databases.{Five, holds};
 ghost use Rattle.pks_terms.specs.Sets.{Each};
@@ -13,6 +13,8 @@ ghost use Rattle.pks_terms.specs.Valid.{IsValid};
 ghost use Rattle.pks_terms.specs.Moments.{IsInOrder, AreInOrder};
 ghost use Rattle.pks_terms.specs.Proofs.{FactLit, Path, deeds, final_moment, Proof};
 ghost use Rattle.pks_terms.specs.Accepting.{accepts};
+ghost use Rattle.pks_terms.specs.Explained.{Entry, IsExplained};
+ghost use Rattle.pks_terms.specs.Trees.{Tree, IsPlan};
 ghost use Rattle.pks_shown.specs.Shown.{IsShown, AreShown, Good, HasSortedGroups, HistoryShown, Leads};
 
 /// A literal that is shown at the last moment has an accepted proof.
@@ -53,4 +55,9 @@ pub fn moment_before_is_shown()
 /// Each literal that holds at the end of a path, which leads there from the closed start of a valid problem whose adds are justified, has an accepted proof.
 pub fn what_is_derived_has_a_proof()
     ensures { (p : Problem) (path : Path) (d : Five) (h : History) (l : Literal) → IsValid p → AllJustified p → Closes p.signature (initial p) (Next d) → Leads p (record { start = d; steps = [] }) path h → IsInOrder l → holds p.signature (last_moment h) l ≡ true → (proof : Proof) × (accepts p path proof l ≡ true) }
+{}
+
+/// Each plan of a valid problem whose adds are justified has an explanation: an accepted proof of each literal that it rests on, in their order.
+pub fn each_plan_has_an_explanation()
+    ensures { (p : Problem) (t : Tree) → IsValid p → AllJustified p → IsPlan p t → (entries : List Entry) × IsExplained p t entries }
 {}
