@@ -25,7 +25,7 @@ use Rattle.pks_terms.specs.Proofs.{Fact, FactLit, FactKx, Path, deeds, final_mom
 use Rattle.pks_terms.specs.Judging.{Judge, fact_eq, is_cited, are_cited, is_literal_that}
 use Rattle.pks_terms.specs.Rewriting.{are_equal_arguments, has_arguments, is_equation, is_form, are_forms}
 use Rattle.pks_terms.specs.Reasons.{are_cited_apart, is_barred, are_barred, is_steady, are_steady, keeps_literal, keeps_group, is_kept, targets_of, is_target_form, is_steady_target, is_steady_form, would_undo, would_change, would_make_true, would_make_false, is_effect}
-use Rattle.pks_shown.specs.Shown.{Good, IsShown, AreShown}
+use Rattle.pks_shown.specs.Shown.{IsShownInOrder, IsShown, AreShown}
 use Rattle.pks_shown.proofs.Equal.{Lit, Same, AllSame, evident_shown, same_itself, same_turned, all_replaced, least_shown, map_same, some_all, inner_normal_shown, from_normals, objects_same}
 use Rattle.pks_shown.proofs.Needed.{Needs, needs_nothing, needs_then, needs_and, needs_all, needs_cited, all_at, needs_steady, needs_all_steady, needs_kept}
 use Rattle.pks_shown.proofs.Equal.{literal_ordered}
@@ -334,27 +334,27 @@ module _ (p : Problem) (path : Path) (m : ℕ) (next : suc m ≤ final_moment pa
     unfolding normal_literal literal_at literal
     normal_at l r e = λ i. record { relation = e i; arguments = in_order (e i) (map (normal d.kf) (in_order (e i) (map (term_at given) l.arguments))); positive = l.positive }
 
-    added_shown : (l : Literal) → a.item ≡ ItemKf l → (r : Relation) → l.relation ≡ r → Each (Good p path (suc m)) (added_literal p.signature d effs given sc a l r)
+    added_shown : (l : Literal) → a.item ≡ ItemKf l → (r : Relation) → l.relation ≡ r → Each (IsShownInOrder p path (suc m)) (added_literal p.signature d effs given sc a l r)
     unfolding is_made_so
     added_shown l item (Named r) e =
-        elim (are_stable p.signature d effs (normal_literal d.kf (literal_at given l)).arguments) as (λ b. are_stable p.signature d effs (normal_literal d.kf (literal_at given l)).arguments ≡ b → Each (Good p path (suc m)) (cond b (normal_literal d.kf (literal_at given l) ∷ []) [])) [
+        elim (are_stable p.signature d effs (normal_literal d.kf (literal_at given l)).arguments) as (λ b. are_stable p.signature d effs (normal_literal d.kf (literal_at given l)).arguments ≡ b → Each (IsShownInOrder p path (suc m)) (cond b (normal_literal d.kf (literal_at given l) ∷ []) [])) [
           | false ↦ λ q. tt
           | true ↦ λ q.
               let f = found_in (makes_so (given_of sc a) l) (with_later sc.effects) (known_made l item) in
               let form = normal_at l r e in
               let ts = map (term_at given) l.arguments in
               let stable : are_stable p.signature d effs (map (normal d.kf) ts) ≡ true = ap (are_stable p.signature d effs) (args r (map (normal d.kf) ts) l.positive) ∙ ap (λ (n : Literal). are_stable p.signature d effs n.arguments) (sym form) ∙ q in
-              (subst (Good p path (suc m)) (sym form) (predicate_shown (given_of sc a) answered l f.0 f.1 f.0.0.target refl f.2 r e ts refl stable, literal_ordered (Named r) (map (normal d.kf) ts) l.positive), tt)
+              (subst (IsShownInOrder p path (suc m)) (sym form) (predicate_shown (given_of sc a) answered l f.0 f.1 f.0.0.target refl f.2 r e ts refl stable, literal_ordered (Named r) (map (normal d.kf) ts) l.positive), tt)
         ] refl
       where
         args : (r : ℕ) (ts : List Term) (b : Bool) → ts ≡ (literal (Named r) ts b).arguments
         args r ts b = unfold literal in refl
     added_shown l item Equality e = sides l.arguments refl
       where
-        sides : (ts : List Term) → l.arguments ≡ ts → Each (Good p path (suc m)) (added_equation p.signature d effs given sc a l ts)
+        sides : (ts : List Term) → l.arguments ≡ ts → Each (IsShownInOrder p path (suc m)) (added_equation p.signature d effs given sc a l ts)
         sides (t ∷ u ∷ []) le =
             elim (has_place sc a l t && (has_stable_arguments p.signature d effs (place_at d.kf given t) && is_stable p.signature d effs (normal d.kf (term_at given u)))) as (λ b. (has_place sc a l t && (has_stable_arguments p.signature d effs (place_at d.kf given t) && is_stable p.signature d effs (normal d.kf (term_at given u)))) ≡ b
-            → Each (Good p path (suc m)) (cond b (equation (place_at d.kf given t) (normal d.kf (term_at given u)) ∷ []) [])) [
+            → Each (IsShownInOrder p path (suc m)) (cond b (equation (place_at d.kf given t) (normal d.kf (term_at given u)) ∷ []) [])) [
               | false ↦ λ q. tt
               | true ↦ λ q.
                   let b = and_parts (has_place sc a l t) _ q in
@@ -367,7 +367,7 @@ module _ (p : Problem) (path : Path) (m : ℕ) (next : suc m ≤ final_moment pa
         sides (t ∷ []) le = tt
         sides (t ∷ u ∷ v ∷ ts) le = tt
 
-    pub literals_added_shown : (x : Item) → a.item ≡ x → Each (Good p path (suc m)) (literals_added p.signature d effs given sc a x)
+    pub literals_added_shown : (x : Item) → a.item ≡ x → Each (IsShownInOrder p path (suc m)) (literals_added p.signature d effs given sc a x)
     literals_added_shown (ItemKf l) e = added_shown l e l.relation refl
     literals_added_shown (ItemKw c) e = tt
     literals_added_shown (ItemKv t) e = tt

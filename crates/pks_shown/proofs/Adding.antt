@@ -16,7 +16,7 @@ use Rattle.pks_terms.specs.Moments.{IsInOrder}
 use Rattle.pks_laws.proofs.Least.{literal_eq_itself}
 use Rattle.pks_terms.specs.Proofs.{Fact, FactLit, FactKx, Path, final_moment, ByOnly, ByOthers, ByRange}
 use Rattle.pks_terms.specs.Judging.{Judge, is_cited, are_cited, is_group_that}
-use Rattle.pks_shown.specs.Shown.{AreShown, Good}
+use Rattle.pks_shown.specs.Shown.{AreShown, IsShownInOrder}
 use Rattle.pks_shown.proofs.Growing.{shown_within}
 use Rattle.pks_shown.proofs.Equal.{literal_ordered, cited_in, Lit, Same, AllSame, AllSameInner, ordered, all_replaced, same_itself, value_shown, same_applied, objects_same}
 use Rattle.pks_shown.proofs.Derived.{made_ordered, held}
@@ -64,7 +64,7 @@ module _ (p : Problem) (path : Path) (m : ℕ) (within : m ≤ final_moment path
   L = Lit p path m within
 
   abbrev G : Literal → Type 0
-  G = Good p path m
+  G = IsShownInOrder p path m
 
   -- ---- by known values
 

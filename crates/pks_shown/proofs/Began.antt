@@ -14,12 +14,14 @@ use Rattle.pks_terms.specs.Branching.{Choice, BranchOn, CasesOn, Side, AsTrue, A
 use Rattle.pks_terms.proofs.ListLaws.{each_in, each_of, each_append, each_added, each_insert_in, in_mapped, any_in}
 use Rattle.pks_terms.proofs.OrderLaws.{literal_cmp_tells, conj_cmp_tells, atom_cmp_tells, entry_cmp_tells}
 use Rattle.pks_terms.proofs.SetLaws.{ordered_set_of, in_set_of}
-use Rattle.pks_terms.specs.Moments.{IsInOrder, AreInOrder}
+use Rattle.pks_terms.specs.Moments.{IsInOrder}
+use Rattle.pks_terms.specs.Valid.{IsStartText, IsValid}
+use Rattle.pks_laws.proofs.SidesInOrder.{initial_ordered}
 use Rattle.pks_laws.proofs.Least.{literal_eq_itself, in_filter_mapped}
 use Rattle.pks_terms.specs.Proofs.{Fact, FactLit, FactKx, FactLcw, Path, final_moment, Taking, takings, nth, ByGiven, BySide}
 use Rattle.pks_terms.specs.Judging.{Judge, fact_eq, are_cited}
 use Rattle.pks_terms.specs.Reasons.{said_by, says_side}
-use Rattle.pks_shown.specs.Shown.{Good, IsShown, AreShown, HasSortedGroups}
+use Rattle.pks_shown.specs.Shown.{IsShownInOrder, IsShown, AreShown}
 use Rattle.pks_shown.proofs.Growing.{shown_within}
 use Rattle.pks_shown.proofs.Needed.{Needs, needs_all, needs_cited, all_at, negated_ordered}
 use Rattle.pks_shown.proofs.Equal.{literal_ordered}
@@ -77,9 +79,9 @@ module _ (p : Problem) (path : Path) where
   group_item (StartKv t) g e = absurd (none-some g e)
   group_item (StartLcw y) g e = absurd (none-some g e)
 
-  pub initial_shown : AreInOrder (initial p) → HasSortedGroups p → AreShown p path 0 (initial p)
+  pub initial_shown : IsValid p → AreShown p path 0 (initial p)
   unfolding initial
-  initial_shown o sorted = record {
+  initial_shown v = let o = initial_ordered p v in record {
     known = λ l i.
         let r = in_filter_mapped known_start p.init l (in_set_of literal_cmp_total literal_cmp_tells (filter_map known_start p.init) l i) in
         given_shown r.0 r.1 (FactLit l) (fact_lit r.0 l r.2) (literal_eq_itself l l refl);
@@ -90,7 +92,7 @@ module _ (p : Problem) (path : Path) where
     members = λ g i. each_in (Each IsInOrder) (initial p).kx g o.groups i;
     sorted = λ g i.
         let r = in_filter_mapped group_start p.init g (in_set_of conj_cmp_total conj_cmp_tells (filter_map group_start p.init) g i) in
-        sorted g (subst (λ x. IsIn x p.init) (group_item r.0 g r.2) r.1);
+        (each_in (IsStartText p.signature) p.init (StartKx g) v.init (subst (λ x. IsIn x p.init) (group_item r.0 g r.2) r.1)).1;
     regions = λ e i.
         let r = in_mapped (initial_entry (initial p).kf) (filter_map region_start p.init) e (in_set_of entry_cmp_total entry_cmp_tells (map (initial_entry (initial p).kf) (filter_map region_start p.init)) e i) in
         let q = in_filter_mapped region_start p.init r.0 r.1 in
@@ -141,7 +143,7 @@ module _ (p : Problem) (path : Path) where
             none : {u : X} {us : List X} → u ∷ us ≡ [] → ⊥
             none k = cc
 
-    denials_shown : (c : List Literal) → Each IsInOrder c → IsTaken m (BranchOn c) AsFalse → (ls : List Literal) → filter (λ l. not (holds p.signature d l)) c ≡ ls → Each (Good p path m) (denials ls)
+    denials_shown : (c : List Literal) → Each IsInOrder c → IsTaken m (BranchOn c) AsFalse → (ls : List Literal) → filter (λ l. not (holds p.signature d l)) c ≡ ls → Each (IsShownInOrder p path m) (denials ls)
     denials_shown c o t [] e = tt
     denials_shown c o t (l ∷ k ∷ ls) e = tt
     denials_shown c o t (l ∷ []) e =
@@ -156,27 +158,27 @@ module _ (p : Problem) (path : Path) where
           tt,
         )
 
-    members_shown : (c : List Literal) → Each IsInOrder c → IsTaken m (BranchOn c) AsTrue → Each (Good p path m) c
-    members_shown c o t = each_of (Good p path m) c (λ l i.
+    members_shown : (c : List Literal) → Each IsInOrder c → IsTaken m (BranchOn c) AsTrue → Each (IsShownInOrder p path m) c
+    members_shown c o t = each_of (IsShownInOrder p path m) c (λ l i.
         (by_side (BranchOn c) AsTrue t l (Rattle.pks_shown.proofs.Needed.needs_nothing p path m (λ j. says_side j m (BranchOn c) AsTrue l ≡ true) (λ j. any_in (literal_eq l) c l i (literal_eq_itself l l refl))), each_in IsInOrder c l o i))
 
-    same_sets : (kf : List Literal) (kw : List (List Literal)) (kv : List Term) → ((l : Literal) → IsIn l kf → Good p path m l) → AreShown p path m (record { kf = kf; kw = kw; kv = kv; kx = d.kx; lcw = d.lcw })
+    same_sets : (kf : List Literal) (kw : List (List Literal)) (kv : List Term) → ((l : Literal) → IsIn l kf → IsShownInOrder p path m l) → AreShown p path m (record { kf = kf; kw = kw; kv = kv; kx = d.kx; lcw = d.lcw })
     same_sets kf kw kv f = record { known = λ l i. (f l i).0; ordered = λ l i. (f l i).1; groups = shown.groups; members = shown.members; sorted = shown.sorted; regions = shown.regions; listed = shown.listed }
 
     pub side_shown : (c : Choice) (side : Side) → IsTaken m c side → ((b : List Literal) → c ≡ BranchOn b → Each IsInOrder b) → AreShown p path m (assumed p.signature d c side)
     unfolding assumed
     side_shown (BranchOn c) AsTrue t o =
-        let all = each_added (Good p path m) literal_cmp d.kf c (all_good p path m d shown) (members_shown c (o c refl) t) in
-        same_sets (added literal_cmp d.kf c) (assumed_formula d c c).kw d.kv (λ l i. each_in (Good p path m) (added literal_cmp d.kf c) l all i)
+        let all = each_added (IsShownInOrder p path m) literal_cmp d.kf c (all_good p path m d shown) (members_shown c (o c refl) t) in
+        same_sets (added literal_cmp d.kf c) (assumed_formula d c c).kw d.kv (λ l i. each_in (IsShownInOrder p path m) (added literal_cmp d.kf c) l all i)
     side_shown (BranchOn c) AsFalse t o =
         let news = denials (filter (λ l. not (holds p.signature d l)) c) in
-        let all = each_added (Good p path m) literal_cmp d.kf news (all_good p path m d shown) (denials_shown c (o c refl) t (filter (λ l. not (holds p.signature d l)) c) refl) in
-        same_sets (added literal_cmp d.kf news) (assumed_formula d c news).kw d.kv (λ l i. each_in (Good p path m) (added literal_cmp d.kf news) l all i)
+        let all = each_added (IsShownInOrder p path m) literal_cmp d.kf news (all_good p path m d shown) (denials_shown c (o c refl) t (filter (λ l. not (holds p.signature d l)) c) refl) in
+        same_sets (added literal_cmp d.kf news) (assumed_formula d c news).kw d.kv (λ l i. each_in (IsShownInOrder p path m) (added literal_cmp d.kf news) l all i)
     side_shown (CasesOn u) (Is e) t o =
         let l = equation u (object e) in
-        let one : Good p path m l = (by_side (CasesOn u) (Is e) t l (Rattle.pks_shown.proofs.Needed.needs_nothing p path m (λ j. says_side j m (CasesOn u) (Is e) l ≡ true) (λ j. literal_eq_itself l l refl)), literal_ordered Equality (u ∷ object e ∷ []) true) in
-        let all = each_insert_in (Good p path m) literal_cmp l d.kf one (all_good p path m d shown) in
-        same_sets (insert_in literal_cmp l d.kf) d.kw (assumed p.signature d (CasesOn u) (Is e)).kv (λ k i. each_in (Good p path m) (insert_in literal_cmp l d.kf) k all i)
+        let one : IsShownInOrder p path m l = (by_side (CasesOn u) (Is e) t l (Rattle.pks_shown.proofs.Needed.needs_nothing p path m (λ j. says_side j m (CasesOn u) (Is e) l ≡ true) (λ j. literal_eq_itself l l refl)), literal_ordered Equality (u ∷ object e ∷ []) true) in
+        let all = each_insert_in (IsShownInOrder p path m) literal_cmp l d.kf one (all_good p path m d shown) in
+        same_sets (insert_in literal_cmp l d.kf) d.kw (assumed p.signature d (CasesOn u) (Is e)).kv (λ k i. each_in (IsShownInOrder p path m) (insert_in literal_cmp l d.kf) k all i)
     side_shown (BranchOn c) (Is e) t o = shown
     side_shown (CasesOn u) AsTrue t o = shown
     side_shown (CasesOn u) AsFalse t o = shown

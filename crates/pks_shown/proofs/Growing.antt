@@ -32,27 +32,27 @@ has_more proof more m f h = record {
 }
 
 -- facts with their moments
-abbrev pub Told : Type 0
-Told = ℕ × Fact
+abbrev pub Placed : Type 0
+Placed = ℕ × Fact
 
 -- the judge of a list of them
-abbrev pub judge_of : List Told → Judge
-judge_of given m = filter_map (λ (q : Told). cond (q.0 == m) (Some q.1) None) given
+abbrev pub judge_of : List Placed → Judge
+judge_of given m = filter_map (λ (q : Placed). cond (q.0 == m) (Some q.1) None) given
 
 module _ (p : Problem) (path : Path) where
   abbrev pub Shown : ℕ → Fact → Type 0
   Shown m f = IsShown p path m f
 
-  record ExtendsAll (proof : Proof) (given : List Told) : Type 0 where
+  record ExtendsAll (proof : Proof) (given : List Placed) : Type 0 where
     more : Proof
     allowed : are_allowed p path (proof ++ more) ≡ true
-    has : Each (λ (q : Told). HasLine (proof ++ more) q.0 q.1) given
+    has : Each (λ (q : Placed). HasLine (proof ++ more) q.0 q.1) given
 
-  each_more : (proof more : Proof) (given : List Told) → Each (λ (q : Told). HasLine proof q.0 q.1) given → Each (λ (q : Told). HasLine (proof ++ more) q.0 q.1) given
+  each_more : (proof more : Proof) (given : List Placed) → Each (λ (q : Placed). HasLine proof q.0 q.1) given → Each (λ (q : Placed). HasLine (proof ++ more) q.0 q.1) given
   each_more proof more [] a = tt
   each_more proof more (q ∷ given) a = (has_more proof more q.0 q.1 a.0, each_more proof more given a.1)
 
-  extend_all : (given : List Told) → Each (λ (q : Told). Shown q.0 q.1) given → (proof : Proof) → are_allowed p path proof ≡ true → ExtendsAll proof given
+  extend_all : (given : List Placed) → Each (λ (q : Placed). Shown q.0 q.1) given → (proof : Proof) → are_allowed p path proof ≡ true → ExtendsAll proof given
   extend_all [] a proof h = record { more = []; allowed = subst (λ (x : Proof). are_allowed p path x ≡ true) (sym (append-nil proof)) h; has = tt }
   extend_all (q ∷ given) a proof h =
       let one = a.0 proof h in
@@ -61,21 +61,21 @@ module _ (p : Problem) (path : Path) where
       record {
         more = one.more ++ rest.more;
         allowed = subst (λ (x : Proof). are_allowed p path x ≡ true) whole rest.allowed;
-        has = subst (λ (x : Proof). Each (λ (r : Told). HasLine x r.0 r.1) (q ∷ given)) whole (has_more (proof ++ one.more) rest.more q.0 q.1 one.has, rest.has);
+        has = subst (λ (x : Proof). Each (λ (r : Placed). HasLine x r.0 r.1) (q ∷ given)) whole (has_more (proof ++ one.more) rest.more q.0 q.1 one.has, rest.has);
       }
 
-  cites_of : (proof : Proof) (given : List Told) → Each (λ (q : Told). HasLine proof q.0 q.1) given → List ℕ
+  cites_of : (proof : Proof) (given : List Placed) → Each (λ (q : Placed). HasLine proof q.0 q.1) given → List ℕ
   cites_of proof [] a = []
   cites_of proof (q ∷ given) a = a.0.number ∷ cites_of proof given a.1
 
-  cites_before : (proof : Proof) (given : List Told) (a : Each (λ (q : Told). HasLine proof q.0 q.1) given) → are_before (suc (length proof)) (cites_of proof given a) ≡ true
+  cites_before : (proof : Proof) (given : List Placed) (a : Each (λ (q : Placed). HasLine proof q.0 q.1) given) → are_before (suc (length proof)) (cites_of proof given a) ≡ true
   unfolding cites_of
   cites_before proof [] a = refl
   cites_before proof (q ∷ given) a =
       let w = nth_within proof a.0.number a.0.line a.0.there in
       and_from _ _ (and_from _ _ (lt-ltb 0 a.0.number w.0) (lt-ltb a.0.number (suc (length proof)) w.1)) (cites_before proof given a.1)
 
-  cites_judge : (proof : Proof) (given : List Told) (a : Each (λ (q : Told). HasLine proof q.0 q.1) given) (m : ℕ) → by_cited proof (cites_of proof given a) m ≡ judge_of given m
+  cites_judge : (proof : Proof) (given : List Placed) (a : Each (λ (q : Placed). HasLine proof q.0 q.1) given) (m : ℕ) → by_cited proof (cites_of proof given a) m ≡ judge_of given m
   unfolding cites_of
   cites_judge proof [] a m = refl
   cites_judge proof (q ∷ given) a m =
@@ -84,7 +84,7 @@ module _ (p : Problem) (path : Path) where
       λ i. cons_option (one i) (cites_judge proof given a.1 m i)
 
   -- what a reason allows by facts that are shown is shown
-  pub shown_by : (given : List Told) → Each (λ (q : Told). Shown q.0 q.1) given → (m : ℕ) (f : Fact) (r : Reason) → m ≤ final_moment path → is_allowed_by p path (judge_of given) m f r ≡ true → Shown m f
+  pub shown_by : (given : List Placed) → Each (λ (q : Placed). Shown q.0 q.1) given → (m : ℕ) (f : Fact) (r : Reason) → m ≤ final_moment path → is_allowed_by p path (judge_of given) m f r ≡ true → Shown m f
   shown_by given a m f r within h proof allowed =
       let e = extend_all given a proof allowed in
       let base : Proof = proof ++ e.more in
@@ -117,10 +117,10 @@ module _ (p : Problem) (path : Path) where
 
   -- ---- facts of one moment, and of one and the next
 
-  told_at : ℕ → List Fact → List Told
+  told_at : ℕ → List Fact → List Placed
   told_at m fs = map (λ f. (m, f)) fs
 
-  told_each : (m : ℕ) (fs : List Fact) → Each (Shown m) fs → Each (λ (q : Told). Shown q.0 q.1) (told_at m fs)
+  told_each : (m : ℕ) (fs : List Fact) → Each (Shown m) fs → Each (λ (q : Placed). Shown q.0 q.1) (told_at m fs)
   unfolding told_at
   told_each m [] a = tt
   told_each m (f ∷ fs) a = (a.0, told_each m fs a.1)
@@ -135,7 +135,7 @@ module _ (p : Problem) (path : Path) where
   told_elsewhere m n [] h = refl
   told_elsewhere m n (f ∷ fs) h = λ i. cons_option (cond (h i) (Some f) None) (told_elsewhere m n fs h i)
 
-  judge_of-append : (xs ys : List Told) (m : ℕ) → judge_of (xs ++ ys) m ≡ judge_of xs m ++ judge_of ys m
+  judge_of-append : (xs ys : List Placed) (m : ℕ) → judge_of (xs ++ ys) m ≡ judge_of xs m ++ judge_of ys m
   judge_of-append [] ys m = refl
   judge_of-append (q ∷ xs) ys m = ap (cons_option (cond (q.0 == m) (Some q.1) None)) (judge_of-append xs ys m) ∙ moved (cond (q.0 == m) (Some q.1) None)
     where
@@ -155,7 +155,7 @@ module _ (p : Problem) (path : Path) where
       let given = told_at m fs ++ told_at (suc m) gs in
       let unlike : (m == suc m) ≡ false = Rattle.std.proofs.lemmas.Bool.ne_eqb m (suc m) (omega arith) in
       let unlike' : (suc m == m) ≡ false = Rattle.std.proofs.lemmas.Bool.ne_eqb (suc m) m (omega arith) in
-      shown_by given (each_both (λ (q : Told). Shown q.0 q.1) (told_at m fs) (told_at (suc m) gs) (told_each m fs a) (told_each (suc m) gs b)) n f r within
+      shown_by given (each_both (λ (q : Placed). Shown q.0 q.1) (told_at m fs) (told_at (suc m) gs) (told_each m fs a) (told_each (suc m) gs b)) n f r within
       (h (judge_of given)
       (judge_of-append (told_at m fs) (told_at (suc m) gs) m ∙ (λ i. told_here m fs i ++ told_elsewhere (suc m) m gs unlike' i) ∙ append-nil fs)
       (judge_of-append (told_at m fs) (told_at (suc m) gs) (suc m) ∙ (λ i. told_elsewhere m (suc m) fs unlike i ++ told_here (suc m) gs i)))

@@ -3,25 +3,24 @@ use Rattle.std.proofs.Common.{◌≡◌, ◌+◌, ◌<◌, ◌≤◌, ℕ, suc, 
 use Rattle.pks_terms.specs.Sets.{Each, IsIn}
 use Rattle.pks_terms.specs.Syntax.{Literal}
 use Rattle.pks_terms.specs.Databases.{Five, holds}
-use Rattle.pks_terms.specs.Closure.{Outcome, Next, Clash, Closes, in_sequence}
+use Rattle.pks_terms.specs.Closure.{Outcome, Next, Clash, Closes}
 use Rattle.pks_terms.specs.Actions.{Instance}
 use Rattle.pks_terms.specs.Progress.{progressed, Progress}
-use Rattle.pks_terms.specs.Problems.{StartKx, Problem, schema_of, initial}
+use Rattle.pks_terms.specs.Problems.{Problem, schema_of, initial}
 use Rattle.pks_terms.specs.Branching.{instances, Choice, BranchOn, Side, IsMember, assumed, Assumes}
 use Rattle.pks_terms.specs.Settling.{History, last_moment, pushed, with_last, settle_rounds, clashes, At, Stopped, tidied_history, Settles}
 use Rattle.pks_terms.specs.Trees.{after_step, Acts, SettlesAfter, Takes}
 use Rattle.pks_terms.specs.Typed.{AllJustified}
-use Rattle.pks_terms.specs.Valid.{IsStartText, IsValid}
+use Rattle.pks_terms.specs.Valid.{IsValid}
 use Rattle.pks_terms.specs.Moments.{IsInOrder, IsMomentOf, AreMomentsOf}
 use Rattle.pks_terms.proofs.ListLaws.{each_in}
 use Rattle.pks_laws.specs.OfSignature.{IsSideOf}
 use Rattle.pks_laws.proofs.BelongingHistories.{is_clash, history_or}
 use Rattle.pks_laws.proofs.Instances.{allowed_instance}
-use Rattle.pks_laws.proofs.SidesInOrder.{initial_ordered}
 use Rattle.pks_laws.proofs.SearchStates.{last_of_it, start_of, acts_of, takes_of}
 use Rattle.pks_terms.specs.Proofs.{FactLit, Went, Took, Path, deeds, final_moment, Proof, takings}
 use Rattle.pks_terms.specs.Accepting.{accepts}
-use Rattle.pks_shown.specs.Shown.{IsShown, AreShown, HistoryShown, HasSortedGroups, Leads}
+use Rattle.pks_shown.specs.Shown.{IsShown, AreShown, IsHistoryShown, Leads}
 use Rattle.pks_shown.proofs.Growing.{shown_proof}
 use Rattle.pks_shown.proofs.Derived.{held}
 use Rattle.pks_shown.proofs.Gathered.{got_within, settle_rounds_shown}
@@ -30,34 +29,30 @@ use Rattle.pks_shown.proofs.Tidied.{closed_shown}
 use Rattle.pks_shown.proofs.Progressed.{progressed_shown}
 use Rattle.pks_shown.proofs.Moments.{moment_at, moment_is_final, moment_within, moment_went, moment_took, deed_there, side_there, end_moment, end_pushed, end_replaced, end_rounds, end_tidied, last_shown, pushed_shown, pushed_steps, replaced_shown, tidied_history_shown}
 
--- each initial group of a valid problem stands in sequence
-groups_sorted : (p : Problem) → IsValid p → HasSortedGroups p
-groups_sorted p v g i = (each_in (IsStartText p.signature) p.init (StartKx g) v.init i).1
-
 module _ (p : Problem) (path : Path) where
   -- ---- settling
 
   Settled : History → History → Type 0
-  Settled h g = HistoryShown p path g × (end_moment 0 g.steps ≡ end_moment 0 h.steps)
+  Settled h g = IsHistoryShown p path g × (end_moment 0 g.steps ≡ end_moment 0 h.steps)
 
-  settled_shown : (h g : History) → HistoryShown p path h → Settles p h (At g) → Settled h g
+  settled_shown : (h g : History) → IsHistoryShown p path h → Settles p h (At g) → Settled h g
   unfolding Settled
   settled_shown h g s t = go (clashes p.signature end) t.gives
     where
       end : History
       end = settle_rounds p t.count h
 
-      go : (b : Bool) → At g ≡ cond b Stopped (At (tidied_history (settle_rounds p t.count h))) → HistoryShown p path g × (end_moment 0 g.steps ≡ end_moment 0 h.steps)
+      go : (b : Bool) → At g ≡ cond b Stopped (At (tidied_history (settle_rounds p t.count h))) → IsHistoryShown p path g × (end_moment 0 g.steps ≡ end_moment 0 h.steps)
       go true e = absurd (true≢false (sym (ap is_clash e)))
       go false e =
           let last = settle_rounds p t.count h in
-          subst (λ (x : History). HistoryShown p path x × (end_moment 0 x.steps ≡ end_moment 0 h.steps)) (sym (ap (history_or g) e))
+          subst (λ (x : History). IsHistoryShown p path x × (end_moment 0 x.steps ≡ end_moment 0 h.steps)) (sym (ap (history_or g) e))
           (tidied_history_shown p path last (settle_rounds_shown p path t.count h s), end_tidied 0 last.steps ∙ end_rounds p t.count h)
 
   module _ (v : IsValid p) (all : AllJustified p) where
     -- the history at the end of a front of the path: all its databases are shown, and it ends where the front does
     record Reached (front : Path) (h : History) : Type 0 where
-      shown : HistoryShown p path h
+      shown : IsHistoryShown p path h
       moments : AreMomentsOf p h
       place : end_moment 0 h.steps ≡ moment_at 0 front
 
@@ -66,9 +61,6 @@ module _ (p : Problem) (path : Path) where
     act : (front rest : Path) (i : Instance) (h k : History) → front ++ Went i ∷ rest ≡ path → Reached front h → IsIn i (instances p (last_moment h)) → Acts p h i (At k) → Reached (front ++ Went i ∷ []) k
     act front rest i h k whole r chosen a = go a.outcome a.progress a.gives
       where
-        m : ℕ
-        m = end_moment 0 h.steps
-
         go : (o : Outcome) → Progress p.signature (last_moment h) (schema_of p i.action) i o → At k ≡ after_step h i o → Reached (front ++ Went i ∷ []) k
         go (Next e) c q =
             let there : slice_get (deeds path) (end_moment 0 h.steps) ≡ Some i = subst (λ (x : Path). slice_get (deeds x) (end_moment 0 h.steps) ≡ Some i) whole (ap (slice_get (deeds (front ++ Went i ∷ rest))) r.place ∙ deed_there front rest i) in
@@ -77,10 +69,10 @@ module _ (p : Problem) (path : Path) where
             let allowed = (allowed_instance p (last_moment h) i chosen).0 in
             let after = closed_shown p path (suc (end_moment 0 h.steps)) next (progressed p.signature (last_moment h) (schema_of p i.action) i.arguments) e
             (progressed_shown p path (end_moment 0 h.steps) next i there (last_moment h) last allowed (all i.action)) c in
-            let longer : HistoryShown p path (pushed h i e) = (pushed_steps p path 0 h.steps i e r.shown.0 there, pushed_shown p path 0 h.start h.steps i e r.shown.1 after) in
+            let longer : IsHistoryShown p path (pushed h i e) = (pushed_steps p path 0 h.steps i e r.shown.0 there, pushed_shown p path 0 h.start h.steps i e r.shown.1 after) in
             let same : k ≡ pushed h i e = ap (history_or k) q in
             record {
-              shown = subst (HistoryShown p path) (sym same) longer;
+              shown = subst (IsHistoryShown p path) (sym same) longer;
               moments = acts_of p v h k i r.moments chosen a;
               place = ap (λ (x : History). end_moment 0 x.steps) same ∙ end_pushed 0 h.steps (i, e) ∙ ap suc r.place ∙ sym (moment_went 0 front i);
             }
@@ -129,7 +121,7 @@ module _ (p : Problem) (path : Path) where
 
     start : (d : Five) → Closes p.signature (initial p) (Next d) → Reached [] (record { start = d; steps = [] })
     start d c = record {
-      shown = (tt, closed_shown p path 0 zero_within (initial p) d (initial_shown p path (initial_ordered p v) (groups_sorted p v)) c);
+      shown = (tt, closed_shown p path 0 zero_within (initial p) d (initial_shown p path v) c);
       moments = start_of p v d c;
       place = refl;
     }

@@ -7,7 +7,7 @@ use Rattle.pks_terms.specs.Branching.{Choice, Side}
 use Rattle.pks_terms.specs.Problems.{Problem}
 use Rattle.pks_terms.specs.Settling.{History, last_of, with_last, steps_with_last, settled_steps, settle_round, settle_rounds, tidied_history}
 use Rattle.pks_terms.specs.Proofs.{Went, Took, Path, deeds, final_moment, Taking, takings}
-use Rattle.pks_shown.specs.Shown.{AreShown, AreShownAlong, AreSteps, HistoryShown}
+use Rattle.pks_shown.specs.Shown.{AreShown, AreShownAlong, AreSteps, IsHistoryShown}
 use Rattle.pks_shown.proofs.Gathered.{got_within}
 use Rattle.pks_shown.proofs.Tidied.{tidied_shown}
 
@@ -119,9 +119,9 @@ module _ (p : Problem) (path : Path) where
   replaced_steps m e (step ∷ []) on = on
   replaced_steps m e (step ∷ next ∷ rest) on = (on.0, replaced_steps (suc m) e (next ∷ rest) on.1)
 
-  pub replaced_shown : (h : History) (e : Five) → HistoryShown p path h → AreShown p path (end_moment 0 h.steps) e → HistoryShown p path (with_last h e)
+  pub replaced_shown : (h : History) (e : Five) → IsHistoryShown p path h → AreShown p path (end_moment 0 h.steps) e → IsHistoryShown p path (with_last h e)
   replaced_shown h e s a =
-      elim h.steps as (λ steps. AreShown p path (end_moment 0 steps) e → HistoryShown p path (elim steps [ [] ↦ record { start = e; steps = [] } | step ∷ rest ↦ record h { steps = steps_with_last h.steps e } ])) [
+      elim h.steps as (λ steps. AreShown p path (end_moment 0 steps) e → IsHistoryShown p path (elim steps [ [] ↦ record { start = e; steps = [] } | step ∷ rest ↦ record h { steps = steps_with_last h.steps e } ])) [
         | [] ↦ λ b. (tt, b)
         | step ∷ rest ↦ λ b. (replaced_steps 0 e h.steps s.0, replaced_along 0 h.start e h.steps s.1 a)
       ] a
@@ -139,5 +139,5 @@ module _ (p : Problem) (path : Path) where
   zero_within : 0 ≤ final_moment path
   zero_within = omega arith
 
-  pub tidied_history_shown : (h : History) → HistoryShown p path h → HistoryShown p path (tidied_history h)
+  pub tidied_history_shown : (h : History) → IsHistoryShown p path h → IsHistoryShown p path (tidied_history h)
   tidied_history_shown h s = (tidied_steps 0 h.steps s.0, tidied_along 0 zero_within h.start h.steps s.0 s.1)

@@ -17,7 +17,7 @@ use Rattle.pks_terms.specs.Settling.{effects_of}
 use Rattle.pks_terms.proofs.ListLaws.{each_in, each_filter, each_filter_map, each_flat_map, each_added, each_set_of, in_filtered}
 use Rattle.pks_laws.proofs.Progressing.{given_answered}
 use Rattle.pks_terms.specs.Proofs.{Path, deeds, final_moment}
-use Rattle.pks_shown.specs.Shown.{Good, AreShown}
+use Rattle.pks_shown.specs.Shown.{IsShownInOrder, AreShown}
 use Rattle.pks_shown.proofs.Stepped.{lasts}
 use Rattle.pks_shown.proofs.Acted.{literals_added_shown, untouched_shown}
 use Rattle.pks_shown.proofs.Grown.{region_left}
@@ -43,7 +43,7 @@ module _ (p : Problem) (path : Path) (m : ℕ) (next : suc m ≤ final_moment pa
       (given_answered p.signature d sc given a allowed q.1, each_in (λ a. is_some (case_of sc a) ≡ true) sc.adds a justified q.0)
 
   abbrev G : Literal → Type 0
-  G = Good p path (suc m)
+  G = IsShownInOrder p path (suc m)
 
   abbrev F : Entry → Type 0
   F = Fine p path m next i there d shown

@@ -51,6 +51,10 @@ normal_twice kf = form_twice (inner_normal kf) as_object kf (inner_twice kf)
 atom_twice : (kf : List Literal) (a : Atom) → normal_atom kf (normal_atom kf a) ≡ normal_atom kf a
 atom_twice kf a = λ i. record { predicate = a.predicate; arguments = (map-map (normal kf) (normal kf) a.arguments ∙ map_alike (λ t. normal kf (normal kf t)) (normal kf) (normal_twice kf) a.arguments) i }
 
+-- a normal form is the normal form of itself
+normal_stays : (kf : List Literal) (a b : Atom) → normal_atom kf a ≡ b → b ≡ normal_atom kf b
+normal_stays kf a b e = sym (ap (normal_atom kf) (sym e) ∙ atom_twice kf a ∙ e)
+
 -- terms of which one is replaced by its normal form have the same normal forms
 one_normal : (kf : List Literal) (xs ys : List Term) (t : Term) → map (normal kf) (xs ++ normal kf t ∷ ys) ≡ map (normal kf) (xs ++ t ∷ ys)
 one_normal kf [] ys t = λ i. normal_twice kf t i ∷ map (normal kf) ys
@@ -293,8 +297,7 @@ module _ (p : Problem) (path : Path) (m : ℕ) (within : m ≤ final_moment path
           let a = in_mapped (normal_atom kf) bs z (in_set_of atom_cmp_total atom_cmp_tells news z k) in
           let d = w.covers a.0 a.1 in
           let b = normals d.0 d.1 in
-          let itself : normal_atom kf d.0 ≡ d.0 = ap (normal_atom kf) (sym b.2) ∙ atom_twice kf b.0 ∙ b.2 in
-          subst (λ y. IsIn y w.atoms) (sym itself ∙ d.2 ∙ a.2) d.1))
+          subst (λ y. IsIn y w.atoms) (normal_stays kf b.0 d.0 b.2 ∙ d.2 ∙ a.2) d.1))
           w.so
 
     -- a region whose atoms are a set, with its terms in normal form

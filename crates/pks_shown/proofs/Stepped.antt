@@ -19,7 +19,7 @@ use Rattle.pks_terms.specs.Judging.{Judge, is_cited, are_cited, is_literal_that,
 use Rattle.pks_terms.specs.Reasons.{is_barred, are_barred, keeps_literal, is_kept, is_from_later, targets_of, is_target_form, is_steady_target, is_steady_form, would_undo, would_change, assigns_other, would_make_same, is_effect, is_only_made_by, is_needed, is_missed_by, is_failed}
 use Rattle.pks_terms.specs.Accepting.{is_allowed_by}
 use Rattle.pks_proof.proofs.Groups.{this_in, other_in}
-use Rattle.pks_shown.specs.Shown.{Good, IsShown, AreShown}
+use Rattle.pks_shown.specs.Shown.{IsShownInOrder, IsShown, AreShown}
 use Rattle.pks_shown.proofs.Growing.{shown_step}
 use Rattle.pks_shown.proofs.Equal.{cited_in, Lit, same_itself, same_turned, all_replaced}
 use Rattle.pks_shown.proofs.Derived.{differ_shown}
@@ -68,7 +68,7 @@ module _ (p : Problem) (path : Path) (m : ℕ) (next : suc m ≤ final_moment pa
 
   -- ---- lasting forward
 
-  pub lasts : (l : Literal) → IsIn l d.kf → spoils p.signature d es l ≡ false → Good p path (suc m) l
+  pub lasts : (l : Literal) → IsIn l d.kf → spoils p.signature d es l ≡ false → IsShownInOrder p path (suc m) l
   lasts l k h =
       let n = needs_kept p path m within d shown es orderly l h in
       let fs : List Fact = FactLit l ∷ n.facts in
@@ -141,14 +141,14 @@ module _ (p : Problem) (path : Path) (m : ℕ) (next : suc m ≤ final_moment pa
   needs_conditions c o h = needs_all p path m (λ j l. is_cited j m l) c (λ l x. needs_cited p path m l (held p path m within d shown l (o l x) (all_at (holds p.signature d) c h l x)))
 
   -- the forms of the target of an effect that fires
-  pub fired_shown : (q : Effect × List Effect) → IsIn q (with_later es) → Each (Good p path (suc m)) (fired p.signature es d q)
+  pub fired_shown : (q : Effect × List Effect) → IsIn q (with_later es) → Each (IsShownInOrder p path (suc m)) (fired p.signature es d q)
   fired_shown q k =
-      elim (list_all (holds p.signature d) q.0.condition && not (can_be_undone p.signature d q)) as (λ b. (list_all (holds p.signature d) q.0.condition && not (can_be_undone p.signature d q)) ≡ b → Each (Good p path (suc m)) (cond b (target_forms p.signature d es q.0.target) [])) [
+      elim (list_all (holds p.signature d) q.0.condition && not (can_be_undone p.signature d q)) as (λ b. (list_all (holds p.signature d) q.0.condition && not (can_be_undone p.signature d q)) ≡ b → Each (IsShownInOrder p path (suc m)) (cond b (target_forms p.signature d es q.0.target) [])) [
         | false ↦ λ h. tt
         | true ↦ λ h.
             let b = and_parts (list_all (holds p.signature d) q.0.condition) _ h in
             let place = later_in es q k in
-            each_weaker (FormOf p path m within d shown es q.0.target) (Good p path (suc m)) (λ l f.
+            each_weaker (FormOf p path m within d shown es q.0.target) (IsShownInOrder p path (suc m)) (λ l f.
             let n = needs_and p path m (λ j. is_steady_form j m es q.0 f.target) (λ j. are_cited j m q.0.condition && are_barred j m (would_undo j m f.target) q.1) (steady_form q.0 l f)
             (needs_and p path m (λ j. are_cited j m q.0.condition) (λ j. are_barred j m (would_undo j m f.target) q.1) (needs_conditions q.0.condition (orderly q.0 place.0) b.0)
             (needs_barred p path m within d shown (undoes p.signature d q.0.target) (λ j. would_undo j m f.target) (undo_misses q.0.target f.target f.same) q.1 (λ e x. orderly e (place.1 e x)) (not-true _ b.1))) in (
@@ -160,16 +160,16 @@ module _ (p : Problem) (path : Path) (m : ℕ) (next : suc m ≤ final_moment pa
       ] refl
 
   -- all that comes to the next moment
-  pub forward_shown : Each (Good p path (suc m)) (forward p i d)
+  pub forward_shown : Each (IsShownInOrder p path (suc m)) (forward p i d)
   forward_shown =
-      each_append (Good p path (suc m)) (lasting p.signature es d) (flat_map (fired p.signature es d) (with_later es))
-      (each_filter (Good p path (suc m)) (λ l. not (spoils p.signature d es l)) d.kf (λ l k h. lasts l k (not-true _ h)))
-      (each_flat_map (Good p path (suc m)) (fired p.signature es d) (with_later es) (λ q k. fired_shown q k))
+      each_append (IsShownInOrder p path (suc m)) (lasting p.signature es d) (flat_map (fired p.signature es d) (with_later es))
+      (each_filter (IsShownInOrder p path (suc m)) (λ l. not (spoils p.signature d es l)) d.kf (λ l k h. lasts l k (not-true _ h)))
+      (each_flat_map (IsShownInOrder p path (suc m)) (fired p.signature es d) (with_later es) (λ q k. fired_shown q k))
 
   module _ (after : Five) (shown' : AreShown p path (suc m) after) where
     -- ---- lasting backward
 
-    came : (l : Literal) → IsIn l after.kf → spoils p.signature d es (negated l) ≡ false → Good p path m l
+    came : (l : Literal) → IsIn l after.kf → spoils p.signature d es (negated l) ≡ false → IsShownInOrder p path m l
     came l k h =
         let n = needs_kept p path m within d shown es orderly (negated l) h in
         let gs : List Fact = FactLit l ∷ [] in
@@ -180,9 +180,9 @@ module _ (p : Problem) (path : Path) (m : ℕ) (next : suc m ≤ final_moment pa
     some_cited : (j : Judge) (l : Literal) (q : Literal → Bool) → j (suc m) ≡ FactLit l ∷ [] → q l ≡ true → some_literal j (suc m) q ≡ true
     some_cited j l q g h = ap (list_any (is_literal_that q)) g ∙ or_left (q l) _ h
 
-    must_shown : (q : Effect × List Effect) → IsIn q (with_others es) → Each (Good p path m) (must_have_fired p.signature es d after q)
+    must_shown : (q : Effect × List Effect) → IsIn q (with_others es) → Each (IsShownInOrder p path m) (must_have_fired p.signature es d after q)
     must_shown q k =
-        elim (list_any (λ l. holds p.signature d (negated l) && holds p.signature after l) (target_forms p.signature d es q.0.target) && not (is_made_otherwise p.signature d q)) as (λ b. (list_any (λ l. holds p.signature d (negated l) && holds p.signature after l) (target_forms p.signature d es q.0.target) && not (is_made_otherwise p.signature d q)) ≡ b → Each (Good p path m) (cond b q.0.condition [])) [
+        elim (list_any (λ l. holds p.signature d (negated l) && holds p.signature after l) (target_forms p.signature d es q.0.target) && not (is_made_otherwise p.signature d q)) as (λ b. (list_any (λ l. holds p.signature d (negated l) && holds p.signature after l) (target_forms p.signature d es q.0.target) && not (is_made_otherwise p.signature d q)) ≡ b → Each (IsShownInOrder p path m) (cond b q.0.condition [])) [
           | false ↦ λ h. tt
           | true ↦ λ h.
               let b = and_parts (list_any (λ l. holds p.signature d (negated l) && holds p.signature after l) (target_forms p.signature d es q.0.target)) _ h in
@@ -192,7 +192,7 @@ module _ (p : Problem) (path : Path) (m : ℕ) (next : suc m ≤ final_moment pa
               let n = needs_and p path m (λ j. is_cited j m (negated l.0)) (λ j. is_steady_form j m es q.0 f.target && are_barred j m (would_make_same j m f.target) q.1) (needs_cited p path m (negated l.0) (held p path m within d shown (negated l.0) (negated_ordered l.0 f.ordered) c.0))
               (needs_and p path m (λ j. is_steady_form j m es q.0 f.target) (λ j. are_barred j m (would_make_same j m f.target) q.1) (steady_form q.0 l.0 f)
               (needs_barred p path m within d shown (makes_same p.signature d q.0.target) (λ j. would_make_same j m f.target) (same_misses q.0.target f.target f.same) q.1 (λ e x. orderly e (other_in es q k e x)) (not-true _ b.1))) in
-              each_of (Good p path m) q.0.condition (λ x i. (
+              each_of (IsShownInOrder p path m) q.0.condition (λ x i. (
                 before_by n.facts (FactLit l.0 ∷ []) n.so (held p path (suc m) next after shown' l.0 f.ordered c.1, tt) (FactLit x) ByMust (λ j es. is_literal_that (is_needed j m es) (FactLit x)) (λ j e g.
                     any_in (λ q. list_any (literal_eq x) q.0.condition && some_literal j (suc m) (is_only_made_by j m es q)) (with_others es) q k
                     (and_from _ _ (any_in (literal_eq x) q.0.condition x i (literal_eq_itself x x refl))
@@ -210,18 +210,18 @@ module _ (p : Problem) (path : Path) (m : ℕ) (next : suc m ≤ final_moment pa
         double true = refl
         double false = refl
 
-    cannot_shown : (q : Effect × List Effect) → IsIn q (with_later es) → Each (Good p path m) (cannot_have_fired p.signature es d after q)
+    cannot_shown : (q : Effect × List Effect) → IsIn q (with_later es) → Each (IsShownInOrder p path m) (cannot_have_fired p.signature es d after q)
     cannot_shown q k =
         elim (list_any (λ l. holds p.signature after (negated l)) (target_forms p.signature d es q.0.target) && not (can_be_undone p.signature d q)) as (λ b. (list_any (λ l. holds p.signature after (negated l)) (target_forms p.signature d es q.0.target) && not (can_be_undone p.signature d q)) ≡ b
-        → Each (Good p path m) (cond b (flat_map (λ c. cond (list_all (holds p.signature d) c.1) (negated c.0 ∷ []) []) (with_others q.0.condition)) [])) [
+        → Each (IsShownInOrder p path m) (cond b (flat_map (λ c. cond (list_all (holds p.signature d) c.1) (negated c.0 ∷ []) []) (with_others q.0.condition)) [])) [
           | false ↦ λ h. tt
           | true ↦ λ h.
               let b = and_parts (list_any (λ l. holds p.signature after (negated l)) (target_forms p.signature d es q.0.target)) _ h in
               let l = found_in (λ l. holds p.signature after (negated l)) (target_forms p.signature d es q.0.target) b.0 in
               let f = each_in (FormOf p path m within d shown es q.0.target) (target_forms p.signature d es q.0.target) l.0 (forms_told p path m within d shown es orderly q.0.target) l.1 in
               let place = later_in es q k in
-              each_flat_map (Good p path m) (λ (c : Literal × List Literal). cond (list_all (holds p.signature d) c.1) (negated c.0 ∷ []) []) (with_others q.0.condition) (λ c i.
-              elim (list_all (holds p.signature d) c.1) as (λ b. list_all (holds p.signature d) c.1 ≡ b → Each (Good p path m) (cond b (negated c.0 ∷ []) [])) [
+              each_flat_map (IsShownInOrder p path m) (λ (c : Literal × List Literal). cond (list_all (holds p.signature d) c.1) (negated c.0 ∷ []) []) (with_others q.0.condition) (λ c i.
+              elim (list_all (holds p.signature d) c.1) as (λ b. list_all (holds p.signature d) c.1 ≡ b → Each (IsShownInOrder p path m) (cond b (negated c.0 ∷ []) [])) [
                 | false ↦ λ x. tt
                 | true ↦ λ x.
                     let n = needs_and p path m (λ j. are_cited j m c.1) (λ j. is_steady_form j m es q.0 f.target && are_barred j m (would_undo j m f.target) q.1) (needs_conditions c.1 (λ l y. orderly q.0 place.0 l (other_in q.0.condition c i l y)) x)
@@ -242,10 +242,10 @@ module _ (p : Problem) (path : Path) (m : ℕ) (next : suc m ≤ final_moment pa
         ] refl
 
     -- all that comes to the moment before
-    pub backward_shown : Each (Good p path m) (backward p i d after)
+    pub backward_shown : Each (IsShownInOrder p path m) (backward p i d after)
     backward_shown =
-        each_append (Good p path m) (lasted p.signature es d after) (flat_map (must_have_fired p.signature es d after) (with_others es) ++ flat_map (cannot_have_fired p.signature es d after) (with_later es))
-        (each_filter (Good p path m) (λ l. not (spoils p.signature d es (negated l))) after.kf (λ l k h. came l k (not-true _ h)))
-        (each_append (Good p path m) (flat_map (must_have_fired p.signature es d after) (with_others es)) (flat_map (cannot_have_fired p.signature es d after) (with_later es))
-        (each_flat_map (Good p path m) (must_have_fired p.signature es d after) (with_others es) (λ q k. must_shown q k))
-        (each_flat_map (Good p path m) (cannot_have_fired p.signature es d after) (with_later es) (λ q k. cannot_shown q k)))
+        each_append (IsShownInOrder p path m) (lasted p.signature es d after) (flat_map (must_have_fired p.signature es d after) (with_others es) ++ flat_map (cannot_have_fired p.signature es d after) (with_later es))
+        (each_filter (IsShownInOrder p path m) (λ l. not (spoils p.signature d es (negated l))) after.kf (λ l k h. came l k (not-true _ h)))
+        (each_append (IsShownInOrder p path m) (flat_map (must_have_fired p.signature es d after) (with_others es)) (flat_map (cannot_have_fired p.signature es d after) (with_later es))
+        (each_flat_map (IsShownInOrder p path m) (must_have_fired p.signature es d after) (with_others es) (λ q k. must_shown q k))
+        (each_flat_map (IsShownInOrder p path m) (cannot_have_fired p.signature es d after) (with_later es) (λ q k. cannot_shown q k)))
