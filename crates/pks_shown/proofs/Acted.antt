@@ -4,10 +4,10 @@ use Rattle.std.specs.List.{list_any, list_all}
 use Rattle.std.specs.Option.{option_map_or, option_and_then}
 use Rattle.std.specs.Cmp.Lexicographic.{pointwise}
 use Rattle.std.proofs.lemmas.Bool.{or_cases, or_left, or_right, and_parts, and_from, eq-eqb, not-true}
-use Rattle.pks_terms.specs.Sets.{Each, IsIn, all_some, with_later}
-use Rattle.pks_terms.specs.Syntax.{Object, Parameter, Apply, Inner, Term, object, place, term_of, as_object, are_two_objects, Relation, Named, Equality, Literal, affirmed, denied, negated}
-use Rattle.pks_terms.specs.Orders.{term_cmp, term_eq, literal_eq, in_order, literal, equation, inequation, arguments_of}
-use Rattle.pks_terms.specs.Databases.{Five, values_at, least, inner_normal, normal, normal_literal, is_evident, holds}
+use Rattle.pks_terms.specs.Sets.{Each, IsIn, with_later}
+use Rattle.pks_terms.specs.Syntax.{Object, Parameter, Apply, Inner, Term, term_of, are_two_objects, Relation, Named, Equality, Literal, affirmed, denied, negated}
+use Rattle.pks_terms.specs.Orders.{term_cmp, literal_eq, in_order, literal, equation, inequation, arguments_of}
+use Rattle.pks_terms.specs.Databases.{Five, inner_normal, normal, normal_literal, is_evident, holds}
 use Rattle.pks_terms.specs.Queries.{Plain, Know, KnowWhether, KnowValue, answers_plain}
 use Rattle.pks_terms.specs.Actions.{Target, Set, Unset, Clear, Assign, Effect, Item, ItemKf, ItemKw, ItemKv, ItemLcw, Add, Schema, Instance, inner_at, term_at, literal_at, conj_at, target_at, effect_at, plain_at}
 use Rattle.pks_terms.specs.Spoiling.{is_stable, are_stable, spoils}
@@ -23,14 +23,14 @@ use Rattle.pks_terms.specs.Moments.{IsInOrder}
 use Rattle.pks_laws.proofs.Least.{in_order-map, literal_eq_itself, term_eq_itself}
 use Rattle.pks_terms.specs.Proofs.{Fact, FactLit, FactKx, Path, deeds, final_moment, ByKeep, ByEffect}
 use Rattle.pks_terms.specs.Judging.{Judge, fact_eq, is_cited, are_cited, is_literal_that}
-use Rattle.pks_terms.specs.Rewriting.{are_equal_arguments, has_arguments, is_equation, is_form, are_forms}
+use Rattle.pks_terms.specs.Rewriting.{are_equal_arguments, is_form, are_forms}
 use Rattle.pks_terms.specs.Reasons.{are_cited_apart, is_barred, are_barred, is_steady, are_steady, keeps_literal, keeps_group, is_kept, targets_of, is_target_form, is_steady_target, is_steady_form, would_undo, would_change, would_make_true, would_make_false, is_effect}
 use Rattle.pks_shown.specs.Shown.{IsShownInOrder, IsShown, AreShown}
-use Rattle.pks_shown.proofs.Equal.{Lit, Same, AllSame, evident_shown, same_itself, same_turned, all_replaced, least_shown, map_same, some_all, inner_normal_shown, from_normals, objects_same}
+use Rattle.pks_shown.proofs.Equal.{Lit, AllSame, evident_shown, same_itself, same_turned, all_replaced, inner_normal_shown, from_normals}
 use Rattle.pks_shown.proofs.Needed.{Needs, needs_nothing, needs_then, needs_and, needs_all, needs_cited, all_at, needs_steady, needs_all_steady, needs_kept}
 use Rattle.pks_shown.proofs.Equal.{literal_ordered}
 use Rattle.pks_shown.proofs.Derived.{held}
-use Rattle.pks_shown.proofs.Formed.{form_by, has_itself, form_itself, equal_forms, assignment_among}
+use Rattle.pks_shown.proofs.Formed.{equal_forms, assignment_among}
 use Rattle.pks_shown.proofs.NormalForms.{inners_of, normal_of, normals_of}
 use Rattle.pks_shown.proofs.Stepped.{within, orderly, after_by}
 

@@ -1,10 +1,10 @@
 -- What closing adds is shown.
-use Rattle.std.proofs.Common.{◌≡◌, ◌&&◌, ◌||◌, ◌==◌, ◌≤◌, ℕ, Bool, true, false, cond, List, [], ◌∷◌, ◌++◌, map, filter, flat_map, slice_get, Option, Some, None, refl, sym, ap, ◌∙◌, subst, inl, inr, ⊎_elim, true≢false}
+use Rattle.std.proofs.Common.{◌≡◌, ◌&&◌, ◌||◌, ◌==◌, ◌≤◌, ℕ, true, false, cond, List, [], ◌∷◌, ◌++◌, map, filter, flat_map, slice_get, Option, Some, None, refl, sym, ap, ◌∙◌, subst, inl, inr, ⊎_elim, true≢false}
 use Rattle.std.specs.List.{list_any, list_all}
 use Rattle.std.specs.Option.{option_map_or, option_map}
 use Rattle.std.proofs.lemmas.Bool.{or_cases, or_left, or_right, and_parts, and_from, eq-eqb}
 use Rattle.pks_terms.specs.Sets.{Each, IsIn, all_some, with_others, one_replaced}
-use Rattle.pks_terms.specs.Syntax.{Object, Parameter, Apply, Inner, Term, object, place, term_of, as_object, Relation, Equality, Literal, negated}
+use Rattle.pks_terms.specs.Syntax.{Object, Parameter, Apply, Inner, Term, object, place, term_of, as_object, Equality, Literal, negated}
 use Rattle.pks_terms.specs.Orders.{term_cmp, literal_eq, literal, equation, inequation}
 use Rattle.pks_terms.specs.Signatures.{Shape, Signature, objects_of, range_of}
 use Rattle.pks_terms.specs.Reasons.{others_ruled_out, objects_like}
@@ -18,7 +18,7 @@ use Rattle.pks_terms.specs.Proofs.{Fact, FactLit, FactKx, Path, final_moment, By
 use Rattle.pks_terms.specs.Judging.{Judge, is_cited, are_cited, is_group_that}
 use Rattle.pks_shown.specs.Shown.{AreShown, IsShownInOrder}
 use Rattle.pks_shown.proofs.Growing.{shown_within}
-use Rattle.pks_shown.proofs.Equal.{literal_ordered, cited_in, Lit, Same, AllSame, AllSameInner, ordered, all_replaced, same_itself, value_shown, same_applied, objects_same}
+use Rattle.pks_shown.proofs.Equal.{literal_ordered, cited_in, Lit, Same, AllSame, AllSameInner, all_replaced, same_itself, value_shown, same_applied, objects_same}
 use Rattle.pks_shown.proofs.Derived.{made_ordered, held}
 use Rattle.pks_shown.proofs.Needed.{needs_nothing, needs_then, needs_all, needs_cited, negated_ordered, all_at}
 use Rattle.pks_proof.proofs.Groups.{this_in, other_in}

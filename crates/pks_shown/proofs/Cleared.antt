@@ -1,5 +1,5 @@
 -- A region that an add of an action gives is shown after it.
-use Rattle.std.proofs.Common.{◌≡◌, ◌&&◌, ◌==◌, ◌≤◌, ℕ, suc, Bool, true, false, cond, not, is_some, is_eq, List, [], ◌∷◌, map, slice_get, Option, Some, None, option_map, refl, sym, ap, ◌∙◌, subst, true≢false}
+use Rattle.std.proofs.Common.{◌≡◌, ◌&&◌, ◌==◌, ◌≤◌, ℕ, suc, true, false, cond, not, is_some, List, [], ◌∷◌, map, slice_get, Option, Some, None, option_map, refl, sym, ap, ◌∙◌, subst, true≢false}
 use Rattle.std.specs.List.{list_any}
 use Rattle.std.specs.Cmp.Lexicographic.{pointwise}
 use Rattle.std.proofs.lemmas.Bool.{or_right, and_parts, and_from, eq-eqb, not-true}
@@ -17,7 +17,7 @@ use Rattle.pks_terms.specs.Progress.{fixed_terms, regions_added}
 use Rattle.pks_terms.specs.Settling.{effects_of}
 use Rattle.pks_terms.proofs.ListLaws.{found_in, any_in, in_mapped, none_in, in_with_later_map}
 use Rattle.pks_terms.proofs.OrderLaws.{pattern_cmp_tells}
-use Rattle.pks_terms.specs.Proofs.{Fact, FactLcw, Path, deeds, final_moment, ByClear}
+use Rattle.pks_terms.specs.Proofs.{FactLcw, Path, deeds, final_moment, ByClear}
 use Rattle.pks_terms.specs.Judging.{Judge, is_region_that}
 use Rattle.pks_terms.specs.Rewriting.{is_form, is_slot_form}
 use Rattle.pks_terms.specs.Reasons.{would_widen, cannot_fire, is_barred, are_barred, are_steady, is_empty, is_clear_form, is_cleared}

@@ -2,11 +2,11 @@
 use Rattle.std.proofs.Common.{◌≡◌, ◌&&◌, ◌||◌, ◌==◌, ◌≤◌, ℕ, suc, Bool, true, false, cond, not, List, [], ◌∷◌, map, slice_get, Option, Some, None, option_map, is_eq, is_lt, refl, sym, ap, ◌∙◌, subst, inl, inr, ⊎_elim, true≢false}
 use Rattle.std.specs.List.{list_any, list_all}
 use Rattle.std.proofs.lemmas.Cmp.{tied_itself}
-use Rattle.std.proofs.lemmas.Bool.{or_cases, or_left, or_right, and_parts, and_from, eq-eqb, not-true, not-false}
+use Rattle.std.proofs.lemmas.Bool.{or_cases, or_left, or_right, and_parts, and_from, eq-eqb, not-true}
 use Rattle.std.proofs.lemmas.Option.{none-some, same_Some}
 use Rattle.pks_terms.specs.Sets.{Each, IsIn, IsOrdered}
 use Rattle.pks_terms.specs.Syntax.{Object, Parameter, Apply, Term, are_two_objects, Equality, Literal, Atom, Pattern, negated}
-use Rattle.pks_terms.specs.Orders.{term_cmp, atom_cmp, pattern_cmp, literal, inequation}
+use Rattle.pks_terms.specs.Orders.{term_cmp, atom_cmp, literal, inequation}
 use Rattle.pks_terms.specs.Totality.{atom_cmp_total, pattern_cmp_total}
 use Rattle.pks_terms.specs.Signatures.{Signature}
 use Rattle.pks_terms.specs.Databases.{Entry, Five, normal, is_evident, is_plain, differ, holds}
@@ -26,7 +26,7 @@ use Rattle.pks_terms.specs.Reasons.{are_cited_apart, fixed_cited_apart, would_wi
 use Rattle.pks_proof.proofs.Judged.{fact_eq_same}
 use Rattle.pks_shown.specs.Shown.{IsShown, AreShown}
 use Rattle.pks_shown.proofs.Derived.{held}
-use Rattle.pks_shown.proofs.Needed.{NeedsOf, of_nothing, of_then, of_and, of_all, all_at, quiet_of, widen_of, all_steady_of}
+use Rattle.pks_shown.proofs.Needed.{NeedsOf, of_nothing, of_then, of_and, of_all, quiet_of, widen_of, all_steady_of}
 use Rattle.pks_shown.proofs.NormalForms.{normals_of}
 use Rattle.pks_shown.proofs.Stepped.{within, orderly, after_by}
 use Rattle.pks_shown.proofs.Widened.{meets, joins, Joined, Widens, wide}

@@ -1,5 +1,5 @@
 -- Along a path from the closed start all that stands in databases is shown, so each literal that holds at its end has a proof.
-use Rattle.std.proofs.Common.{◌≡◌, ◌+◌, ◌<◌, ◌≤◌, ℕ, suc, Bool, true, false, cond, List, [], ◌∷◌, ◌++◌, append_assoc, append-nil, slice_get, Some, refl, sym, ap, ◌∙◌, subst, true≢false, arith}
+use Rattle.std.proofs.Common.{◌≡◌, ◌≤◌, suc, Bool, true, false, cond, List, [], ◌∷◌, ◌++◌, append_assoc, append-nil, slice_get, Some, refl, sym, ap, ◌∙◌, subst, true≢false, arith}
 use Rattle.pks_terms.specs.Sets.{Each, IsIn}
 use Rattle.pks_terms.specs.Syntax.{Literal}
 use Rattle.pks_terms.specs.Databases.{Five, holds}
@@ -12,7 +12,7 @@ use Rattle.pks_terms.specs.Settling.{History, last_moment, pushed, with_last, se
 use Rattle.pks_terms.specs.Trees.{after_step, Acts, SettlesAfter, Takes}
 use Rattle.pks_terms.specs.Typed.{AllJustified}
 use Rattle.pks_terms.specs.Valid.{IsValid}
-use Rattle.pks_terms.specs.Moments.{IsInOrder, IsMomentOf, AreMomentsOf}
+use Rattle.pks_terms.specs.Moments.{IsInOrder, AreMomentsOf}
 use Rattle.pks_terms.proofs.ListLaws.{each_in}
 use Rattle.pks_laws.specs.OfSignature.{IsSideOf}
 use Rattle.pks_laws.proofs.BelongingHistories.{is_clash, history_or}
@@ -20,7 +20,7 @@ use Rattle.pks_laws.proofs.Instances.{allowed_instance}
 use Rattle.pks_laws.proofs.SearchStates.{last_of_it, start_of, acts_of, takes_of}
 use Rattle.pks_terms.specs.Proofs.{FactLit, Went, Took, Path, deeds, final_moment, Proof, takings}
 use Rattle.pks_terms.specs.Accepting.{accepts}
-use Rattle.pks_shown.specs.Shown.{IsShown, AreShown, IsHistoryShown, Leads}
+use Rattle.pks_shown.specs.Shown.{IsShown, IsHistoryShown, Leads}
 use Rattle.pks_shown.proofs.Growing.{shown_proof}
 use Rattle.pks_shown.proofs.Derived.{held}
 use Rattle.pks_shown.proofs.Gathered.{got_within, settle_rounds_shown}

@@ -1,12 +1,12 @@
 -- The moments of a history along a path: the last of them, and the actions and sides that stand there.
-use Rattle.std.proofs.Common.{◌≡◌, ◌+◌, ◌<◌, ◌≤◌, ℕ, zero, suc, List, [], ◌∷◌, ◌++◌, length, map, slice_get, Some, refl, sym, ap, ◌∙◌, subst, arith}
+use Rattle.std.proofs.Common.{◌≡◌, ◌≤◌, ℕ, zero, suc, List, [], ◌∷◌, ◌++◌, map, slice_get, Some, refl, sym, ap, ◌∙◌, arith}
 use Rattle.pks_terms.specs.Databases.{Five}
 use Rattle.pks_terms.specs.Closure.{tidied}
 use Rattle.pks_terms.specs.Actions.{Instance}
 use Rattle.pks_terms.specs.Branching.{Choice, Side}
 use Rattle.pks_terms.specs.Problems.{Problem}
 use Rattle.pks_terms.specs.Settling.{History, last_of, with_last, steps_with_last, settled_steps, settle_round, settle_rounds, tidied_history}
-use Rattle.pks_terms.specs.Proofs.{Went, Took, Path, deeds, final_moment, Taking, takings}
+use Rattle.pks_terms.specs.Proofs.{Went, Took, Path, deeds, final_moment, takings}
 use Rattle.pks_shown.specs.Shown.{AreShown, AreShownAlong, AreSteps, IsHistoryShown}
 use Rattle.pks_shown.proofs.Gathered.{got_within}
 use Rattle.pks_shown.proofs.Tidied.{tidied_shown}

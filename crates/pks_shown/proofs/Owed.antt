@@ -1,6 +1,5 @@
 -- Each literal that a plan rests on has an accepted proof, so each plan has an explanation.
-use Rattle.std.proofs.Common.{◌≡◌, ◌++◌, ℕ, Bool, true, false, cond, not, List, [], ◌∷◌, map, filter, filter_map, Option, Some, None, refl, sym, ap, ◌∙◌, subst, true≢false}
-use Rattle.std.specs.List.{list_all}
+use Rattle.std.proofs.Common.{◌≡◌, ◌++◌, ℕ, Bool, true, false, cond, not, List, [], ◌∷◌, map, filter, filter_map, Some, None, refl, sym, ap, ◌∙◌, subst, true≢false}
 use Rattle.std.proofs.lemmas.Option.{none-some, same_Some}
 use Rattle.pks_terms.specs.Sets.{Each, IsIn}
 use Rattle.pks_terms.specs.Syntax.{Inner, Term, object, Literal}
@@ -12,7 +11,7 @@ use Rattle.pks_terms.specs.Queries.{Plain, Know, KnowWhether, KnowValue, Query, 
 use Rattle.pks_terms.specs.Actions.{Instance, term_at, literal_at, plain_at, query_at}
 use Rattle.pks_terms.specs.Problems.{Aim, Now, AtStart, Always, Once, Problem, schema_of, initial}
 use Rattle.pks_terms.specs.Versions.{query_in}
-use Rattle.pks_terms.specs.Branching.{instances, left, Choice, BranchOn, CasesOn, Side, AsTrue, AsFalse, Is, IsMember, is_allowed}
+use Rattle.pks_terms.specs.Branching.{instances, left, Choice, BranchOn, CasesOn, Side, AsTrue, AsFalse, Is, IsMember}
 use Rattle.pks_terms.specs.Settling.{History, last_moment, State, At, Stopped}
 use Rattle.pks_terms.specs.Aims.{is_met, met}
 use Rattle.pks_terms.specs.Trees.{Tree, Goal, Impossible, Do, Branch, Cases, Chain, End, More, objects_in, Acts, Takes, Derives, DerivesEach, start_state, IsPlan}
@@ -22,7 +21,7 @@ use Rattle.pks_terms.specs.Moments.{IsInOrder}
 use Rattle.pks_terms.specs.Proofs.{Went, Took, Path, Proof}
 use Rattle.pks_terms.specs.Accepting.{accepts}
 use Rattle.pks_terms.specs.Explained.{literal_asked, literal_needed, needed_before, literal_aimed, at_end, owed, owed_in, Entry, IsExplained}
-use Rattle.pks_terms.proofs.ListLaws.{each_append, each_in, each_of, each_map, each_filter_map, each_from_all, in_filtered}
+use Rattle.pks_terms.proofs.ListLaws.{each_append, each_in, each_of, each_filter_map, each_from_all, in_filtered}
 use Rattle.pks_laws.specs.OfSignature.{IsSideOf}
 use Rattle.pks_laws.proofs.Instances.{allowed_instance}
 use Rattle.pks_shown.specs.Shown.{Leads}

@@ -1,5 +1,5 @@
 -- What an action makes of databases is shown after it, where they are shown before it.
-use Rattle.std.proofs.Common.{◌≡◌, ◌≤◌, ℕ, suc, true, not, is_some, List, [], ◌∷◌, filter, filter_map, flat_map, slice_get, Some, refl}
+use Rattle.std.proofs.Common.{◌≡◌, ◌≤◌, ℕ, suc, true, not, is_some, List, filter, filter_map, flat_map, slice_get, Some, refl}
 use Rattle.std.proofs.lemmas.Bool.{not-true}
 use Rattle.pks_terms.specs.Sets.{Each, IsIn, added, set_of}
 use Rattle.pks_terms.specs.Syntax.{Inner, Literal}

@@ -1,12 +1,12 @@
 -- A region with its terms in normal form is shown where it is.
-use Rattle.std.proofs.Common.{◌≡◌, ◌⊎◌, ◌&&◌, ◌||◌, ◌≤◌, ℕ, Bool, true, List, [], ◌∷◌, ◌++◌, append_assoc, map, Option, Some, None, option_map, Less, Equal, Greater, Ordering, is_eq, refl, sym, ap, ◌∙◌, subst, inl, inr, ⊎_elim}
+use Rattle.std.proofs.Common.{◌≡◌, ◌⊎◌, ◌&&◌, ◌||◌, ◌≤◌, ℕ, true, List, [], ◌∷◌, ◌++◌, append_assoc, map, Option, Some, None, option_map, Less, Equal, Greater, is_eq, refl, sym, ap, ◌∙◌, subst, inl, inr, ⊎_elim}
 use Rattle.std.specs.List.{list_any}
 use Rattle.std.specs.Option.{option_map_or, option_and_then}
 use Rattle.std.proofs.lemmas.Cmp.{tied_itself, lists_total}
 use Rattle.std.proofs.lemmas.Bool.{and_from, or_left, or_right, eq-eqb}
 use Rattle.pks_terms.specs.Sets.{Each, IsIn, all_some, insert_in, set_of, with_others, IsOrdered}
 use Rattle.pks_terms.specs.Syntax.{Form, Object, Parameter, Apply, Inner, Term, as_object, Literal, Atom, Pattern}
-use Rattle.pks_terms.specs.Orders.{term_eq, atom_cmp, pattern_cmp, equation}
+use Rattle.pks_terms.specs.Orders.{term_eq, atom_cmp, equation}
 use Rattle.pks_terms.specs.Totality.{atom_cmp_total, pattern_cmp_total}
 use Rattle.pks_terms.specs.Databases.{Entry, values_at, least, applied, form_normal, inner_normal, normal}
 use Rattle.pks_terms.specs.Closure.{normal_atom, normal_pattern, normal_entry}
@@ -16,7 +16,7 @@ use Rattle.pks_terms.proofs.OrderLaws.{atom_cmp_tells}
 use Rattle.pks_terms.proofs.SetLaws.{ordered_insert, ordered_set_of, in_inserted, inserted_in, in_set_of, set_of_in, same_members}
 use Rattle.pks_terms.specs.Proofs.{Fact, FactLit, FactLcw, Path, final_moment, BySwap}
 use Rattle.pks_terms.specs.Judging.{Judge}
-use Rattle.pks_terms.specs.Rewriting.{is_equation, swaps_term, same_slot, swaps_slot, swaps_atom, same_atoms, swaps_listed, swaps_region, swaps}
+use Rattle.pks_terms.specs.Rewriting.{is_equation, swaps_term, same_slot, swaps_slot, swaps_atom, same_atoms, swaps_region, swaps}
 use Rattle.pks_laws.proofs.Least.{term_eq_itself}
 use Rattle.pks_shown.specs.Shown.{IsShown}
 use Rattle.pks_shown.proofs.Growing.{shown_within}

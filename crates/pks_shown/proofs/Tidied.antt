@@ -1,5 +1,5 @@
 -- Closed databases are shown where those that they are closed from are.
-use Rattle.std.proofs.Common.{◌≡◌, ◌≤◌, ℕ, List, [], ◌∷◌, map, refl, sym, subst}
+use Rattle.std.proofs.Common.{◌≡◌, ◌≤◌, ℕ, List, [], ◌∷◌, map, sym, subst}
 use Rattle.pks_terms.specs.Sets.{Each, IsIn, set_of, IsOrdered}
 use Rattle.pks_terms.specs.Syntax.{Literal}
 use Rattle.pks_terms.specs.Orders.{conj_cmp, atom_cmp}

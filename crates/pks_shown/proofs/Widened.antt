@@ -1,6 +1,6 @@
 -- What an action makes of a region's list: the atoms that were there, and the normal forms of those that it may set.
 use Rattle.std.proofs.Common.{◌≡◌, ◌⊎◌, ◌&&◌, ◌==◌, Bool, true, false, cond, not, List, [], ◌∷◌, map, Option, Some, None, refl, sym, ap, ◌∙◌, subst, inl, inr, ⊎_elim, true≢false}
-use Rattle.std.proofs.lemmas.Bool.{and_parts, and_from}
+use Rattle.std.proofs.lemmas.Bool.{and_from}
 use Rattle.std.proofs.lemmas.Option.{same_Some, cond_some, option_and_then_some}
 use Rattle.pks_terms.specs.Sets.{IsIn, insert_in, IsOrdered}
 use Rattle.pks_terms.specs.Syntax.{Atom, Pattern}
