@@ -136,8 +136,8 @@ module _ (p : Problem) (path : Path) (m : ℕ) (next : suc m ≤ final_moment pa
   all_listed bs [] f = refl
   all_listed bs (c ∷ cs) f = and_from _ _ (listed_in bs c (f c (inl refl))) (all_listed bs cs (λ b k. f b (inr k)))
 
-  abbrev Meeting : Pattern → Effect → Bool
-  Meeting x e = joins p.signature d x e
+  abbrev joining : Pattern → Effect → Bool
+  joining x e = joins p.signature d x e
 
   -- an atom that may be set, in normal form, is a form of it, and steady
   set_formed : (x : Pattern) (e : Effect) (b : Atom) → Joined p.signature d es x e b → O (λ j. is_set_form j m es e.target b ≡ true)
@@ -173,21 +173,21 @@ module _ (p : Problem) (path : Path) (m : ℕ) (next : suc m ≤ final_moment pa
         ] refl
 
     -- a listed atom was listed before, or is of an effect that may set an instance
-    came_in : (b : Atom) → IsIn b all → O (λ j. (is_listed r.listed b || list_any (λ e. Meeting r.pattern e && is_set_form j m es e.target b) es) ≡ true)
+    came_in : (b : Atom) → IsIn b all → O (λ j. (is_listed r.listed b || list_any (λ e. joining r.pattern e && is_set_form j m es e.target b) es) ≡ true)
     came_in b k =
         ⊎_elim
-        (λ l. of_nothing Sure m (λ j. (is_listed r.listed b || list_any (λ e. Meeting r.pattern e && is_set_form j m es e.target b) es) ≡ true) (λ j. or_left _ _ (listed_in r.listed b l)))
-        (λ n. of_then Sure m (λ j. is_set_form j m es n.0.target b ≡ true) (λ j. (is_listed r.listed b || list_any (λ e. Meeting r.pattern e && is_set_form j m es e.target b) es) ≡ true)
-        (λ j c. or_right (is_listed r.listed b) _ (any_in (λ e. Meeting r.pattern e && is_set_form j m es e.target b) es n.0 n.1 (and_from _ _ n.2.joined c))) (set_formed r.pattern n.0 b n.2))
+        (λ l. of_nothing Sure m (λ j. (is_listed r.listed b || list_any (λ e. joining r.pattern e && is_set_form j m es e.target b) es) ≡ true) (λ j. or_left _ _ (listed_in r.listed b l)))
+        (λ n. of_then Sure m (λ j. is_set_form j m es n.0.target b ≡ true) (λ j. (is_listed r.listed b || list_any (λ e. joining r.pattern e && is_set_form j m es e.target b) es) ≡ true)
+        (λ j c. or_right (is_listed r.listed b) _ (any_in (λ e. joining r.pattern e && is_set_form j m es e.target b) es n.0 n.1 (and_from _ _ n.2.joined c))) (set_formed r.pattern n.0 b n.2))
         (w.from b k)
 
     grow : IsIn r d.lcw → are_stable p.signature d es (entry_terms r) ≡ true → IsShown p path (suc m) (FactLcw after)
     grow k stable =
-        let n = of_and Sure m (λ j. are_steady j m es (entry_terms r)) (λ j. list_all (is_taken_in j m es after) es && list_all (λ b. is_listed r.listed b || list_any (λ e. Meeting r.pattern e && is_set_form j m es e.target b) es) all)
+        let n = of_and Sure m (λ j. are_steady j m es (entry_terms r)) (λ j. list_all (is_taken_in j m es after) es && list_all (λ b. is_listed r.listed b || list_any (λ e. joining r.pattern e && is_set_form j m es e.target b) es) all)
         (all_steady_of p.signature d Sure m sure es (orderly p path m next i there d shown) (entry_terms r) stable)
-        (of_and Sure m (λ j. list_all (is_taken_in j m es after) es) (λ j. list_all (λ b. is_listed r.listed b || list_any (λ e. Meeting r.pattern e && is_set_form j m es e.target b) es) all)
+        (of_and Sure m (λ j. list_all (is_taken_in j m es after) es) (λ j. list_all (λ b. is_listed r.listed b || list_any (λ e. joining r.pattern e && is_set_form j m es e.target b) es) all)
         (of_all Sure m (λ j e. is_taken_in j m es after e) es taken_in)
-        (of_all Sure m (λ j b. is_listed r.listed b || list_any (λ e. Meeting r.pattern e && is_set_form j m es e.target b) es) all came_in)) in
+        (of_all Sure m (λ j b. is_listed r.listed b || list_any (λ e. joining r.pattern e && is_set_form j m es e.target b) es) all came_in)) in
         let fs : List Fact = FactLcw r ∷ n.facts in
         after_by p path m next i there d shown fs (shown.regions r k, all_shown n.facts n.so) (FactLcw after) ByGrow (λ j k es. is_region_that (is_grown j k es) (FactLcw after)) (λ j e.
         let sound : Each (HoldsIn p.signature d) (j m) = subst (Each (HoldsIn p.signature d)) (sym e) (tt, all_hold n.facts n.so) in
@@ -199,10 +199,10 @@ module _ (p : Problem) (path : Path) (m : ℕ) (next : suc m ≤ final_moment pa
         (and_from _ _ a.0
         (and_from _ _ (all_listed all r.listed w.keeps)
         (and_from _ _ b.0
-        (all_by (λ b. is_listed r.listed b || list_any (λ e. Meeting r.pattern e && is_set_form j m es e.target b) es) (λ b. is_listed r.listed b || is_new_atom j m es r.pattern b)
+        (all_by (λ b. is_listed r.listed b || list_any (λ e. joining r.pattern e && is_set_form j m es e.target b) es) (λ b. is_listed r.listed b || is_new_atom j m es r.pattern b)
         (λ b h. ⊎_elim (λ l. or_left _ _ l)
-        (λ l. or_right (is_listed r.listed b) _ (any_by (λ e. Meeting r.pattern e && is_set_form j m es e.target b) (λ e. not (is_barred j m (would_widen j m r.pattern) e) && is_set_form j m es e.target b)
-        (λ e h. let q = and_parts (Meeting r.pattern e) _ h in and_from _ _ (not_barred p.signature d j m sound r.pattern e q.0) q.1) es l))
+        (λ l. or_right (is_listed r.listed b) _ (any_by (λ e. joining r.pattern e && is_set_form j m es e.target b) (λ e. not (is_barred j m (would_widen j m r.pattern) e) && is_set_form j m es e.target b)
+        (λ e h. let q = and_parts (joining r.pattern e) _ h in and_from _ _ (not_barred p.signature d j m sound r.pattern e q.0) q.1) es l))
         (or_cases (is_listed r.listed b) _ h)) all b.1)))))) (λ j. refl)
 
   -- a region that the action leaves is shown, its atoms still a set

@@ -129,6 +129,10 @@ module _ (p : Problem) (path : Path) where
         zero_within : 0 ≤ final_moment path
         zero_within = omega arith
 
+    -- all that stands in the databases of the history to which the path leads is shown
+    pub history_shown : (d : Five) (h : History) → Closes p.signature (initial p) (Next d) → Leads p (record { start = d; steps = [] }) path h → IsHistoryShown p path h
+    history_shown d h c leads = (lead path [] (record { start = d; steps = [] }) h refl (start d c) leads).shown
+
     -- a literal that holds at the end of the path has an accepted proof
     pub proof_of : (d : Five) (h : History) (l : Literal) → Closes p.signature (initial p) (Next d) → Leads p (record { start = d; steps = [] }) path h → IsInOrder l → holds p.signature (last_moment h) l ≡ true → (proof : Proof) × (accepts p path proof l ≡ true)
     proof_of d h l c leads o holding =

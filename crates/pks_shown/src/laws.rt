@@ -1,6 +1,6 @@
 //! The laws over the definitions, each the clause of a function that does nothing.
 
-ghost use Rattle.std.specs.Prelude.{◌≡◌, ◌≤◌, ◌+◌, ℕ, true, List, [], Some, slice_get, is_some};
+ghost use Rattle.std.specs.Prelude.{◌≡◌, ◌≤◌, ◌+◌, ℕ, true, List, [], ◌++◌, Some, slice_get, is_some};
 ghost use Rattle.pks_terms.specs.Sets.{Each, IsIn};
 ghost use Rattle.pks_terms.specs.Syntax.{Literal};
 ghost use Rattle.pks_terms.specs.Databases.{Entry, Five, holds};
@@ -16,7 +16,7 @@ ghost use Rattle.pks_terms.specs.Progress.{kept_entry, regions_added, progressed
 ghost use Rattle.pks_terms.specs.Settling.{History, last_moment, effects_of, forward, backward, settle_rounds};
 ghost use Rattle.pks_terms.specs.Trees.{Tree, IsPlan};
 ghost use Rattle.pks_terms.specs.Proofs.{FactLit, FactLcw, Path, deeds, takings, final_moment, Proof, nth};
-ghost use Rattle.pks_terms.specs.Accepting.{accepts};
+ghost use Rattle.pks_terms.specs.Accepting.{are_allowed, accepts};
 ghost use Rattle.pks_terms.specs.Explained;
 ghost use Rattle.pks_terms.specs.Explained.{IsExplained};
 ghost use Rattle.pks_shown.specs.Shown.{IsShown, IsShownInOrder, AreShown, IsHistoryShown, Leads};
@@ -85,6 +85,16 @@ pub fn acting_is_shown()
 /// Rounds of settling keep what stands in the databases of a history along the path shown at all moments.
 pub fn settling_is_shown()
     ensures { (p : Problem) (path : Path) (n : ℕ) (h : History) → IsHistoryShown p path h → IsHistoryShown p path (settle_rounds p n h) }
+{}
+
+/// All that stands in the databases of a history is shown at its moment, where a path leads to the history from the closed start of a valid problem whose adds are justified.
+pub fn what_is_derived_is_shown()
+    ensures { (p : Problem) (path : Path) (d : Five) (h : History) → IsValid p → AllJustified p → Closes p.signature (initial p) (Next d) → Leads p (record { start = d; steps = [] }) path h → IsHistoryShown p path h }
+{}
+
+/// Lines that are allowed along a path are allowed along every longer one.
+pub fn lines_stay_allowed_along_longer_paths()
+    ensures { (p : Problem) (path more : Path) (proof : Proof) → are_allowed p path proof ≡ true → are_allowed p (path ++ more) proof ≡ true }
 {}
 
 /// Each literal that holds at the end of a path, which leads there from the closed start of a valid problem whose adds are justified, has an accepted proof.
