@@ -1,5 +1,5 @@
 -- Where a precondition isn't answered by the first arguments, no instance that begins with them is a choice.
-use Rattle.std.proofs.Common.{◌≡◌, ◌≤◌, ◌<◌, ℕ, take, arith, zero, suc, Bool, true, false, not, ◌&&◌, ◌||◌, List, [], ◌∷◌, ◌++◌, length, map, Option, Some, None, slice_get, unwrap_or, refl, sym, ap, ◌∙◌, subst, true≢false, if◌then◌else◌, append-nil, append_assoc, flat_map}
+use Rattle.std.proofs.Common.{◌≡◌, ◌≤◌, ◌<◌, ℕ, take, arith, zero, suc, Bool, true, false, not, ◌&&◌, ◌||◌, List, [], ◌∷◌, ◌++◌, length, map, refl, sym, ap, ◌∙◌, true≢false, if◌then◌else◌, append-nil, append_assoc, flat_map}
 use Rattle.std.specs.List.{list_all, list_any}
 use Rattle.std.proofs.lemmas.Bool.{ltb-true}
 use Rattle.pks_terms.specs.Syntax.{Object, Parameter, Apply, Inner, Term, Literal, term_of}
@@ -8,7 +8,7 @@ use Rattle.pks_terms.specs.Sets.{set_of}
 use Rattle.pks_terms.specs.Signatures.{Signature}
 use Rattle.pks_terms.specs.Databases.{Five}
 use Rattle.pks_terms.specs.Queries.{Plain, Know, KnowWhether, KnowValue, Query, answers}
-use Rattle.pks_terms.specs.Actions.{Instance, argument, inner_at, term_at, literal_at, conj_at, plain_at, query_at}
+use Rattle.pks_terms.specs.Actions.{Instance, argument, inner_at, term_at, literal_at, plain_at, query_at}
 use Rattle.pks_branch.specs.Early.{inner_is_early, term_is_early, literal_is_early, plain_is_early, is_barred_by, is_barred}
 use Rattle.pks_branch.specs.Walks.{walked, allowed_at}
 

@@ -3,3 +3,4 @@ pub mod Barring
 pub mod WalkLaws
 pub mod ChoicesRise
 pub mod Parameters
+pub mod Onward

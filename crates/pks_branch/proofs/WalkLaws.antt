@@ -1,5 +1,5 @@
 -- What a walk gives: what its end gives of each way to take one element of each list.
-use Rattle.std.proofs.Common.{◌≡◌, ◌<◌, ◌+◌, ℕ, length, get_or, drop, drop-cons, add-one, Bool, true, false, cond, List, [], ◌∷◌, ◌++◌, map, filter, flat_map, refl, sym, ap, ◌∙◌, append-nil, append_assoc}
+use Rattle.std.proofs.Common.{◌≡◌, ℕ, Bool, true, false, cond, List, [], ◌∷◌, ◌++◌, map, filter, flat_map, refl, sym, ap, ◌∙◌, append-nil, append_assoc}
 use Rattle.std.proofs.lemmas.List.{map-append}
 use Rattle.std.proofs.lemmas.Grind.{flat_map-append}
 use Rattle.pks_terms.specs.Sets.{choices_from}
@@ -53,21 +53,3 @@ all_instances s d act sc =
     walked_all (allowed_at s d sc.pre act) (map (candidates s d) sc.parameters) []
     ∙ ap (flat_map (allowed_at s d sc.pre act)) (nothing_before ways)
     ∙ passing (is_allowed s d sc) (λ given. let i : Instance = record { action = act; arguments = given } in i) ways
-
--- one element of the first list more
-pub walk_more :
-    {W X Y Z : Type 0} (v : W → X) (at : List X → List Y) (f : Y → Z) (given : List X) (rest : List (List X)) (items : List W) (k : ℕ) (d : W) (old new all : List Z)
-    → k < length items
-    → new ≡ old ++ map f (walked at (given ++ v (get_or items k d) ∷ []) rest)
-    → old ++ map f (walked at given (map v (drop k items) ∷ rest)) ≡ all
-    → new ++ map f (walked at given (map v (drop (k + 1) items) ∷ rest)) ≡ all
-walk_more v at f given rest items k d old new all within here before =
-    let x = get_or items k d in
-    let first = walked at (given ++ v x ∷ []) rest in
-    let others = walked at given (map v (drop (k + 1) items) ∷ rest) in
-    let next : drop k items ≡ x ∷ drop (k + 1) items = drop-cons items k d within ∙ ap (λ j. x ∷ drop j items) (sym (add-one k)) in
-    ap (λ zs. zs ++ map f others) here
-    ∙ append_assoc old (map f first) (map f others)
-    ∙ ap (λ zs. old ++ zs) (sym (map-append f first others))
-    ∙ ap (λ ws. old ++ map f (walked at given (map v ws ∷ rest))) (sym next)
-    ∙ before

@@ -4,7 +4,7 @@ ghost use Rattle.std.specs.List.{filter_map};
 ghost use Rattle.pks_terms.specs.Syntax.{Object};
 ghost use Rattle.pks_terms.specs.Signatures.{has_type};
 ghost use Rattle.pks_terms.specs.Branching.{as_inner, candidates};
-ghost use Rattle.pks_terms.specs.Views.{object_of, inner_of, term_of, terms_of, types_of, signature_of};
+ghost use Rattle.pks_terms.specs.Views.{object_of, inner_of, term_of, terms_of, signature_of};
 ghost use Rattle.pks_normal.specs.Fives.{five_of};
 
 use pks_derived::ranges::object_is_of;
@@ -88,7 +88,7 @@ fn push_values(s: &Signature, kv: &Kv, of: TypeId, to: &mut Vec<Inner>) -> Resul
 }
 
 /// What may stand for a parameter of the type: its objects, and then the known values of that type.
-fn candidates(
+pub(crate) fn candidates(
     alloc: Global,
     s: &Signature,
     five: &Five,
@@ -102,23 +102,4 @@ fn candidates(
     push_objects(objects.as_slice(), &mut list)?;
     push_values(s, &five.kv, of, &mut list)?;
     Ok(Sequence::of(list))
-}
-
-/// What may stand for each parameter.
-#[tactic(auto, using(crate::proofs::Lists::pushing))]
-pub(crate) fn candidate_lists(
-    alloc: Global,
-    s: &Signature,
-    five: &Five,
-    params: &[TypeId],
-) -> Result<Vec<InnerList>, AllocError>
-    requires { length s.now.objects ≤ 65536 }
-    ensures { IfOk result (λ lists. map (map inner_of) lists.items ≡ map (candidates (signature_of s.now) (five_of five.now)) (types_of params.now)) }
-{
-    let mut lists = Vec::new(alloc);
-    for of in params {
-        let list = candidates(alloc, s, five, *of)?;
-        lists.push(list)?;
-    }
-    Ok(lists)
 }

@@ -4,7 +4,7 @@ ghost use Rattle.std.specs.List.{list_all, filter};
 ghost use Rattle.pks_terms.specs.Sets.{Each, IsOrdered};
 ghost use Rattle.pks_terms.specs.Orders.{term_cmp, conj_cmp};
 ghost use Rattle.pks_terms.specs.Databases.{holds};
-ghost use Rattle.pks_terms.specs.Branching.{Act, BranchOn, CasesOn, instances, is_undecided, may_split, choices};
+ghost use Rattle.pks_terms.specs.Branching.{BranchOn, CasesOn, is_undecided, may_split, choices};
 ghost use Rattle.pks_terms.specs.ValidProblems.{IsValidProblem};
 ghost use Rattle.pks_terms.specs.Views.{literals_in, conj_of, terms_of, signature_of, problem_of};
 ghost use Rattle.pks_kw.specs.Formulas.{formulas_of};
@@ -13,11 +13,10 @@ ghost use Rattle.pks_branch.specs.ChoiceViews.{choices_of};
 ghost use Rattle.pks_branch.specs.ChoiceOrder.{choice_cmp};
 
 use crate::leaving::may_split;
-use crate::walking::push_instances;
+use crate::taking::Walk;
 use pks_kv::Kv;
 use pks_kw::Kw;
 use pks_query::databases::Db;
-use pks_terms::ids::ActId;
 use pks_terms::literal::{Conj, Literal};
 use pks_terms::problem::{Problem, Signature};
 use pks_terms::schema::Instance;
@@ -58,22 +57,6 @@ fn is_undecided(s: &Signature, d: &Db, c: &Conj) -> bool
 {
     let literals = front(&c.literals, c.n);
     !d.some_denied(s, literals) && !all_known(s, d, literals)
-}
-
-/// Appends the instances that are choices.
-fn push_actions(
-    alloc: Global,
-    p: &Problem<'_>,
-    d: &Db,
-    to: &mut Vec<Choice>,
-) -> Result<(), AllocError>
-    requires valid { IsValidProblem p.now }
-    ensures { OnOk result (choices_of to.new.items ≡ choices_of to.old.items ++ map Act (instances (problem_of p.now) (five_of d.now))) }
-{
-    for (i, schema) in p.schemas.as_slice().iter().enumerate() {
-        push_instances(alloc, &p.signature, d, ActId(i as u8), schema, to)?;
-    }
-    Ok(())
 }
 
 /// Appends the undecided formulas of a set.
@@ -124,10 +107,10 @@ pub fn choices(alloc: Global, p: &Problem<'_>, d: &Db) -> Result<ChoiceList, All
     ensures all { IfOk result (λ cs. choices_of cs ≡ choices (problem_of p.now) (five_of d.now)) }
     ensures ordered { IfOk result (λ cs. IsOrdered choice_cmp (choices_of cs)) }
 {
-    let five = d.parts();
-    let mut to = Vec::new(alloc);
-    push_actions(alloc, p, d, &mut to)?;
-    push_branches(&p.signature, d, &five.kw, &mut to)?;
-    push_cases(alloc, &p.signature, d, &five.kv, &mut to)?;
-    Ok(Sequence::of(to))
+    let mut walk = Walk::of(alloc, p, d)?;
+    let mut all = Vec::new(alloc);
+    'each: while let Some(c) = walk.next(alloc, p, d)? {
+        all.push(c)?;
+    }
+    Ok(Sequence::of(all))
 }

@@ -6,8 +6,10 @@ mod candidates;
 pub mod choosing;
 mod early;
 pub mod leaving;
+pub mod taking;
 mod walking;
 
 pub use assuming::{Side, assume};
 pub use choosing::{Choice, ChoiceList, choices};
 pub use leaving::left;
+pub use taking::Walk;

@@ -1,20 +1,21 @@
-//! Going through the instances of an action. `docs/RULES.md` has the rule on choices.
-ghost use Rattle.std.specs.Prelude.{◌≡◌, ◌<◌, ◌≤◌, ◌+◌, ◌++◌, [], ◌∷◌, map, take, length, OnOk};
+//! Going through the instances of actions, of which beginnings are kept. `docs/RULES.md` has the rule on choices.
+ghost use Rattle.std.specs.Prelude.{◌≡◌, ◌<◌, ◌≤◌, ◌+◌, ◌++◌, [], ◌∷◌, map, take, length, option_map, slice_get, IfOk, IsSome, OnOk};
 ghost use Rattle.std.specs.List.{list_all, flat_map};
+ghost use Rattle.std.specs.Option.{option_to_list};
 ghost use Rattle.pks_terms.specs.Actions.{query_at};
 ghost use Rattle.pks_terms.specs.Queries.{answers};
-ghost use Rattle.pks_terms.specs.Branching.{Act, instances_at};
-ghost use Rattle.pks_terms.specs.Views.{inner_of, given_of, query_of, schema_of, signature_of};
+ghost use Rattle.pks_terms.specs.Branching.{candidates, numbered};
+ghost use Rattle.pks_terms.specs.ValidProblems.{IsValidProblem};
+ghost use Rattle.pks_terms.specs.Views.{inner_of, given_of, instance_of, query_of, schema_of, types_of, signature_of, problem_of};
 ghost use Rattle.pks_normal.specs.Fives.{five_of};
-ghost use Rattle.pks_branch.specs.ChoiceViews.{choices_of};
-ghost use Rattle.pks_branch.specs.Walks.{walked, allowed_at};
+ghost use Rattle.pks_branch.specs.ChoiceViews.{beginnings_of};
+ghost use Rattle.pks_branch.specs.Walks.{allowed_at, begun, bare, longer, GoesOn, IsNext};
 
-use crate::candidates::{InnerList, candidate_lists};
-use crate::choosing::Choice;
+use crate::candidates::candidates;
 use crate::early::is_barred;
 use pks_query::databases::Db;
-use pks_terms::ids::ActId;
-use pks_terms::problem::Signature;
+use pks_terms::ids::{ActId, TypeId};
+use pks_terms::problem::{Problem, Signature};
 use pks_terms::schema::{Instance, Query, Schema};
 use pks_terms::term::Inner;
 use std::alloc::{AllocError, Global};
@@ -23,13 +24,29 @@ use std::alloc::{AllocError, Global};
 fn without_arguments(act: ActId) -> Instance
     ensures act { result.act.0 ≡ act.0 }
     ensures given { given_of result ≡ [] }
-    ensures count { result.n ≡ 0 }
 {
     Instance {
         act,
         n: 0,
         args: [Inner::default(); 4],
     }
+}
+
+/// Each action without arguments, the first one last.
+pub(crate) fn bare_instances(
+    alloc: Global,
+    schemas: &[Schema<'_>],
+) -> Result<Vec<Instance>, AllocError>
+    requires { length schemas.now ≤ 256 }
+    ensures { IfOk result (λ v. beginnings_of v.items ≡ map bare (numbered 0 (map schema_of schemas.now))) }
+{
+    let mut all = Vec::new(alloc);
+    let mut k = schemas.len();
+    'down: while k > 0 {
+        k -= 1;
+        all.push(without_arguments(ActId(k as u8)))?;
+    }
+    Ok(all)
 }
 
 /// The arguments with one more behind those in use.
@@ -48,13 +65,43 @@ fn with(i: &Instance, t: &Inner) -> Instance
     requires { i.now.n < 4 }
     ensures act { result.act.0 ≡ i.now.act.0 }
     ensures given { given_of result ≡ given_of i.now ++ inner_of t.now ∷ [] }
-    ensures count { result.n ≡ i.now.n + 1 }
 {
     Instance {
         act: i.act,
         n: i.n + 1,
         args: put(&i.args, i.n, t),
     }
+}
+
+/// Puts in the beginnings with one more argument, the first one last.
+fn push_longer(list: &[Inner], given: &Instance, to: &mut Vec<Instance>) -> Result<(), AllocError>
+    requires { given.now.n < 4 }
+    ensures { OnOk result (beginnings_of to.new.items ≡ map (longer (instance_of given.now)) (map inner_of list.now) ++ beginnings_of to.old.items) }
+{
+    let mut k = list.len();
+    'down: while k > 0 {
+        k -= 1;
+        to.push(with(given, &list[k]))?;
+    }
+    Ok(())
+}
+
+/// Puts in the beginnings with one more argument, of the type.
+fn push_candidates(
+    alloc: Global,
+    s: &Signature,
+    d: &Db,
+    of: TypeId,
+    given: &Instance,
+    to: &mut Vec<Instance>,
+) -> Result<(), AllocError>
+    requires objects { length s.now.objects ≤ 65536 }
+    requires more { given.now.n < 4 }
+    ensures { OnOk result (beginnings_of to.new.items ≡ map (longer (instance_of given.now)) (candidates (signature_of s.now) (five_of d.now) of.0) ++ beginnings_of to.old.items) }
+{
+    let list = candidates(alloc, s, d.parts(), of)?;
+    push_longer(list.as_slice(), given, to)?;
+    Ok(())
 }
 
 /// Whether every precondition is answered at the instance.
@@ -69,108 +116,70 @@ fn is_allowed(s: &Signature, d: &Db, pre: &[Query], i: &Instance) -> bool
     true
 }
 
-/// Appends the instance, where it is allowed.
-#[tactic(auto, using(crate::proofs::Lists::pushing))]
-fn push_allowed(
-    s: &Signature,
-    d: &Db,
-    pre: &[Query],
-    i: &Instance,
-    to: &mut Vec<Choice>,
-) -> Result<(), AllocError>
-    ensures { OnOk result (choices_of to.new.items ≡ choices_of to.old.items ++ map Act (allowed_at (signature_of s.now) (five_of d.now) (map query_of pre.now) i.now.act.0 (given_of i.now))) }
+/// The instance, where it is allowed.
+fn if_allowed(s: &Signature, d: &Db, pre: &[Query], i: &Instance) -> Option<Instance>
+    ensures { option_to_list (option_map instance_of result) ≡ allowed_at (signature_of s.now) (five_of d.now) (map query_of pre.now) i.now.act.0 (given_of i.now) }
 {
     if is_allowed(s, d, pre, i) {
-        to.push(Choice::Act(*i))?;
+        Some(*i)
+    } else {
+        None
     }
-    Ok(())
 }
 
-/// Appends the allowed instances that have the arguments so far and then one of each list. A precondition is asked as soon as
-/// its parameters have arguments.
-#[cycle(walks)]
-fn walk(
-    s: &Signature,
-    d: &Db,
-    pre: &[Query],
-    lists: &[InnerList],
-    given: &Instance,
-    to: &mut Vec<Choice>,
-) -> Result<(), AllocError>
-    requires { given.now.n + length lists.now ≤ 4 }
-    ensures { OnOk result (choices_of to.new.items ≡ choices_of to.old.items ++ map Act (walked (allowed_at (signature_of s.now) (five_of d.now) (map query_of pre.now) given.now.act.0) (given_of given.now) (map (map inner_of) lists.now))) }
+/// The type of the argument that comes next; `None` where there are as many as parameters.
+fn next_type(params: &[TypeId], args: &[Inner; 4], n: u8) -> Option<TypeId>
+    requires { length params.now ≤ 4 }
+    ensures wanted { option_map (λ t. t.0) result ≡ slice_get (types_of params.now) (length (map inner_of (take n args.now))) }
+    ensures more { IsSome result → n < 4 }
 {
-    match lists {
-        [] => push_allowed(s, d, pre, given, to)?,
-        [list, rest @ ..] => walk_unless_barred(s, d, pre, list.as_slice(), rest, given, to)?,
+    let _args = args;
+    match params.get(n as usize) {
+        None => None,
+        Some(of) => Some(*of),
     }
-    Ok(())
 }
 
-/// Appends those that have the arguments so far, then one of the first list, and then one of each of the rest.
-#[cycle(walks)]
-fn walk_each(
-    s: &Signature,
-    d: &Db,
-    pre: &[Query],
-    list: &[Inner],
-    rest: &[InnerList],
-    given: &Instance,
-    to: &mut Vec<Choice>,
-) -> Result<(), AllocError>
-    requires { given.now.n + 1 + length rest.now ≤ 4 }
-    ensures { OnOk result (choices_of to.new.items ≡ choices_of to.old.items ++ map Act (walked (allowed_at (signature_of s.now) (five_of d.now) (map query_of pre.now) given.now.act.0) (given_of given.now) (map inner_of list.now ∷ map (map inner_of) rest.now))) }
-{
-    for t in list {
-        walk(s, d, pre, rest, &with(given, t), to)?;
-    }
-    Ok(())
-}
-
-/// Appends the same, where no precondition that can be asked already shuts all of them out.
-#[cycle(walks)]
-fn walk_unless_barred(
-    s: &Signature,
-    d: &Db,
-    pre: &[Query],
-    list: &[Inner],
-    rest: &[InnerList],
-    given: &Instance,
-    to: &mut Vec<Choice>,
-) -> Result<(), AllocError>
-    requires { given.now.n + 1 + length rest.now ≤ 4 }
-    ensures { OnOk result (choices_of to.new.items ≡ choices_of to.old.items ++ map Act (walked (allowed_at (signature_of s.now) (five_of d.now) (map query_of pre.now) given.now.act.0) (given_of given.now) (map inner_of list.now ∷ map (map inner_of) rest.now))) }
-{
-    if is_barred(s, d, pre, given) {
-        return Ok(());
-    }
-    walk_each(s, d, pre, list, rest, given, to)?;
-    Ok(())
-}
-
-/// Appends the instances of the action whose preconditions are answered, in order. It asks for at most 65,536 objects,
-/// and for at most four parameters.
-#[tactic(auto, using(crate::proofs::WalkLaws::all_instances))]
-pub(crate) fn push_instances(
+/// Goes on from a beginning: it is given, where it is whole and its preconditions are answered; else those with one more
+/// argument are put in, where no precondition that can be asked already shuts all of them out.
+fn go_on(
     alloc: Global,
-    s: &Signature,
+    p: &Problem<'_>,
     d: &Db,
-    act: ActId,
-    schema: &Schema<'_>,
-    to: &mut Vec<Choice>,
-) -> Result<(), AllocError>
-    requires objects { length s.now.objects ≤ 65536 }
-    requires parameters { length schema.now.params ≤ 4 }
-    ensures { OnOk result (choices_of to.new.items ≡ choices_of to.old.items ++ map Act (instances_at (signature_of s.now) (five_of d.now) (act.0, schema_of schema.now))) }
+    given: &Instance,
+    to: &mut Vec<Instance>,
+) -> Result<Option<Instance>, AllocError>
+    requires valid { IsValidProblem p.now }
+    ensures { IfOk result (λ o. GoesOn (problem_of p.now) (five_of d.now) (instance_of given.now) (beginnings_of to.old.items) (beginnings_of to.new.items) (option_map instance_of o)) }
 {
-    let lists = candidate_lists(alloc, s, d.parts(), schema.params.as_slice())?;
-    walk(
-        s,
-        d,
-        schema.pre.as_slice(),
-        lists.as_slice(),
-        &without_arguments(act),
-        to,
-    )?;
-    Ok(())
+    let Some(schema) = p.schemas.as_slice().get(given.act.0 as usize) else {
+        return Ok(None);
+    };
+    let pre = schema.pre.as_slice();
+    let Some(of) = next_type(schema.params.as_slice(), &given.args, given.n) else {
+        return Ok(if_allowed(&p.signature, d, pre, given));
+    };
+    if !is_barred(&p.signature, d, pre, given) {
+        push_candidates(alloc, &p.signature, d, of, given, to)?;
+    }
+    Ok(None)
+}
+
+/// The next instance that begins with one of the beginnings and is a choice; `None` where there are no more. It asks for a
+/// valid problem.
+pub(crate) fn next_instance(
+    alloc: Global,
+    p: &Problem<'_>,
+    d: &Db,
+    beginnings: &mut Vec<Instance>,
+) -> Result<Option<Instance>, AllocError>
+    requires valid { IsValidProblem p.now }
+    ensures { IfOk result (λ o. IsNext (flat_map (begun (problem_of p.now) (five_of d.now)) (beginnings_of beginnings.old.items)) (flat_map (begun (problem_of p.now) (five_of d.now)) (beginnings_of beginnings.new.items)) (option_map instance_of o)) }
+{
+    'each: while let Some(given) = beginnings.pop() {
+        if let Some(i) = go_on(alloc, p, d, &given, beginnings)? {
+            return Ok(Some(i));
+        }
+    }
+    Ok(None)
 }

@@ -114,24 +114,32 @@ fn regions(alloc: Global, d: &Derived) -> Result<Lcw, AllocError>
     Ok(set)
 }
 
-/// The databases with formulas, terms, groups and regions in normal form, and without the terms that come to be objects.
-/// The one error is want of memory.
+/// The five with formulas, terms, groups and regions in normal form, and without the terms that come to be objects.
 #[tactic(auto, unfolding(pks_terms::specs::Closure::tidied))]
-pub fn tidied(alloc: Global, d: Derived) -> Result<Derived, AllocError>
-    ensures { IfOk result (λ e. five_of e ≡ tidied (five_of d)) }
+fn tidied_five(alloc: Global, d: &Derived) -> Result<Five, AllocError>
+    ensures known { IfOk result (λ five. literals_of five.kf ≡ literals_of d.now.kf) }
+    ensures five { IfOk result (λ five. five_of five ≡ tidied (five_of d.now)) }
 {
     let kf = d.five().kf.share()?;
-    let kw = formulas(alloc, &d)?;
-    let kv = values(alloc, &d)?;
-    let kx = groups(alloc, &d)?;
-    let lcw = regions(alloc, &d)?;
-    let five = Five {
+    let kw = formulas(alloc, d)?;
+    let kv = values(alloc, d)?;
+    let kx = groups(alloc, d)?;
+    let lcw = regions(alloc, d)?;
+    Ok(Five {
         kf,
         kw,
         kv,
         kx,
         lcw,
-    };
-    let tidied = Derived::of(alloc, five)?;
+    })
+}
+
+/// The databases with formulas, terms, groups and regions in normal form, and without the terms that come to be objects.
+/// The one error is want of memory.
+pub fn tidied(alloc: Global, d: Derived) -> Result<Derived, AllocError>
+    ensures { IfOk result (λ e. five_of e ≡ tidied (five_of d)) }
+{
+    let five = tidied_five(alloc, &d)?;
+    let tidied = d.again(five)?;
     Ok(tidied)
 }

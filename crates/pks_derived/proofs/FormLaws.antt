@@ -8,7 +8,7 @@ use Rattle.pks_terms.specs.Sets.{added}
 use Rattle.pks_terms.specs.Orders.{literal_cmp, literal_eq}
 use Rattle.pks_terms.specs.Totality.{literal_cmp_total}
 use Rattle.pks_terms.specs.Views.{literal_of}
-use Rattle.pks_terms.specs.Databases.{normal_literal}
+use Rattle.pks_terms.specs.Databases.{normal_literal, is_known}
 use Rattle.pks_terms.proofs.ListLaws.{or_swapped, any_added}
 use Rattle.pks_terms.proofs.SetLaws.{map-added}
 use Rattle.pks_terms.proofs.OrderLaws.{literal_cmp_tells, same_literal}
@@ -49,8 +49,10 @@ module _ (kf : List Literal) (l : Literal) where
 -- those kept that are their own normal form, and the normal forms of the others put in
 pub all_forms : (A : DLiteral → Bool → Type 0) (xs kf own others forms : List DLiteral) → xs ≡ kf → ((x : DLiteral) (b : Bool) → A x b → b ≡ is_normal (literals_of kf) (literal_of x)) → Keeps A xs own
     → map literal_of others ≡ other_forms (literals_of kf) (literals_of kf) → forms ≡ added (on literal_of literal_cmp) own others → AreForms (literals_of kf) (literals_of forms)
-all_forms A xs kf own others forms same says kept rest put l =
+unfolding is_known
+all_forms A xs kf own others forms same says kept rest put m =
     let ks = literals_of kf in
+    let l = normal_literal ks m in
     ap (λ fs. is_member literal_cmp l (map literal_of fs)) put
     ∙ ap (is_member literal_cmp l) (map-added literal_of literal_cmp own others)
     ∙ any_added literal_cmp literal_cmp_tells (λ k. is_eq (literal_cmp l k)) (map literal_of own) (map literal_of others)

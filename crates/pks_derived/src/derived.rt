@@ -9,6 +9,8 @@ ghost use Rattle.pks_terms.specs.Views.{object_of, term_of, terms_of, literal_of
 ghost use Rattle.pks_kf.specs.Known.{literals_of};
 ghost use Rattle.pks_lcw.specs.Entries.{atoms_of, entry_of, entries_of};
 ghost use Rattle.pks_normal.specs.Fives.{five_of};
+ghost use Rattle.pks_normal.specs.Tables.{GiveAlike};
+ghost use Rattle.pks_derived.specs.Forms.{HasItsForms};
 
 use crate::forms::forms_of;
 use crate::ranges::is_foreign;
@@ -90,6 +92,39 @@ impl Derived {
     {
         let normals = Normals::of(alloc, five)?;
         let forms = forms_of(alloc, &normals)?;
+        Ok(Derived { normals, forms })
+    }
+
+    /// Reads other databases with the same known literals. What was read of these is shared. The error is want of memory
+    /// for one more reference.
+    pub fn again(&self, five: Five) -> Result<Derived, AllocError>
+        requires { literals_of five.kf ≡ literals_of self.now.kf }
+        ensures { IfOk result (λ d. d ≡ five) }
+    {
+        let forms = self.forms.share()?;
+        let normals = self.normals.beside(five)?;
+        Ok(Derived { normals, forms })
+    }
+
+    /// Reads other databases, whose known literals give the same values as these, and have the normal form of each that is
+    /// known. The error is want of memory for one more reference.
+    pub fn beside(&self, five: Five) -> Result<Derived, AllocError>
+        requires values { GiveAlike (literals_of five.kf) (literals_of self.now.kf) }
+        requires forms { HasItsForms (literals_of five.kf) }
+        ensures { IfOk result (λ d. d ≡ five) }
+    {
+        let forms = five.kf.share()?;
+        let normals = self.normals.beside(five)?;
+        Ok(Derived { normals, forms })
+    }
+
+    /// Reads databases whose known literals have the normal form of each that is known.
+    pub fn of_normal(alloc: Global, five: Five) -> Result<Derived, AllocError>
+        requires { HasItsForms (literals_of five.kf) }
+        ensures { IfOk result (λ d. d ≡ five) }
+    {
+        let forms = five.kf.share()?;
+        let normals = Normals::of(alloc, five)?;
         Ok(Derived { normals, forms })
     }
 

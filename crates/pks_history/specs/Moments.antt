@@ -1,5 +1,5 @@
 -- What the moments of the program's histories say.
-use Rattle.std.specs.Prelude.{ℕ, List, map, Option, slice_get}
+use Rattle.std.specs.Prelude.{ℕ, ◌≡◌, List, ◌∷◌, map, Option, slice_get}
 use Rattle.pks_terms.specs.Databases.{Five}
 use Rattle.pks_terms.specs.Actions.{Instance}
 use Rattle.pks_terms.specs.Settling.{History}
@@ -23,3 +23,7 @@ databases_at h n = slice_get (moments h) n
 -- the instance after a moment
 abbrev pub instance_after : History → ℕ → Option Instance
 instance_after h n = slice_get (map (λ step. step.0) h.steps) n
+
+-- the second history is the first without its first moment
+abbrev pub IsWithoutFirst : History → History → Type 0
+IsWithoutFirst h rest = (i : Instance) × (h.steps ≡ (i, rest.start) ∷ rest.steps)

@@ -1,9 +1,11 @@
 //! Histories, whose moments are shared. `docs/RULES.md` says what they are for.
 ghost use Rattle.std.specs.Prelude.{◌≡◌, ◌≤◌, ◌<◌, ◌+◌, ◌++◌, [], ◌∷◌, Some, length, IfOk};
+ghost use Rattle.pks_terms.specs.Sets.{Each};
+ghost use Rattle.pks_terms.specs.Databases.{AreSets};
 ghost use Rattle.pks_terms.specs.Settling.{pushed, last_moment, last_of};
 ghost use Rattle.pks_terms.specs.Views.{instance_of};
 ghost use Rattle.pks_normal.specs.Fives.{five_of};
-ghost use Rattle.pks_history.specs.Moments.{moment_of, moments_of, databases_at, instance_after};
+ghost use Rattle.pks_history.specs.Moments.{moment_of, moments_of, databases_at, instance_after, IsWithoutFirst};
 
 use pks_query::databases::Db;
 use pks_terms::schema::Instance;
@@ -63,6 +65,31 @@ fn last_of<'h>(first: &'h Db, later: &'h [Moment]) -> &'h Db
     }
 }
 
+/// Each of the five is a set in order.
+fn sets_in_order(d: &Db)
+    ensures { AreSets (five_of d.now) }
+{
+    let five = d.parts();
+    let _known = five.kf.len();
+    let _whether = five.kw.len();
+    let _values = five.kv.len();
+    let _groups = five.kx.len();
+    let _regions = five.lcw.len();
+}
+
+/// So at each of the moments.
+fn all_in_order(moments: &[Moment])
+    ensures { Each (λ step. AreSets step.1) (moments_of moments.now) }
+{
+    match moments {
+        [] => {}
+        [m, rest @ ..] => {
+            sets_in_order(&m.db);
+            all_in_order(rest);
+        }
+    }
+}
+
 impl History {
     /// The history of one moment.
     pub fn start(alloc: Global, d: Db) -> Result<History, AllocError>
@@ -83,6 +110,21 @@ impl History {
         later.push(Moment { step: i, db: d })?;
         let later = RcSlice::from_vec(later)?;
         Ok(History { first, later })
+    }
+
+    /// The history without its first moment, whose databases are shared. It asks for a later moment.
+    pub fn without_first(&self, alloc: Global) -> Result<History, AllocError>
+        requires { 1 ≤ length self.now.steps }
+        ensures { IfOk result (λ rest. IsWithoutFirst self.now rest) }
+    {
+        match self.later.as_slice() {
+            [] => unreachable!(),
+            [m, later @ ..] => {
+                let first = m.db.share()?;
+                let later = RcSlice::from_vec(shared(alloc, later)?)?;
+                Ok(History { first, later })
+            }
+        }
     }
 
     /// The databases at the last moment. It takes no memory.
@@ -126,6 +168,15 @@ impl History {
         let first = self.first.share()?;
         let later = self.later.clone()?;
         Ok(History { first, later })
+    }
+
+    /// Each set of each moment is in order. It does nothing.
+    pub fn in_order(&self)
+        ensures start { AreSets self.now.start }
+        ensures steps { Each (λ step. AreSets step.1) self.now.steps }
+    {
+        sets_in_order(&self.first);
+        all_in_order(self.later.as_slice());
     }
 
     /// Lends the later moments.

@@ -1,5 +1,5 @@
 -- What an action keeps of closed databases is closed.
-use Rattle.std.proofs.Common.{◌≡◌, ◌⊎◌, ◌&&◌, ◌||◌, ◌==◌, ℕ, Bool, true, false, not, cond, find, List, [], ◌∷◌, map, filter, filter_map, flat_map, Option, Some, None, option_map, refl, sym, ap, ◌∙◌, subst, inl, inr, ⊎_elim, true≢false}
+use Rattle.std.proofs.Common.{◌≡◌, ◌&&◌, ◌||◌, ◌==◌, ℕ, Bool, true, false, not, cond, find, List, [], ◌∷◌, map, filter, filter_map, flat_map, Option, Some, None, option_map, refl, sym, ap, ◌∙◌, subst, inl, inr, ⊎_elim, true≢false}
 use Rattle.std.specs.List.{list_any, list_all}
 use Rattle.std.proofs.lemmas.Bool.{or_cases, or_left, or_right, or_parts, and_parts, and_from, not-true, not_from_false, not-false}
 use Rattle.std.proofs.lemmas.Option.{none-some, same_Some, option_and_then_some, cond_some}
@@ -106,7 +106,7 @@ module _ (s : Signature) (d : Five) (es : List Effect) where
 
 -- ---- what lasts
 
-in_with_others : (xs : List Literal) (q : Literal × List Literal) → IsIn q (with_others xs) → IsIn q.0 xs × Within q.1 xs
+pub in_with_others : (xs : List Literal) (q : Literal × List Literal) → IsIn q (with_others xs) → IsIn q.0 xs × Within q.1 xs
 in_with_others [] q i = absurd i
 in_with_others (x ∷ xs) q (inl e) = (inl (ap (λ (p : Literal × List Literal). p.0) e), subst (λ (p : Literal × List Literal). Within p.1 (x ∷ xs)) e (λ y i. inr i))
 in_with_others (x ∷ xs) q (inr i) =
@@ -116,7 +116,7 @@ in_with_others (x ∷ xs) q (inr i) =
       subst (λ (p : Literal × List Literal). Within p.1 (x ∷ xs)) r.2 (λ y j. ⊎_elim (λ e. inl e) (λ k. inr (o.1 y k)) j),
     )
 
-in_cond : {X : Type 0} (b : Bool) (xs : List X) (x : X) → IsIn x (cond b xs []) → IsIn x xs
+pub in_cond : {X : Type 0} (b : Bool) (xs : List X) (x : X) → IsIn x (cond b xs []) → IsIn x xs
 in_cond true xs x i = i
 in_cond false xs x i = absurd i
 

@@ -1,12 +1,12 @@
 //! The laws, each the clause of a function that does nothing. `docs/RULES.md` has the rules on closing and progression.
 
-ghost use Rattle.std.specs.Prelude.{◌≡◌, ℕ, not, List, None};
-ghost use Rattle.std.specs.List.{filter, filter_map};
-ghost use Rattle.pks_terms.specs.Sets.{Each, IsIn, IsOrdered, insert_in, set_of};
-ghost use Rattle.pks_terms.specs.Syntax.{Literal};
+ghost use Rattle.std.specs.Prelude.{◌≡◌, ℕ, true, false, not, List, None};
+ghost use Rattle.std.specs.List.{filter, filter_map, list_any};
+ghost use Rattle.pks_terms.specs.Sets.{Each, IsIn, IsOrdered, added, insert_in, set_of};
+ghost use Rattle.pks_terms.specs.Syntax.{Literal, negated};
 ghost use Rattle.pks_terms.specs.Orders.{literal_cmp};
 ghost use Rattle.pks_terms.specs.Signatures.{Signature, HasValues};
-ghost use Rattle.pks_terms.specs.Databases.{Five, entry_cmp};
+ghost use Rattle.pks_terms.specs.Databases.{Five, entry_cmp, holds};
 ghost use Rattle.pks_terms.specs.Closure.{additions, round, rounds, tidied, first_clash, Closes, IsClosed, Next};
 ghost use Rattle.pks_terms.specs.Actions.{Effect};
 ghost use Rattle.pks_terms.specs.Spoiling.{spoils};
@@ -14,6 +14,7 @@ ghost use Rattle.pks_terms.specs.Progress.{is_untouched, kept_entry};
 ghost use Rattle.pks_terms.specs.Saturated.{IsSaturated};
 ghost use Rattle.pks_terms.specs.Moments.{IsInOrder};
 ghost use Rattle.pks_lasting.specs.Following.{Follows, IsImplied};
+ghost use Rattle.pks_lasting.specs.Loose.{bring_nothing};
 
 /// The rules add nothing to what effects leave of closed databases with equations in order, and nothing clashes there: of
 /// the literals those that aren't spoiled, of the groups the untouched ones, of the regions those that last.
@@ -34,4 +35,10 @@ pub fn implied_literals_follow()
 /// Databases close to what rounds make of all that follows from them, where these end without a clash.
 pub fn what_follows_closes_alike()
     ensures { (s : Signature) (d a e : Five) (n : ℕ) → HasValues s → IsOrdered literal_cmp d.kf → IsOrdered literal_cmp a.kf → Follows s d a → e ≡ rounds s n a → round s e ≡ e → first_clash s e ≡ None → Closes s d (Next (tidied e)) }
+{}
+
+/// The rules add nothing, and nothing clashes, where literals are put into databases of which both are so, if each was known
+/// or says or denies at objects a predicate that is in no group, and none is then derived false.
+pub fn loose_literals_bring_nothing()
+    ensures { (s : Signature) (k e : Five) (ls : List Literal) → HasValues s → IsSaturated s k → first_clash s k ≡ None → IsOrdered literal_cmp k.kf → e.kf ≡ added literal_cmp k.kf ls → e.kx ≡ k.kx → e.lcw ≡ k.lcw → bring_nothing k.kf k.kx ls ≡ true → list_any (λ l. holds s e (negated l)) ls ≡ false → IsSaturated s e × (first_clash s e ≡ None) }
 {}

@@ -62,3 +62,7 @@ pub record IsTableBut (rest kf : List Literal) (t : Table) : Type 0 where
 pub record IsTableOf (kf : List Literal) (t : Table) : Type 0 where
   pub gives : (f : ℕ) (ds : List ℕ) → values_in t f ds ≡ values_at kf f ds
   pub short : AreShort kf
+
+-- at each place both lists of literals give the same values
+pub record GiveAlike (kf other : List Literal) : Type 0 where
+  pub alike : (f : ℕ) (ds : List ℕ) → values_at kf f ds ≡ values_at other f ds

@@ -8,6 +8,7 @@ ghost use Rattle.pks_terms.specs.Views.{object_of, inner_of, term_of, arguments_
 ghost use Rattle.pks_kf.specs.Known.{literals_of};
 ghost use Rattle.pks_normal.specs.Fives.{five_of};
 ghost use Rattle.pks_normal.specs.Reading.{first_objects, first_inners};
+ghost use Rattle.pks_normal.specs.Tables.{GiveAlike};
 
 use crate::five::Five;
 use crate::table::{Table, kept, key_of, least_of, table_of};
@@ -16,12 +17,13 @@ use pks_terms::literal::Arguments;
 use pks_terms::term::{Inner, Term, front};
 use std::alloc::{AllocError, Global};
 use std::marker::Model;
+use std::rc::Rc;
 
 /// Databases by whose known literals normal forms are made, seen as those databases.
 #[derive(Drop)]
 pub struct Normals {
     five: Five,
-    table: Table,
+    table: Rc<Table>,
 }
 
 impl Model for Normals {
@@ -33,7 +35,7 @@ impl Model for Normals {
 
     ghost view = { λ n. n.five };
 
-    ghost invariant = { λ n. IsTableOf (literals_of n.five.kf) n.table };
+    ghost invariant = { λ n. IsTableOf (literals_of n.five.kf) n.table.value };
 }
 
 /// The objects that the first `n` arguments are.
@@ -54,12 +56,31 @@ fn object(t: &Inner) -> Option<ObjId>
     }
 }
 
+// A table behind a count of references.
+fn shared(alloc: Global, table: Table) -> Result<Rc<Table>, AllocError>
+    ensures { IfOk result (λ rc. rc.value ≡ table) }
+{
+    let rc = Rc::new(alloc, table)?;
+    Ok(rc)
+}
+
 impl Normals {
     /// Reads the known literals of the five.
     pub fn of(alloc: Global, five: Five) -> Result<Normals, AllocError>
         ensures { IfOk result (λ n. n ≡ five) }
     {
         let table = table_of(alloc, &five.kf)?;
+        let table = shared(alloc, table)?;
+        Ok(Normals { five, table })
+    }
+
+    /// Reads another five whose known literals give the same values as these. It shares the table of them. The error is
+    /// want of memory for one more reference.
+    pub fn beside(&self, five: Five) -> Result<Normals, AllocError>
+        requires { GiveAlike (literals_of five.kf) (literals_of self.now.kf) }
+        ensures { IfOk result (λ n. n ≡ five) }
+    {
+        let table = self.table.clone()?;
         Ok(Normals { five, table })
     }
 
@@ -82,7 +103,7 @@ impl Normals {
     pub fn values(&self, fun: FnId, at: &[ObjId]) -> &[ObjId]
         ensures { map object_of result.now ≡ values_at (literals_of self.now.kf) fun.0 (map object_of at.now) }
     {
-        let table = &self.table;
+        let table: &Table = &self.table;
         match key_of(fun, at) {
             Some(key) => kept(table, &key),
             None => &[],

@@ -1,5 +1,5 @@
 -- What a moment that did not grow gives is already where it goes to.
-use Rattle.std.proofs.Common.{◌≡◌, true, false, List, [], ◌∷◌, ◌++◌, ◌≤◌, length, get_or, sym, ap, ◌∙◌, subst, inr, true≢false, arith, refl}
+use Rattle.std.proofs.Common.{◌≡◌, true, false, List, [], ◌∷◌, ◌++◌, ◌≤◌, length, get_or, sym, ap, ap₂, ◌∙◌, subst, inr, true≢false, arith, refl}
 use Rattle.pks_terms.specs.Sets.{Each}
 use Rattle.pks_terms.specs.Syntax.{Literal}
 use Rattle.pks_terms.specs.Totality.{literal_cmp_total}
@@ -8,7 +8,7 @@ use Rattle.pks_terms.specs.Databases.{Five}
 use Rattle.pks_terms.specs.Closure.{additions}
 use Rattle.pks_terms.specs.Actions.{Instance}
 use Rattle.pks_terms.specs.Problems.{Problem}
-use Rattle.pks_terms.specs.Settling.{History, forward, backward, from_next, grown, settled_steps, settle_round}
+use Rattle.pks_terms.specs.Settling.{History, with_last, forward, backward, from_next, grown, settled_steps, settle_round}
 use Rattle.pks_terms.specs.Saturated.{Within, IsSaturated}
 use Rattle.pks_terms.specs.Views.{instance_of}
 use Rattle.pks_terms.proofs.OrderLaws.{literal_cmp_tells}
@@ -24,6 +24,13 @@ use Rattle.pks_postdict.specs.declared.family.Link.{Link}
 use Rattle.pks_postdict.specs.declared.family.Family.{Family}
 use Rattle.pks_postdict.specs.Families.{held_of, links_of, family_of}
 use Rattle.pks_postdict.specs.Growing.{is_unread, IsSparedAlone, AreSpared, IsGrowth, AreGrowths}
+
+-- ---- making it
+
+-- with other databases at the last of several moments the first one stays
+pub first_stays : (start d s : Five) (steps l : List (Instance × Five)) → 1 ≤ length steps → s ≡ start → l ≡ (with_last (record { start = start; steps = steps }) d).steps → with_last (record { start = start; steps = steps }) d ≡ record { start = s; steps = l }
+first_stays start d s [] l h e f = absurd (omega arith)
+first_stays start d s (step ∷ steps) l h e f = ap₂ (λ (x : Five) (y : List (Instance × Five)). record { start = x; steps = y }) (sym e) (sym f)
 
 -- ---- reading it
 

@@ -1,3 +1,4 @@
 pub mod Lasting
 pub mod Sharing
 pub mod Stepping
+pub mod Still

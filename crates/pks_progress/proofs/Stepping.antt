@@ -23,6 +23,7 @@ use Rattle.pks_laws.proofs.Validity.{valid_typed}
 use Rattle.pks_query.specs.Steps.{IfNext, IsNextWith}
 use Rattle.pks_adds.specs.Gains.{literals_gained, formulas_gained, values_gained, regions_gained}
 use Rattle.pks_progress.specs.Kept.{kept_after}
+use Rattle.pks_progress.specs.Ahead.{PutsIn}
 
 -- what lasts with what the adds give
 pub progressed_from : (p : Problem) (d : Five) (i : Instance) (kept five : Five) (ls : List Literal) (cs : List (List Literal)) (ts : List Term) (rs : List Entry)
@@ -45,6 +46,15 @@ progressed_from p d i kept five ls cs ts rs k l f v r kf kw kv kx lcw = λ j. re
   kx = (kx ∙ (λ n. (k n).kx)) j;
   lcw = (lcw ∙ (λ n. added entry_cmp (k n).lcw (r n))) j;
 }
+
+pub put_in_from : (p : Problem) (d : Five) (i : Instance) (kept five : Five) (ls copied : List Literal) (rs : List Entry)
+    → kept ≡ kept_after p.signature d (effects_of p i)
+    → copied ≡ ls
+    → five.kf ≡ added literal_cmp kept.kf ls
+    → five.kx ≡ kept.kx
+    → five.lcw ≡ added entry_cmp kept.lcw rs
+    → PutsIn p.signature d (effects_of p i) kept copied five
+put_in_from p d i kept five ls copied rs k c kf kx lcw = record { kept = k; literals = kf ∙ (λ j. added literal_cmp kept.kf (sym c j)); groups = kx; more = rs; regions = lcw }
 
 pub step_progress : (p : Problem) (d five : Five) (i : Instance) (o : Outcome)
     → five ≡ progressed p.signature d (schema_of p i.action) i.arguments

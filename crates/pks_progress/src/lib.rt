@@ -1,8 +1,10 @@
 //! Progression: the databases after an action.
 #![tactic(auto)]
 
+mod ahead;
 pub mod asking;
 mod kept;
+mod loose;
 pub mod progressing;
 mod regions;
 

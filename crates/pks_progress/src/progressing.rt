@@ -21,7 +21,10 @@ ghost use Rattle.pks_kx.specs.Groups.{groups_of};
 ghost use Rattle.pks_lcw.specs.Entries.{entries_of};
 ghost use Rattle.pks_normal.specs.Fives.{five_of};
 ghost use Rattle.pks_query.specs.Steps.{outcome_of, IfNext, IsNextWith};
+ghost use Rattle.pks_terms.specs.Settling.{effects_of};
+ghost use Rattle.pks_progress.specs.Ahead.{PutsIn, five_ahead, IsAhead};
 
+use crate::ahead::{Ahead, PutIn, grown_or_still};
 use crate::kept::kept_after;
 use pks_adds::gained::Gains;
 use pks_adds::gains::gains;
@@ -29,6 +32,7 @@ use pks_closing::closing::CloseEnd;
 use pks_normal::five::Five;
 use pks_query::databases::{Db, Step};
 use pks_spoiling::effects::effects_of;
+use pks_terms::literal::Literal;
 use pks_terms::problem::{Problem, Signature};
 use pks_terms::schema::Instance;
 use std::alloc::{AllocError, Global};
@@ -55,20 +59,34 @@ fn with_gains(alloc: Global, kept: &Five, gains: Gains) -> Result<Five, AllocErr
     })
 }
 
-/// The databases after the instance, before they are closed.
-fn progressed(alloc: Global, p: &Problem<'_>, d: &Db, i: &Instance) -> Result<Five, AllocError>
+/// The literals that the adds give.
+fn copied(alloc: Global, gains: &Gains) -> Result<Vec<Literal>, AllocError>
+    ensures { IfOk result (λ v. literals_of v.items ≡ literals_of gains.now.kf.items) }
+{
+    let literals = Vec::from_slice(alloc, gains.kf.as_slice())?;
+    Ok(literals)
+}
+
+/// What lasts, with what the adds of the instance give, before it is closed.
+fn progressed(alloc: Global, p: &Problem<'_>, d: &Db, i: &Instance) -> Result<PutIn, AllocError>
     requires { IsValidProblem p.now }
-    ensures { IfOk result (λ five. five_of five ≡ progressed (problem_of p.now).signature (five_of d.now) (schema_of (problem_of p.now) (instance_of i.now).action) (instance_of i.now).arguments) }
+    ensures puts { IfOk result (λ put. PutsIn (problem_of p.now).signature (five_of d.now) (effects_of (problem_of p.now) (instance_of i.now)) (five_of put.kept) (literals_of put.literals.items) (five_of put.five)) }
+    ensures five { IfOk result (λ put. five_of put.five ≡ progressed (problem_of p.now).signature (five_of d.now) (schema_of (problem_of p.now) (instance_of i.now).action) (instance_of i.now).arguments) }
 {
     let kept = kept_after(alloc, &p.signature, d.derived(), effects_of(p, i))?;
     let gains = gains(alloc, p, d, i)?;
+    let literals = copied(alloc, &gains)?;
     let five = with_gains(alloc, &kept, gains)?;
-    Ok(five)
+    Ok(PutIn {
+        kept,
+        literals,
+        five,
+    })
 }
 
-/// What the databases become by closing. It asks for at most 65,536 objects, and for an object of each function's result
+/// What the databases become by rounds. It asks for at most 65,536 objects, and for an object of each function's result
 /// type.
-fn closed(alloc: Global, s: &Signature, five: Five) -> Result<Step, AllocError>
+fn closed_by_rounds(alloc: Global, s: &Signature, five: Five) -> Result<Step, AllocError>
     requires few { length s.now.objects ≤ 65536 }
     requires values { HasValues (signature_of s.now) }
     ensures { IfOk result (λ o. Closes (signature_of s.now) (five_of five) (outcome_of o)) }
@@ -77,6 +95,26 @@ fn closed(alloc: Global, s: &Signature, five: Five) -> Result<Step, AllocError>
         Ok(next) => Ok(Step::Next(next)),
         Err(CloseEnd::Clash(l)) => Ok(Step::Clash(l)),
         Err(CloseEnd::Memory) => Err(AllocError),
+    }
+}
+
+/// What the databases become by closing. It asks for at most 65,536 objects, and for an object of each function's result
+/// type.
+fn closed(alloc: Global, s: &Signature, ahead: Ahead) -> Result<Step, AllocError>
+    requires few { length s.now.objects ≤ 65536 }
+    requires values { HasValues (signature_of s.now) }
+    requires ahead { IsAhead (signature_of s.now) ahead }
+    ensures { IfOk result (λ o. Closes (signature_of s.now) (five_ahead ahead) (outcome_of o)) }
+{
+    match ahead {
+        Ahead::Still(derived) => {
+            let next = Db::close_saturated(alloc, s, derived)?;
+            Ok(Step::Next(next))
+        }
+        Ahead::Grown(five) => {
+            let step = closed_by_rounds(alloc, s, five)?;
+            Ok(step)
+        }
     }
 }
 
@@ -97,7 +135,8 @@ pub fn progress(alloc: Global, p: &Problem<'_>, d: &Db, i: &Instance) -> Result<
         let v = after_action q w g in let v' = after_action q w' g' in
         IsTrueOf q.signature w w' (five_of d.now) → observations q v g ≡ observations q v' g' → IfOk result (λ o. IsNextWith (IsTrueOf q.signature v v') (outcome_of o)) }
 {
-    let five = progressed(alloc, p, d, i)?;
-    let step = closed(alloc, &p.signature, five)?;
+    let put = progressed(alloc, p, d, i)?;
+    let ahead = grown_or_still(alloc, &p.signature, d.derived(), effects_of(p, i), put)?;
+    let step = closed(alloc, &p.signature, ahead)?;
     Ok(step)
 }

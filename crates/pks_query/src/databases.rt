@@ -1,9 +1,10 @@
 //! Closed databases. `docs/RULES.md` has the rule on closing.
-ghost use Rattle.std.specs.Prelude.{◌≡◌, ◌≤◌, length, IfOk, IfErr};
+ghost use Rattle.std.specs.Prelude.{◌≡◌, ◌≤◌, length, None, IfOk, IfErr};
 ghost use Rattle.pks_terms.specs.Signatures.{HasValues};
 ghost use Rattle.pks_terms.specs.Worlds.{World};
 ghost use Rattle.pks_terms.specs.Meaning.{IsTrueOf};
-ghost use Rattle.pks_terms.specs.Closure.{Closes, IsClosed, Next, Clash};
+ghost use Rattle.pks_terms.specs.Closure.{first_clash, Closes, IsClosed, Next, Clash};
+ghost use Rattle.pks_terms.specs.Saturated.{IsSaturated};
 ghost use Rattle.pks_terms.specs.Problems.{initial, StartAlike};
 ghost use Rattle.pks_terms.specs.Valid.{AreOf};
 ghost use Rattle.pks_terms.specs.ValidProblems.{IsValidProblem};
@@ -14,6 +15,7 @@ ghost use Rattle.pks_closing.specs.Closing.{IfClash};
 ghost use Rattle.pks_query.specs.Closed.{AreClosed};
 
 use pks_closing::closing::{CloseEnd, close};
+use pks_closing::tidied::tidied;
 use pks_derived::derived::Derived;
 use pks_initial::initial::initial;
 use pks_normal::five::Five;
@@ -77,6 +79,20 @@ impl Db {
             }
             Err(end) => Err(end),
         }
+    }
+
+    /// The databases that these become by closing, where the rules add nothing to them and nothing clashes. It asks for an
+    /// object of each function's result type. The error is want of memory.
+    pub fn close_saturated(alloc: Global, s: &Signature, derived: Derived) -> Result<Db, AllocError>
+        requires values { HasValues (signature_of s.now) }
+        requires saturated { IsSaturated (signature_of s.now) (five_of derived) }
+        requires fine { first_clash (signature_of s.now) (five_of derived) ≡ None }
+        ensures { IfOk result (λ db. Closes (signature_of s.now) (five_of derived) (Next (five_of db))) }
+    {
+        let _known = derived.five().kf.len();
+        let whole = tidied(alloc, derived)?;
+        let db = Db::of_closed(alloc, s, whole)?;
+        Ok(db)
     }
 
     /// The databases that the problem's initial items become by closing. It asks for a valid problem. The error is the

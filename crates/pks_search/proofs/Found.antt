@@ -1,5 +1,5 @@
 -- The search over the choices at a history, one after another, and over depths.
-use Rattle.std.proofs.Common.{◌≡◌, ◌≤◌, ◌+◌, ◌⊎◌, inl, inr, ℕ, false, List, [], ◌∷◌, ◌++◌, map, filter, Option, Some, None, Less, refl, sym, ap, ◌∙◌, subst, ⊎_elim, arith, true≢false}
+use Rattle.std.proofs.Common.{◌≡◌, ◌≤◌, ◌+◌, ◌⊎◌, inl, inr, ℕ, false, List, [], ◌∷◌, ◌++◌, map, filter, Option, Some, None, Less, refl, sym, ap, ◌∙◌, subst, ⊎_elim, arith, append_assoc, true≢false}
 use Rattle.std.proofs.lemmas.Bool.{cases_lt}
 use Rattle.std.proofs.lemmas.Option.{same_Some}
 use Rattle.pks_terms.specs.Sets.{Each, IsIn}
@@ -15,7 +15,7 @@ use Rattle.pks_laws.proofs.Least.{in_left, in_right}
 use Rattle.pks_laws.proofs.BestTree.{before_through}
 use Rattle.pks_laws.proofs.Choosing.{best_without}
 use Rattle.pks_branch.specs.ChoiceOrder.{choice_cmp}
-use Rattle.pks_search.specs.Limits.{IsBestWithin, IsCheapBy, IsCheapAmong, IsNextLimit, IsFoundAmong}
+use Rattle.pks_search.specs.Limits.{IsBestWithin, IsCheapBy, IsCheapAmong, IsNextLimit, IsFoundAmong, IsFoundBefore}
 use Rattle.pks_search.proofs.Rooted.{cheaper, before_by_choice}
 use Rattle.pks_failures.proofs.Costs.{depth_at_most_cost}
 use Rattle.pks_search.proofs.Limited.{needs_depth}
@@ -45,6 +45,15 @@ module _ (p : Problem) where
   has_choice h cs k (Cases x m) d i = (CasesOn x, refl, i)
 
   module _ (h : History) (n most : ℕ) (unmet : met p h ≡ false) where
+    -- one more choice, from those that are left
+    pub found_more : (left rest : List Choice) (c : Choice) (old new : Option Tree) (limit limit' : ℕ) → left ≡ c ∷ rest
+        → (f : IsFoundBefore p h n most left old limit) → IsFoundAmong p h n most (f.done ++ c ∷ []) new limit' → IsFoundBefore p h n most rest new limit'
+    found_more left rest c old new limit limit' e f g = record {
+      done = f.done ++ c ∷ [];
+      all = append_assoc f.done (c ∷ []) rest ∙ ap (λ cs. f.done ++ cs) (sym e) ∙ f.all;
+      among = g;
+    }
+
     -- before the first choice
     pub found_first : IsFoundAmong p h n most [] None most
     found_first = record { best = λ t d. best_without p h n unmet t d.0; next = refl }

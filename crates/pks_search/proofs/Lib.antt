@@ -6,4 +6,5 @@ pub mod Deepening
 pub mod Readiness
 pub mod Looping
 pub mod Children
+pub mod LettingGo
 pub mod Starting

@@ -1,13 +1,28 @@
 -- A list in order, as a loop goes through it.
-use Rattle.std.proofs.Common.{◌≡◌, ◌≤◌, ◌<◌, ◌+◌, ◌-◌, inl, inr, ℕ, zero, suc, List, [], ◌∷◌, ◌++◌, map, length, get_or, take, drop, Less, Ordering, refl, sym, ap, ◌∙◌, arith}
+use Rattle.std.proofs.Common.{◌≡◌, ◌≤◌, ◌<◌, ◌+◌, ◌-◌, inl, inr, ℕ, zero, suc, List, [], ◌∷◌, ◌++◌, map, length, get_or, take, drop, Less, Ordering, refl, sym, ap, ◌∙◌, subst, arith}
 use Rattle.std.proofs.lemmas.List.{take_more, take_all, map-append}
 use Rattle.pks_terms.specs.Sets.{Each, IsIn, IsOrdered}
 use Rattle.pks_terms.proofs.ListLaws.{each_in, in_map}
+use Rattle.pks_laws.proofs.Least.{in_right}
 
 pub in_list : {X : Type 0} (xs : List X) (k : ℕ) (d : X) → k < length xs → IsIn (get_or xs k d) xs
 in_list [] k d h = absurd (omega arith)
 in_list (x ∷ xs) zero d h = inl refl
 in_list (x ∷ xs) (suc k) d h = inr (in_list xs k d (omega arith))
+
+module _ {X : Type 0} where
+  -- one that comes after those before is one of all
+  pub in_rest : (before : List X) (x : X) (rest all : List X) → before ++ x ∷ rest ≡ all → IsIn x all
+  in_rest before x rest all e = subst (IsIn x) e (in_right before (x ∷ rest) x (inl refl))
+
+  -- those before are less
+  pub less_before : (cmp : X → X → Ordering) (before : List X) (x : X) (rest : List X) → IsOrdered cmp (before ++ x ∷ rest) → Each (λ b. cmp b x ≡ Less) before
+  less_before cmp [] x rest o = tt
+  less_before cmp (y ∷ ys) x rest o = (each_in (λ z. cmp y z ≡ Less) (ys ++ x ∷ rest) x o.0 (in_right ys (x ∷ rest) x (inl refl)), less_before cmp ys x rest o.1)
+
+  -- what is left gets shorter
+  pub shorter : (old new : List X) (x : X) → old ≡ x ∷ new → length new < length old
+  shorter old new x e = let one_more : length old ≡ suc (length new) = ap length e in omega arith
 
 module _ {X Y : Type 0} (f : X → Y) where
   -- one more

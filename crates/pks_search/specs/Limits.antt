@@ -1,10 +1,10 @@
 -- Trees below a limit on cost, to which a search keeps.
-use Rattle.std.specs.Prelude.{ℕ, ◌≡◌, ◌≤◌, ◌+◌, ◌⊎◌, List, Option, Some, None}
+use Rattle.std.specs.Prelude.{ℕ, ◌≡◌, ◌≤◌, ◌+◌, ◌⊎◌, ◌++◌, List, Option, Some, None}
 use Rattle.pks_terms.specs.Syntax.{Term}
 use Rattle.pks_terms.specs.Actions.{Instance}
 use Rattle.pks_terms.specs.Problems.{Problem}
-use Rattle.pks_terms.specs.Branching.{Choice, Side}
-use Rattle.pks_terms.specs.Settling.{History, State}
+use Rattle.pks_terms.specs.Branching.{Choice, Side, choices}
+use Rattle.pks_terms.specs.Settling.{History, State, last_moment}
 use Rattle.pks_terms.specs.Trees.{Tree, Chain, cost, chain_cost, Acts, Takes, IsBestOf, IsDerivedWithin}
 use Rattle.pks_terms.specs.Searching.{IsDerivedBy, IsDerivedAmong, AreCases, ChainBefore}
 
@@ -55,6 +55,12 @@ IsNextLimit p most (Some t) limit = limit + 1 ≡ cost p t
 pub record IsFoundAmong (p : Problem) (h : History) (n most : ℕ) (cs : List Choice) (found : Option Tree) (limit : ℕ) : Type 0 where
   pub best : IsBestOf p (IsCheapAmong p h n most cs) found
   pub next : IsNextLimit p most found limit
+
+-- the same of the choices before those that are left
+pub record IsFoundBefore (p : Problem) (h : History) (n most : ℕ) (left : List Choice) (found : Option Tree) (limit : ℕ) : Type 0 where
+  pub done : List Choice
+  pub all : done ++ left ≡ choices p (last_moment h)
+  pub among : IsFoundAmong p h n most done found limit
 
 -- ---- depths, one after another
 

@@ -17,8 +17,9 @@ ghost use Rattle.pks_search.specs.Ready.{IsReady};
 
 use crate::parts::{act, branch, cases};
 use pks_branch::assuming::{Side, assume};
-use pks_branch::choosing::{Choice, choices};
+use pks_branch::choosing::Choice;
 use pks_branch::leaving::left;
+use pks_branch::taking::Walk;
 use pks_failures::failures::Failures;
 use pks_history::histories::History;
 use pks_past::meeting::met;
@@ -26,6 +27,7 @@ use pks_plan::{CaseChain, Tree, action_cost, cost};
 use pks_postdict::settling::{Settled, settle};
 use pks_progress::progressing::progress;
 use pks_query::databases::Step;
+use pks_settled_past::cut;
 use pks_terms::ids::ObjId;
 use pks_terms::literal::Conj;
 use pks_terms::problem::Problem;
@@ -58,9 +60,31 @@ pub(crate) fn best_within(
     best_unmet(alloc, p, h, n, limit, failures)
 }
 
-/// The same where the goal isn't met: a failure in the table tells that there is none, and what is found to fail is noted.
+/// The same where the goal isn't met: the settled past is let go of first, since without it the same trees are derived.
 #[cycle(searching)]
 fn best_unmet(
+    alloc: Global,
+    p: &Problem<'_>,
+    h: &History,
+    n: u32,
+    limit: u32,
+    failures: &mut Failures,
+) -> Result<Option<Tree>, AllocError>
+    requires ready { IsReady p.now h.now n }
+    requires unmet { met (problem_of p.now) h.now ≡ false }
+    requires some { 1 ≤ n }
+    requires right { AreRight (problem_of p.now) failures.now }
+    ensures best { IfOk result (λ o. IsBestWithin (problem_of p.now) (At h.now) n limit (option_map tree_of o)) }
+    ensures right { AreRight (problem_of p.now) failures.new }
+{
+    let rest = cut(alloc, p, h)?;
+    best_of_rest(alloc, p, &rest, n, limit, failures)
+}
+
+/// The same at what is left of a history: a failure in the table tells that there is none, and what is found to fail is
+/// noted. So histories that differ in what was let go of share their failures.
+#[cycle(searching)]
+fn best_of_rest(
     alloc: Global,
     p: &Problem<'_>,
     h: &History,
@@ -104,11 +128,12 @@ fn best_of_choices(
     ensures best { IfOk result (λ o. IsBestWithin (problem_of p.now) (At h.now) (n + 1) limit (option_map tree_of o)) }
     ensures right { AreRight (problem_of p.now) failures.new }
 {
-    let all = choices(alloc, p, h.last())?;
+    let d = h.last();
+    let mut walk = Walk::of(alloc, p, d)?;
     let mut best = None;
     let mut below = limit;
-    for c in all.as_slice() {
-        if let Some(t) = best_by_choice(alloc, p, h, n, below, c, failures)? {
+    'each: while let Some(c) = walk.next(alloc, p, d)? {
+        if let Some(t) = best_by_choice(alloc, p, h, n, below, &c, failures)? {
             below = cost(p, &t) - 1;
             best = Some(t);
         }

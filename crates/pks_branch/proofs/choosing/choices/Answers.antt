@@ -1,34 +1,36 @@
-use Rattle.std.proofs.Common.{ap, ◌∙◌, ◌++◌, map, sym, subst, append_assoc}
-use Rattle.std.specs.List.{filter}
+use Rattle.std.proofs.Common.{◌≡◌, ◌++◌, ◌∷◌, option_map, sym, ap, ◌∙◌, subst, append-nil}
 use Rattle.pks_terms.specs.Sets.{IsOrdered}
-use Rattle.pks_terms.specs.Orders.{term_cmp, conj_cmp}
-use Rattle.pks_terms.specs.Branching.{Act, BranchOn, CasesOn, instances, is_undecided, may_split, choices}
-use Rattle.pks_terms.specs.Views.{terms_of, problem_of}
-use Rattle.pks_kw.specs.Formulas.{formulas_of}
+use Rattle.pks_terms.specs.Branching.{choices}
+use Rattle.pks_terms.specs.Views.{problem_of}
 use Rattle.pks_normal.specs.Fives.{five_of}
-use Rattle.pks_normal.specs.declared.five.Five.{Five}
-use Rattle.pks_branch.specs.ChoiceViews.{choices_of}
+use Rattle.pks_branch.specs.ChoiceViews.{choice_of, choices_of, left_in}
 use Rattle.pks_branch.specs.ChoiceOrder.{choice_cmp}
-use Rattle.pks_branch.proofs.ChoicesRise.{all_rise}
+use Rattle.pks_branch.specs.Walks.{IsNext}
+use Rattle.pks_branch.proofs.Onward.{shorter, given_more}
 use Rattle.pks_branch.proofs.choosing.choices.Goals as goal
 
+pub each-init : goal.each-init
+each-init c = ap (λ xs. choices_of xs ++ left_in (problem_of c.args.p.now) (five_of c.args.d.now) c.in_ok-walk.walk) c.new-all.ensures.items ∙ c.in_ok-walk.ensures.all
+
+pub each-smaller : goal.each-smaller
+each-smaller c =
+    let left = left_in (problem_of c.args.p.now) (five_of c.args.d.now) in
+    let next : left c.each.walk ≡ choice_of c.in-Some.c ∷ left c.next.new.self = subst (λ o. IsNext (left c.each.walk) (left c.next.new.self) (option_map choice_of o)) c.in-Some.is c.in_ok-c.ensures in
+    shorter (left c.each.walk) (left c.next.new.self) (choice_of c.in-Some.c) next
+
+pub each-preserved : goal.each-preserved
+each-preserved c =
+    let left = left_in (problem_of c.args.p.now) (five_of c.args.d.now) in
+    let next : left c.each.walk ≡ choice_of c.in-Some.c ∷ left c.next.new.self = subst (λ o. IsNext (left c.each.walk) (left c.next.new.self) (option_map choice_of o)) c.in-Some.is c.in_ok-c.ensures in
+    ap (λ xs. choices_of xs ++ left c.next.new.self) c.in_ok-push.ensures.items
+    ∙ given_more choice_of c.each.all.items c.in-Some.c (left c.each.walk) (left c.next.new.self) (choices (problem_of c.args.p.now) (five_of c.args.d.now)) next c.each.invariant
+
 pub returns-clause-all : goal.returns-clause-all
-unfolding choices
 returns-clause-all c =
-    let p = problem_of c.args.p.now in
-    let d = five_of c.args.d.now in
-    let five = c.parts-five.result.now in
-    let acts = map Act (instances p d) in
-    let branches = λ (f : Five). map BranchOn (filter (is_undecided p.signature d) (formulas_of f.kw)) in
-    let cases = λ (f : Five). map CasesOn (filter (may_split p.signature d) (terms_of f.kv)) in
-    ap choices_of c.of.ensures
-    ∙ c.in_ok-push_cases.ensures.all
-    ∙ ap (λ xs. xs ++ cases five) (c.in_ok-push_branches.ensures.all ∙ ap (λ xs. xs ++ branches five) (c.in_ok-push_actions.ensures ∙ ap (λ xs. choices_of xs ++ acts) c.new-to.ensures.items))
-    ∙ append_assoc acts (branches five) (cases five)
-    ∙ ap (λ f. acts ++ (branches f ++ cases f)) c.parts-five.ensures.lent
+    let left = left_in (problem_of c.args.p.now) (five_of c.args.d.now) in
+    let none = subst (λ o. IsNext (left c.each.walk) (left c.next.new.self) (option_map choice_of o)) c.in_default.is c.in_ok-c.ensures in
+    let done = choices_of c.each.all.items in
+    ap choices_of c.of-2.ensures ∙ sym (append-nil done) ∙ ap (λ ys. done ++ ys) (sym none.0) ∙ c.each.invariant
 
 pub returns-clause-ordered : goal.returns-clause-ordered
-returns-clause-ordered c =
-    let whether = subst (λ (f : Five). IsOrdered conj_cmp (formulas_of f.kw)) c.parts-five.ensures.lent c.in_ok-push_branches.ensures.ordered in
-    let values = subst (λ (f : Five). IsOrdered term_cmp (terms_of f.kv)) c.parts-five.ensures.lent c.in_ok-push_cases.ensures.ordered in
-    subst (IsOrdered choice_cmp) (sym (returns-clause-all c)) (all_rise (problem_of c.args.p.now) (five_of c.args.d.now) whether values)
+returns-clause-ordered c = subst (IsOrdered choice_cmp) (sym (returns-clause-all c)) c.in_ok-walk.ensures.ordered

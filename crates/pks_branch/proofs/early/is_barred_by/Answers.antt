@@ -1,4 +1,4 @@
-use Rattle.std.proofs.Common.{◌≡◌, not, ◌&&◌, sym, ap, ◌∙◌}
+use Rattle.std.proofs.Common.{not, ◌&&◌, sym, ap, ◌∙◌}
 use Rattle.pks_terms.specs.Actions.{query_at}
 use Rattle.pks_terms.specs.Queries.{answers}
 use Rattle.pks_terms.specs.Views.{given_of, query_of, signature_of}

@@ -1,5 +1,5 @@
-use Rattle.std.proofs.Common.{◌≡◌, ◌<◌, ◌≤◌, ◌+◌, ◌-◌, ◌*◌, ◌++◌, [], ◌∷◌, ℕ, List, map, length, get_or, take, drop, Some, None, option_map, sym, ap, ◌∙◌, subst, arith}
-use Rattle.std.proofs.lemmas.List.{length-map, take_all}
+use Rattle.std.proofs.Common.{◌≡◌, ◌<◌, ◌≤◌, ◌+◌, ◌-◌, ◌*◌, ◌++◌, [], ◌∷◌, ℕ, List, map, length, get_or, take, drop, Some, None, option_map, sym, ap, ◌∙◌, subst, arith, append-nil}
+use Rattle.std.proofs.lemmas.List.{length-map}
 use Rattle.std.proofs.lemmas.Result.{IfOk-weaker}
 use Rattle.pks_terms.specs.Sets.{Each, IsIn, IsOrdered}
 use Rattle.pks_terms.specs.Signatures.{range_of}
@@ -13,21 +13,22 @@ use Rattle.pks_normal.specs.Fives.{five_of}
 use Rattle.pks_query.specs.Steps.{outcome_of}
 use Rattle.pks_postdict.specs.Ends.{state_of, IfAt}
 use Rattle.pks_plan.specs.TreeViews.{tree_of, chain_of}
-use Rattle.pks_branch.specs.declared.choosing.Choice.TheVariants as choice_is
 use Rattle.pks_branch.specs.ChoiceOrder.{choice_cmp}
-use Rattle.pks_branch.specs.ChoiceViews.{choice_of, side_of}
+use Rattle.pks_branch.specs.ChoiceViews.{choice_of, side_of, left_in}
+use Rattle.pks_branch.specs.Walks.{IsNext}
 use Rattle.pks_failures.specs.Failing.{HasNoTree}
 use Rattle.pks_search.specs.Ready.{IsReady}
-use Rattle.pks_search.specs.Limits.{IsBestWithin, IsCheapBy, IsCheapAmong, IsFoundAmong, IsBestAfter, IsBestTaking, AreBestCheapCases}
+use Rattle.pks_search.specs.Limits.{IsBestWithin, IsCheapBy, IsCheapAmong, IsBestAfter, IsBestTaking, AreBestCheapCases}
 use Rattle.pks_failures.proofs.Costs.{costs_at_most}
 use Rattle.pks_search.proofs.Limited.{cheap_stopped, cheap_goal, price, dear_act, dear_branch, dear_cases}
-use Rattle.pks_search.proofs.Found.{found_first, found_none, found_some, found_all, none_at_depth, none_at_cost, costs_some}
-use Rattle.pks_terms.proofs.ListLaws.{in_map}
-use Rattle.pks_search.proofs.Looping.{in_list, taken_more, taken_before, first_and_others, none_left}
+use Rattle.pks_search.proofs.Found.{found_first, found_more, found_none, found_some, found_all, none_at_depth, none_at_cost, costs_some}
+use Rattle.pks_search.proofs.Looping.{in_rest, less_before, shorter, first_and_others, none_left}
 use Rattle.pks_search.proofs.Readiness.{ready_last, ready_acted, ready_taken, chosen_action, chosen_branch, chosen_cases, few_left, left_in_range}
 use Rattle.pks_search.proofs.Children.{after_clash, after_next, taking_clash, taking_next, found_act, found_branch, no_true_side, no_false_side, found_cases, chain_found, chain_no_first, chain_no_rest, chain_empty, acted}
+use Rattle.pks_settled_past.specs.Same.{HasSameTrees}
+use Rattle.pks_search.proofs.LettingGo.{rest_ready, rest_unmet, best_of_rest}
 use Rattle.pks_search.proofs.within.+searching.Goals as goal
-use Rattle.pks_search.proofs.within.+searching.Goals.{best_within-then-n-eq0-via-then-n-eq0, best_within-then-n-eq0-via-else-n-eq0+then-limit-eq0, best_of_choices-in-Some, best_of_choices-in_default}
+use Rattle.pks_search.proofs.within.+searching.Goals.{best_within-then-n-eq0-via-then-n-eq0, best_within-then-n-eq0-via-else-n-eq0+then-limit-eq0}
 
 -- ---- after an action
 
@@ -41,7 +42,7 @@ best_after-returns-in-Clash-clause-best t c =
 pub best_after-best_within-requires : goal.best_after-best_within-requires
 best_after-best_within-requires t c =
     let p = problem_of c.args.p.now in
-    let less : c.args.n * 32 + 1 < t = omega (arith, c.decreases) in
+    let less : c.args.n * 32 + 2 < t = omega (arith, c.decreases) in
     let i = instance_of c.args.step.now in
     let progress = acted p c.args.h.now i (five_of c.last.result.now) (five_of c.in-Next.d) (outcome_of c.in_ok-progress.field-0) c.last.ensures (ap outcome_of c.in-Next.is) c.in_ok-progress.ensures.progress in
     (less, (subst (λ g. IsReady c.args.p.now g c.args.n) (sym c.in_ok-longer-in-Next.ensures) (ready_acted c.args.p.now c.args.h.now c.args.n i (five_of c.in-Next.d) c.requires.ready c.requires.chosen progress), c.requires.right))
@@ -105,7 +106,7 @@ best_by_cases-best_chain-requires t c =
     let most : length (left s d x) ≤ 16 = few_left s d x c.requires.splits in
     let equal : length (map object_of c.as_slice.result.now) ≡ length (left s d x) = ap (λ (ds : List ℕ). length ds) all in
     let few : length c.as_slice.result.now ≤ 16 = omega arith in
-    let less : c.args.n * 32 + 3 + length c.as_slice.result.now < t = omega (arith, c.decreases) in
+    let less : c.args.n * 32 + 4 + length c.as_slice.result.now < t = omega (arith, c.decreases) in
     (less, (c.requires.ready, (c.requires.member, (subst (Each (λ e. IsIn e (range_of s x))) (sym all) (left_in_range s d x), (few, c.requires.right)))))
 
 pub best_by_cases-returns-then-limit-eq0-clause-best : goal.best_by_cases-returns-then-limit-eq0-clause-best
@@ -184,41 +185,57 @@ best_by_choice-best_by_cases-requires t c =
 pub best_of_choices-best_by_choice-requires : goal.best_of_choices-best_by_choice-requires
 best_of_choices-best_by_choice-requires t c =
     let p = problem_of c.args.p.now in
-    let all = c.as_slice-c-items.result.now in
-    let here = get_or all c.loop-c.c-index (choice_is.Act (record { act = record { 0 = 0 }; n = 0; args = [] })) in
-    let within : c.loop-c.c-index < length all = omega arith in
+    let left = left_in p (last_moment c.args.h.now) in
+    let f = c.each.invariant.0 in
     let less : c.args.n * 32 + 30 < t = omega (arith, c.decreases) in
-    let same : map choice_of all ≡ choices p (last_moment c.args.h.now) = ap (map choice_of) c.as_slice-c-items.ensures ∙ (c.in_ok-all.ensures.all ∙ ap (choices p) c.last.ensures) in
-    (less, (c.requires.ready, (subst (IsIn (choice_of here)) same (in_map choice_of all here (in_list all c.loop-c.c-index (choice_is.Act (record { act = record { 0 = 0 }; n = 0; args = [] })) within)), c.loop-c.invariant.1)))
+    let given : IsNext (left c.each.walk) (left c.next.new.self) (option_map choice_of c.in_ok-c.field-0) = subst (λ d. IsNext (left_in p d c.each.walk) (left_in p d c.next.new.self) (option_map choice_of c.in_ok-c.field-0)) c.last-d.ensures c.in_ok-c.ensures in
+    let next : left c.each.walk ≡ choice_of c.in-Some.c ∷ left c.next.new.self = subst (λ o. IsNext (left c.each.walk) (left c.next.new.self) (option_map choice_of o)) c.in-Some.is given in
+    let member = in_rest f.done (choice_of c.in-Some.c) (left c.next.new.self) (choices p (last_moment c.args.h.now)) (ap (λ cs. f.done ++ cs) (sym next) ∙ f.all) in
+    (less, (c.requires.ready, (member, c.each.invariant.1)))
 
-pub best_of_choices-loop-c-init : goal.best_of_choices-loop-c-init
-best_of_choices-loop-c-init t c = (found_first (problem_of c.args.p.now) c.args.h.now (c.args.n + 1) c.args.limit c.requires.unmet, c.requires.right)
-
-pub best_of_choices-loop-c-preserved : goal.best_of_choices-loop-c-preserved
-best_of_choices-loop-c-preserved t c =
+pub best_of_choices-each-init : goal.best_of_choices-each-init
+best_of_choices-each-init t c =
     let p = problem_of c.args.p.now in
-    let all = c.as_slice-c-items.result.now in
-    let here = get_or all c.loop-c.c-index (choice_is.Act (record { act = record { 0 = 0 }; n = 0; args = [] })) in
-    let within : c.loop-c.c-index < length all = omega arith in
-    let none : choice_is.the_data = choice_is.Act (record { act = record { 0 = 0 }; n = 0; args = [] }) in
-    let done = map choice_of (take c.loop-c.c-index all) in
-    let ordered : IsOrdered choice_cmp (map choice_of all) = subst (λ xs. IsOrdered choice_cmp (map choice_of xs)) (sym c.as_slice-c-items.ensures) c.in_ok-all.ensures.ordered in
-    let before = taken_before choice_of choice_cmp all c.loop-c.c-index none ordered within in
-    let next : IsFoundAmong p c.args.h.now (c.args.n + 1) c.args.limit (done ++ choice_of here ∷ []) (option_map tree_of c.match-branch-3.best) c.match-branch-3.below =
-    elim c.match-branch-3.branch [
-      | best_of_choices-in-Some w ↦
-          let found : IsBestOf p (IsCheapBy p c.args.h.now (c.args.n + 1) c.loop-c.below (choice_of here)) (Some (tree_of w.in-Some.t)) = subst (λ o. IsBestOf p (IsCheapBy p c.args.h.now (c.args.n + 1) c.loop-c.below (choice_of here)) (option_map tree_of o)) w.in-Some.is c.in_ok-t.ensures.best in
-          let some : 1 ≤ cost p (tree_of w.in-Some.t) = costs_some p c.requires.ready.valid.says c.args.h.now c.requires.unmet (tree_of w.in-Some.t) found.0.0.0.0 in
-          let below : c.match-branch-3.below + 1 ≡ cost p (tree_of w.in-Some.t) = omega (arith, w.below-is, w.cost-below.ensures, some) in
-          subst (λ o. IsFoundAmong p c.args.h.now (c.args.n + 1) c.args.limit (done ++ choice_of here ∷ []) (option_map tree_of o) c.match-branch-3.below) (sym w.best-is)
-          (found_some p c.args.h.now (c.args.n + 1) c.args.limit c.requires.unmet done (choice_of here) (option_map tree_of c.loop-c.best) c.loop-c.below c.match-branch-3.below (tree_of w.in-Some.t) c.loop-c.invariant.0 found below)
-      | best_of_choices-in_default w ↦
-          let found : IsBestOf p (IsCheapBy p c.args.h.now (c.args.n + 1) c.loop-c.below (choice_of here)) None = subst (λ o. IsBestOf p (IsCheapBy p c.args.h.now (c.args.n + 1) c.loop-c.below (choice_of here)) (option_map tree_of o)) w.in_default.is c.in_ok-t.ensures.best in
-          subst (λ l. IsFoundAmong p c.args.h.now (c.args.n + 1) c.args.limit (done ++ choice_of here ∷ []) (option_map tree_of c.match-branch-3.best) l) (sym w.below-is)
-          (subst (λ o. IsFoundAmong p c.args.h.now (c.args.n + 1) c.args.limit (done ++ choice_of here ∷ []) (option_map tree_of o) c.loop-c.below) (sym w.best-is)
-          (found_none p c.args.h.now (c.args.n + 1) c.args.limit c.requires.unmet done (choice_of here) (option_map tree_of c.loop-c.best) c.loop-c.below before c.loop-c.invariant.0 found))
-    ] in
-    (subst (λ cs. IsFoundAmong p c.args.h.now (c.args.n + 1) c.args.limit cs (option_map tree_of c.match-branch-3.best) c.match-branch-3.below) (sym (taken_more choice_of all c.loop-c.c-index none within)) next, c.in_ok-t.ensures.right)
+    let all : left_in p (last_moment c.args.h.now) c.in_ok-walk.walk ≡ choices p (last_moment c.args.h.now) = subst (λ d. left_in p d c.in_ok-walk.walk ≡ choices p d) c.last-d.ensures c.in_ok-walk.ensures.all in
+    (record { done = []; all = all; among = found_first p c.args.h.now (c.args.n + 1) c.args.limit c.requires.unmet }, c.requires.right)
+
+pub best_of_choices-each-smaller : goal.best_of_choices-each-smaller
+best_of_choices-each-smaller t c =
+    let p = problem_of c.args.p.now in
+    let left = left_in p (last_moment c.args.h.now) in
+    let f = c.each.invariant.0 in
+    let given : IsNext (left c.each.walk) (left c.next.new.self) (option_map choice_of c.in_ok-c.field-0) = subst (λ d. IsNext (left_in p d c.each.walk) (left_in p d c.next.new.self) (option_map choice_of c.in_ok-c.field-0)) c.last-d.ensures c.in_ok-c.ensures in
+    let next : left c.each.walk ≡ choice_of c.in-Some.c ∷ left c.next.new.self = subst (λ o. IsNext (left c.each.walk) (left c.next.new.self) (option_map choice_of o)) c.in-Some.is given in
+    shorter (left c.each.walk) (left c.next.new.self) (choice_of c.in-Some.c) next
+
+pub best_of_choices-each-preserved-in-Some-2 : goal.best_of_choices-each-preserved-in-Some-2
+best_of_choices-each-preserved-in-Some-2 t c =
+    let p = problem_of c.args.p.now in
+    let left = left_in p (last_moment c.args.h.now) in
+    let f = c.each.invariant.0 in
+    let given : IsNext (left c.each.walk) (left c.next.new.self) (option_map choice_of c.in_ok-c.field-0) = subst (λ d. IsNext (left_in p d c.each.walk) (left_in p d c.next.new.self) (option_map choice_of c.in_ok-c.field-0)) c.last-d.ensures c.in_ok-c.ensures in
+    let here = choice_of c.in-Some.c in
+    let next : left c.each.walk ≡ here ∷ left c.next.new.self = subst (λ o. IsNext (left c.each.walk) (left c.next.new.self) (option_map choice_of o)) c.in-Some.is given in
+    let found : IsBestOf p (IsCheapBy p c.args.h.now (c.args.n + 1) c.each.below here) (Some (tree_of c.in-Some-2.t)) = subst (λ o. IsBestOf p (IsCheapBy p c.args.h.now (c.args.n + 1) c.each.below here) (option_map tree_of o)) c.in-Some-2.is c.in_ok-t.ensures.best in
+    let some : 1 ≤ cost p (tree_of c.in-Some-2.t) = costs_some p c.requires.ready.valid.says c.args.h.now c.requires.unmet (tree_of c.in-Some-2.t) found.0.0.0.0 in
+    let below : c.cost-below.result - 1 + 1 ≡ cost p (tree_of c.in-Some-2.t) = omega (arith, c.cost-below.ensures, some) in
+    let among = found_some p c.args.h.now (c.args.n + 1) c.args.limit c.requires.unmet f.done here (option_map tree_of c.each.best) c.each.below (c.cost-below.result - 1) (tree_of c.in-Some-2.t) f.among found below in
+    (found_more p c.args.h.now (c.args.n + 1) c.args.limit c.requires.unmet (left c.each.walk) (left c.next.new.self) here (option_map tree_of c.each.best) (Some (tree_of c.in-Some-2.t)) c.each.below (c.cost-below.result - 1) next f among, c.in_ok-t.ensures.right)
+
+pub best_of_choices-each-preserved : goal.best_of_choices-each-preserved
+best_of_choices-each-preserved t c =
+    let p = problem_of c.args.p.now in
+    let left = left_in p (last_moment c.args.h.now) in
+    let f = c.each.invariant.0 in
+    let given : IsNext (left c.each.walk) (left c.next.new.self) (option_map choice_of c.in_ok-c.field-0) = subst (λ d. IsNext (left_in p d c.each.walk) (left_in p d c.next.new.self) (option_map choice_of c.in_ok-c.field-0)) c.last-d.ensures c.in_ok-c.ensures in
+    let here = choice_of c.in-Some.c in
+    let next : left c.each.walk ≡ here ∷ left c.next.new.self = subst (λ o. IsNext (left c.each.walk) (left c.next.new.self) (option_map choice_of o)) c.in-Some.is given in
+    let whole : f.done ++ here ∷ left c.next.new.self ≡ choices p (last_moment c.args.h.now) = ap (λ cs. f.done ++ cs) (sym next) ∙ f.all in
+    let ordered : IsOrdered choice_cmp (choices p (last_moment c.args.h.now)) = subst (λ d. IsOrdered choice_cmp (choices p d)) c.last-d.ensures c.in_ok-walk.ensures.ordered in
+    let before = less_before choice_cmp f.done here (left c.next.new.self) (subst (IsOrdered choice_cmp) (sym whole) ordered) in
+    let found : IsBestOf p (IsCheapBy p c.args.h.now (c.args.n + 1) c.each.below here) None = subst (λ o. IsBestOf p (IsCheapBy p c.args.h.now (c.args.n + 1) c.each.below here) (option_map tree_of o)) c.in_default-2.is c.in_ok-t.ensures.best in
+    let among = found_none p c.args.h.now (c.args.n + 1) c.args.limit c.requires.unmet f.done here (option_map tree_of c.each.best) c.each.below before f.among found in
+    (found_more p c.args.h.now (c.args.n + 1) c.args.limit c.requires.unmet (left c.each.walk) (left c.next.new.self) here (option_map tree_of c.each.best) (option_map tree_of c.each.best) c.each.below c.each.below next f among, c.in_ok-t.ensures.right)
 
 pub best_of_choices-cost-below-requires-clause-costs : goal.best_of_choices-cost-below-requires-clause-costs
 best_of_choices-cost-below-requires-clause-costs t c = costs_at_most (problem_of c.args.p.now) c.requires.ready.valid.says
@@ -226,19 +243,20 @@ best_of_choices-cost-below-requires-clause-costs t c = costs_at_most (problem_of
 pub best_of_choices-overflow_sub-below : goal.best_of_choices-overflow_sub-below
 best_of_choices-overflow_sub-below t c =
     let p = problem_of c.args.p.now in
-    let all = c.as_slice-c-items.result.now in
-    let here = get_or all c.loop-c.c-index (choice_is.Act (record { act = record { 0 = 0 }; n = 0; args = [] })) in
-    let found : IsBestOf p (IsCheapBy p c.args.h.now (c.args.n + 1) c.loop-c.below (choice_of here)) (Some (tree_of c.in-Some.t)) = subst (λ o. IsBestOf p (IsCheapBy p c.args.h.now (c.args.n + 1) c.loop-c.below (choice_of here)) (option_map tree_of o)) c.in-Some.is c.in_ok-t.ensures.best in
-    let some : 1 ≤ cost p (tree_of c.in-Some.t) = costs_some p c.requires.ready.valid.says c.args.h.now c.requires.unmet (tree_of c.in-Some.t) found.0.0.0.0 in
+    let here = choice_of c.in-Some.c in
+    let found : IsBestOf p (IsCheapBy p c.args.h.now (c.args.n + 1) c.each.below here) (Some (tree_of c.in-Some-2.t)) = subst (λ o. IsBestOf p (IsCheapBy p c.args.h.now (c.args.n + 1) c.each.below here) (option_map tree_of o)) c.in-Some-2.is c.in_ok-t.ensures.best in
+    let some : 1 ≤ cost p (tree_of c.in-Some-2.t) = costs_some p c.requires.ready.valid.says c.args.h.now c.requires.unmet (tree_of c.in-Some-2.t) found.0.0.0.0 in
     omega (arith, some, c.cost-below.ensures)
 
 pub best_of_choices-returns-clause-best : goal.best_of_choices-returns-clause-best
 best_of_choices-returns-clause-best t c =
     let p = problem_of c.args.p.now in
-    let all = c.as_slice-c-items.result.now in
-    let past : length all ≤ c.loop-c.c-index = omega arith in
-    let same : map choice_of (take c.loop-c.c-index all) ≡ choices p (last_moment c.args.h.now) = ap (map choice_of) (take_all c.loop-c.c-index all past ∙ c.as_slice-c-items.ensures) ∙ (c.in_ok-all.ensures.all ∙ ap (choices p) c.last.ensures) in
-    found_all p c.args.h.now (c.args.n + 1) c.args.limit c.requires.unmet (option_map tree_of c.loop-c.best) (subst (λ cs. IsBestOf p (IsCheapAmong p c.args.h.now (c.args.n + 1) c.args.limit cs) (option_map tree_of c.loop-c.best)) same c.loop-c.invariant.0.best)
+    let left = left_in p (last_moment c.args.h.now) in
+    let f = c.each.invariant.0 in
+    let given : IsNext (left c.each.walk) (left c.next.new.self) (option_map choice_of c.in_ok-c.field-0) = subst (λ d. IsNext (left_in p d c.each.walk) (left_in p d c.next.new.self) (option_map choice_of c.in_ok-c.field-0)) c.last-d.ensures c.in_ok-c.ensures in
+    let none = subst (λ o. IsNext (left c.each.walk) (left c.next.new.self) (option_map choice_of o)) c.in_default.is given in
+    let same : f.done ≡ choices p (last_moment c.args.h.now) = sym (append-nil f.done) ∙ ap (λ cs. f.done ++ cs) (sym none.0) ∙ f.all in
+    found_all p c.args.h.now (c.args.n + 1) c.args.limit c.requires.unmet (option_map tree_of c.each.best) (subst (λ cs. IsBestOf p (IsCheapAmong p c.args.h.now (c.args.n + 1) c.args.limit cs) (option_map tree_of c.each.best)) same f.among.best)
 
 -- ---- sides
 
@@ -248,7 +266,7 @@ best_taking-assume-requires-clause-moment t c = subst (IsMomentOf (problem_of c.
 pub best_taking-best_within-requires : goal.best_taking-best_within-requires
 best_taking-best_within-requires t c =
     let p = problem_of c.args.p.now in
-    let less : c.args.n * 32 + 1 < t = omega (arith, c.decreases) in
+    let less : c.args.n * 32 + 2 < t = omega (arith, c.decreases) in
     let settles = subst (λ x. Settles p (with_last c.args.h.now (five_of c.in-Next.d)) (state_of x)) c.in-Whole.is c.in_ok-settle-in-Next.ensures.settles in
     let moments = subst (λ x. IfAt (AreMomentsOf p) (state_of x)) c.in-Whole.is c.in_ok-settle-in-Next.ensures.moments in
     (less, (ready_taken c.args.p.now c.args.h.now c.in-Whole.settled c.args.n (five_of c.in-Next.d) c.requires.ready settles moments, c.requires.right))
@@ -287,20 +305,35 @@ best_within-returns-then-n-eq0-clause-best t c =
       | best_within-then-n-eq0-via-else-n-eq0+then-limit-eq0 w ↦ subst (λ l. IsBestWithin p (At c.args.h.now) c.args.n l None) (sym w.if-limit-eq0.true) (none_at_cost p c.requires.ready.valid.says c.args.h.now c.args.n unmet)
     ]
 
-pub best_unmet-returns-then-tells-clause-best : goal.best_unmet-returns-then-tells-clause-best
-best_unmet-returns-then-tells-clause-best t c = c.tells.ensures.told c.if-tells.true (problem_of c.args.p.now) c.requires.ready.valid.says c.requires.right
+pub best_unmet-best_of_rest-requires : goal.best_unmet-best_of_rest-requires
+best_unmet-best_of_rest-requires t c =
+    let p = problem_of c.args.p.now in
+    let less : c.args.n * 32 < t = omega (arith, c.decreases) in
+    let same : HasSameTrees p c.args.h.now c.in_ok-rest.rest = c.in_ok-rest.ensures in
+    (less, (rest_ready c.args.p.now c.args.h.now c.in_ok-rest.rest c.args.n same c.requires.ready, (rest_unmet p c.args.h.now c.in_ok-rest.rest same c.requires.unmet, (c.requires.some, c.requires.right))))
 
-pub best_unmet-returns-then-tells-clause-right : goal.best_unmet-returns-then-tells-clause-right
-best_unmet-returns-then-tells-clause-right t c = c.tells.ensures.right (problem_of c.args.p.now) c.requires.right
+pub best_unmet-returns-clause-best : goal.best_unmet-returns-clause-best
+best_unmet-returns-clause-best t c =
+    let p = problem_of c.args.p.now in
+    let same : HasSameTrees p c.args.h.now c.in_ok-rest.rest = c.in_ok-rest.ensures in
+    IfOk-weaker c.best_of_rest.result (λ o. IsBestWithin p (At c.in_ok-rest.rest) c.args.n c.args.limit (option_map tree_of o)) (λ o. IsBestWithin p (At c.args.h.now) c.args.n c.args.limit (option_map tree_of o))
+    (λ o b. best_of_rest p c.args.h.now c.in_ok-rest.rest same c.args.n c.args.limit (option_map tree_of o) b)
+    c.best_of_rest.ensures.best
 
-pub best_unmet-best_of_choices-requires : goal.best_unmet-best_of_choices-requires
-best_unmet-best_of_choices-requires t c =
+pub best_of_rest-returns-then-tells-clause-best : goal.best_of_rest-returns-then-tells-clause-best
+best_of_rest-returns-then-tells-clause-best t c = c.tells.ensures.told c.if-tells.true (problem_of c.args.p.now) c.requires.ready.valid.says c.requires.right
+
+pub best_of_rest-returns-then-tells-clause-right : goal.best_of_rest-returns-then-tells-clause-right
+best_of_rest-returns-then-tells-clause-right t c = c.tells.ensures.right (problem_of c.args.p.now) c.requires.right
+
+pub best_of_rest-best_of_choices-requires : goal.best_of_rest-best_of_choices-requires
+best_of_rest-best_of_choices-requires t c =
     let same : c.args.n ≡ c.args.n - 1 + 1 = omega (arith, c.requires.some) in
     let less : (c.args.n - 1) * 32 + 31 < t = omega (arith, c.decreases, c.requires.some) in
     (less, (subst (IsReady c.args.p.now c.args.h.now) same c.requires.ready, (c.requires.unmet, c.tells.ensures.right (problem_of c.args.p.now) c.requires.right)))
 
-pub best_unmet-returns-in-None-clause-right : goal.best_unmet-returns-in-None-clause-right
-best_unmet-returns-in-None-clause-right t c =
+pub best_of_rest-returns-in-None-clause-right : goal.best_of_rest-returns-in-None-clause-right
+best_of_rest-returns-in-None-clause-right t c =
     let p = problem_of c.args.p.now in
     let same : c.args.n - 1 + 1 ≡ c.args.n = omega (arith, c.requires.some) in
     let none : IsBestWithin p (At c.args.h.now) (c.args.n - 1 + 1) c.args.limit None = subst (λ o. IsBestWithin p (At c.args.h.now) (c.args.n - 1 + 1) c.args.limit (option_map tree_of o)) c.in-None.is c.in_ok-t.ensures.best in

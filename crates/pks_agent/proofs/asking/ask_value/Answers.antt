@@ -1,0 +1,17 @@
+use Rattle.std.proofs.Common.{◌≡◌, ◌≤◌, ◌∙◌, ap, sym, subst, length, Some, option_map}
+use Rattle.pks_terms.specs.Signatures.{range_of}
+use Rattle.pks_terms.specs.Talk.{object_named}
+use Rattle.pks_terms.specs.Views.{object_of, signature_of, names_of, term_of}
+use Rattle.pks_agent.specs.Answers.{answer_text}
+use Rattle.pks_agent.specs.Leading.{moment}
+use Rattle.pks_agent.proofs.Joining.{asked_on}
+use Rattle.pks_agent.proofs.asking.ask_value.Goals as goal
+
+pub returns-in-Some : goal.returns-in-Some
+returns-in-Some g c =
+    let m = moment g.P.Peer.answers g.P.Peer.said g.P.Peer.sends g.P.Peer.receipts c.args.peer.now in
+    let m' = moment g.P.Peer.answers g.P.Peer.said g.P.Peer.sends g.P.Peer.receipts c.ask.new.peer in
+    let reads = object_named (names_of c.args.p.now) (range_of (signature_of c.args.p.now.signature) (term_of c.args.t.now)) in
+    let short : length (answer_text c.ask.new.into) ≤ 64 = subst (λ text. length text ≤ 64) c.text.ensures.text c.text.ensures.short in
+    let fit : reads (answer_text c.ask.new.into) ≡ Some c.in-Some.object.0 = ap reads (sym c.text.ensures.text) ∙ sym c.value.ensures ∙ ap (option_map object_of) c.in-Some.is in
+    asked_on reads c.args.question.now c.args.k m m' (answer_text c.ask.new.into) c.in_ok-ask.field-0 c.in-Some.object.0 c.in_ok-ask.ensures short fit

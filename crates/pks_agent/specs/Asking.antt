@@ -1,0 +1,23 @@
+-- One question and its answer.
+use Rattle.std.specs.Prelude.{ℕ, ◌≡◌, ◌<◌, List, [], ◌∷◌, length, Some, Result, Ok, Err, IfSome}
+use Rattle.std.specs.Io.KnownBytes.{Appends}
+use Rattle.pks_io.specs.Writing.{AppendsFront}
+use Rattle.pks_terms.specs.Printed.{Text, line}
+use Rattle.pks_agent.specs.Leading.{HasTalkCause, Moment}
+use Rattle.pks_agent.specs.declared.ends.TalkEnd.{TalkEnd}
+use Rattle.pks_agent.specs.declared.ends.TalkEnd.TheVariants.{Misfit, Silent, Failed}
+
+-- its line was said, and the next answer was taken, is too long, or is missing; after a fault a front of the line was said
+abbrev pub Answered : {X : Type 0} → Moment → Moment → Text → ℕ → Text → Result X TalkEnd → List Text → Type 0
+Answered m m' question k answer (Ok x) [] = ⊥
+Answered m m' question k answer (Ok x) (next ∷ rest) = (answer ≡ next) × Appends m.said m'.said (line question) × (m'.answers ≡ Some rest)
+Answered m m' question k answer (Err (Misfit j)) [] = ⊥
+Answered m m' question k answer (Err (Misfit j)) (next ∷ rest) = (j ≡ k) × (64 < length next) × Appends m.said m'.said (line question)
+Answered m m' question k answer (Err (Silent j)) [] = (j ≡ k) × Appends m.said m'.said (line question)
+Answered m m' question k answer (Err (Silent j)) (next ∷ rest) = ⊥
+Answered m m' question k answer (Err (Failed fault)) answers = AppendsFront m.said m'.said (line question)
+
+-- the question was asked so, and a fault has its cause
+pub record IsAsked {X : Type 0} (m m' : Moment) (question : Text) (k : ℕ) (answer : Text) (result : Result X TalkEnd) : Type 0 where
+  pub answered : IfSome m.answers (Answered m m' question k answer result)
+  pub cause : HasTalkCause m.sends m'.sends m.receipts m'.receipts result

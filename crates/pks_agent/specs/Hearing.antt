@@ -1,0 +1,49 @@
+-- What a peer says and hears.
+use Rattle.std.specs.Prelude.{ℕ, ◌≡◌, ◌≤◌, ◌<◌, List, [], ◌∷◌, length, Option, Some, None, Result, Ok, Err, IfErr}
+use Rattle.pks_io.specs.Causes.{Rose}
+use Rattle.pks_terms.specs.Printed.{Text}
+use Rattle.pks_agent.specs.declared.peers.Heard.{Heard}
+use Rattle.pks_agent.specs.declared.peers.Heard.TheVariants.{Line, Long, End}
+use Rattle.pks_agent.specs.declared.peers.PeerFault.{PeerFault}
+use Rattle.pks_agent.specs.declared.peers.PeerFault.TheVariants.{Send, Receive}
+
+-- where the answers that are left are told, they stay
+abbrev pub Stay : Option (List Text) → Option (List Text) → Type 0
+Stay None new = Unit {0}
+Stay (Some answers) new = new ≡ Some answers
+
+-- where they are told, the next of them was taken, and this is it
+abbrev pub TakesNext : Option (List Text) → Option (List Text) → Text → Type 0
+TakesNext None new answer = Unit {0}
+TakesNext (Some []) new answer = ⊥
+TakesNext (Some (next ∷ rest)) new answer = (answer ≡ next) × (new ≡ Some rest)
+
+-- where they are told, the next of them has more than 64 bytes
+abbrev pub IsLongNext : Option (List Text) → Type 0
+IsLongNext None = Unit {0}
+IsLongNext (Some []) = ⊥
+IsLongNext (Some (next ∷ rest)) = 64 < length next
+
+-- where they are told, none is left
+abbrev pub IsNoneLeft : Option (List Text) → Option (List Text) → Type 0
+IsNoneLeft None new = Unit {0}
+IsNoneLeft (Some answers) new = (answers ≡ []) × (new ≡ Some [])
+
+-- what came of a question: the next answer was taken, is too long, or is missing; where sending failed the answers stay
+abbrev pub Hears : Option (List Text) → Option (List Text) → Text → Result Heard PeerFault → Type 0
+Hears old new answer (Ok Line) = TakesNext old new answer
+Hears old new answer (Ok Long) = IsLongNext old
+Hears old new answer (Ok End) = IsNoneLeft old new
+Hears old new answer (Err Send) = Stay old new
+Hears old new answer (Err Receive) = Unit {0}
+
+-- the count of such faults rose
+abbrev pub FaultRose : ℕ → ℕ → ℕ → ℕ → PeerFault → Type 0
+FaultRose sends sends' receipts receipts' Send = Rose sends sends'
+FaultRose sends sends' receipts receipts' Receive = Rose receipts receipts'
+
+-- neither count of faults falls, and each fault comes only where its count rose
+pub record HasPeerCause {X : Type 0} (sends sends' receipts receipts' : ℕ) (result : Result X PeerFault) : Type 0 where
+  pub later_sends : sends ≤ sends'
+  pub later_receipts : receipts ≤ receipts'
+  pub risen : IfErr result (FaultRose sends sends' receipts receipts')

@@ -1,0 +1,61 @@
+//! Who answers, by what was said, by the answers that are left and by two counts of faults.
+ghost use Rattle.std.specs.Prelude.{◌≡◌, ℕ, List, Option, OnOk, OnErr};
+ghost use Rattle.std.specs.Io.KnownBytes.{Appends};
+ghost use Rattle.pks_io.specs.Writing.{AppendsFront};
+ghost use Rattle.pks_terms.specs.Printed.{Text, line};
+ghost use Rattle.pks_agent.specs.Answers.{answer_text};
+ghost use Rattle.pks_agent.specs.Hearing.{Stay, Hears, HasPeerCause};
+
+use crate::answers::Answer;
+
+/// What failed.
+#[derive(Clone, Copy, Debug, PartialEq, Eq)]
+pub enum PeerFault {
+    /// A line was not said whole: the count of sending rose.
+    Send,
+    /// No answer was taken: the count of receiving rose.
+    Receive,
+}
+
+/// What came of a question.
+#[derive(Clone, Copy, Debug, PartialEq, Eq)]
+pub enum Heard {
+    /// The next answer was taken.
+    Line,
+    /// The next answer has more than 64 bytes.
+    Long,
+    /// No answer is left.
+    End,
+}
+
+/// A caller that is told lines and answers questions.
+pub trait Peer {
+    /// The answers that are left, where the peer tells them.
+    ghost answers: { Self → Option (List Text) };
+
+    /// The text said so far, where the peer tells it.
+    ghost said: { Self → Option Text };
+
+    /// A count of the faults of sending. One that stands at 2^64 - 1 is read as risen.
+    ghost sends: { Self → ℕ };
+
+    /// A count of the faults of receiving.
+    ghost receipts: { Self → ℕ };
+
+    /// Says the line and a line feed, or where it fails a front of them. The answers stay as they are. Neither count
+    /// falls, and each fault comes only where its count rose.
+    fn tell(&mut self, text: &[u8]) -> Result<(), PeerFault>
+        ensures ok { OnOk result (Appends (said self.old) (said self.new) (line text.now)) }
+        ensures err { OnErr result (AppendsFront (said self.old) (said self.new) (line text.now)) }
+        ensures answers { Stay (answers self.old) (answers self.new) }
+        ensures cause { HasPeerCause (sends self.old) (sends self.new) (receipts self.old) (receipts self.new) result };
+
+    /// Says the line and a line feed, and takes the next answer. `Long` comes exactly where that has more than 64
+    /// bytes, `End` exactly where none is left. Where sending fails a front of the text was said and the answers
+    /// stay; after `Long` and where receiving fails nothing is known of the answers that are left.
+    fn ask(&mut self, text: &[u8], into: &mut Answer) -> Result<Heard, PeerFault>
+        ensures ok { OnOk result (Appends (said self.old) (said self.new) (line text.now)) }
+        ensures err { OnErr result (AppendsFront (said self.old) (said self.new) (line text.now)) }
+        ensures hears { Hears (answers self.old) (answers self.new) (answer_text into.new) result }
+        ensures cause { HasPeerCause (sends self.old) (sends self.new) (receipts self.old) (receipts self.new) result };
+}

@@ -1,0 +1,115 @@
+//! Literals from which nothing follows by the rules of closing.
+ghost use Rattle.std.specs.Prelude.{◌≡◌, map, not, is_some};
+ghost use Rattle.std.specs.List.{list_all};
+ghost use Rattle.pks_terms.specs.Syntax.{as_object};
+ghost use Rattle.pks_terms.specs.Views.{effect_of, literal_of, literals_in, terms_of};
+ghost use Rattle.pks_terms.specs.Orders.{literal_cmp};
+ghost use Rattle.pks_laws.specs.Lookup.{is_among};
+ghost use Rattle.pks_kf.specs.Known.{literals_of};
+ghost use Rattle.pks_kx.specs.Groups.{groups_of};
+ghost use Rattle.pks_spoiling.specs.EffectViews.{effects_in};
+ghost use Rattle.pks_lasting.specs.Loose.{is_predicate, is_in_no_group, is_loose, bring_nothing};
+ghost use Rattle.pks_progress.specs.Ahead.{is_assignment, assign_nothing};
+
+use pks_kf::Kf;
+use pks_kx::Kx;
+use pks_spoiling::effects::Effects;
+use pks_terms::ids::PredId;
+use pks_terms::literal::{Atom, Literal};
+use pks_terms::schema::{Effect, Target};
+use pks_terms::term::{Term, front};
+
+fn is_predicate(p: PredId, l: &Literal) -> bool
+    ensures { result ≡ is_predicate p.0 (literal_of l.now).relation }
+{
+    match &l.atom {
+        Atom::Pred(a) => a.pred.0 == p.0,
+        Atom::Eq { .. } => false,
+    }
+}
+
+/// Whether none of the literals says or denies the predicate.
+fn have_none(p: PredId, literals: &[Literal]) -> bool
+    ensures { result ≡ list_all (λ m. not (is_predicate p.0 m.relation)) (literals_in literals.now) }
+{
+    match literals {
+        [] => true,
+        [l, rest @ ..] => !is_predicate(p, l) && have_none(p, rest),
+    }
+}
+
+fn is_in_no_group(kx: &Kx, p: PredId) -> bool
+    ensures { result ≡ is_in_no_group (groups_of kx.now) p.0 }
+{
+    for g in kx.items() {
+        if !have_none(p, g.as_slice()) {
+            return false;
+        }
+    }
+    true
+}
+
+fn are_objects(terms: &[Term]) -> bool
+    ensures { result ≡ list_all (λ t. is_some (as_object t)) (terms_of terms.now) }
+{
+    match terms {
+        [] => true,
+        [t, rest @ ..] => match t {
+            Term::Obj(_) => are_objects(rest),
+            Term::Param(_) | Term::App { .. } => false,
+        },
+    }
+}
+
+/// Whether the literal says or denies at objects a predicate that is in no group.
+fn is_loose(kx: &Kx, l: &Literal) -> bool
+    ensures { result ≡ is_loose (groups_of kx.now) (literal_of l.now) }
+{
+    match &l.atom {
+        Atom::Pred(a) => is_in_no_group(kx, a.pred) && are_objects(front(&a.args, a.n)),
+        Atom::Eq { .. } => false,
+    }
+}
+
+#[tactic(auto, using(crate::proofs::Still::members))]
+fn is_among(kf: &Kf, l: &Literal) -> bool
+    ensures { result ≡ is_among literal_cmp (literal_of l.now) (literals_of kf.now) }
+{
+    kf.has(l)
+}
+
+/// Whether each of the literals is known or loose.
+pub(crate) fn bring_nothing(kf: &Kf, kx: &Kx, literals: &[Literal]) -> bool
+    ensures { result ≡ bring_nothing (literals_of kf.now) (groups_of kx.now) (literals_of literals.now) }
+{
+    match literals {
+        [] => true,
+        [l, rest @ ..] => (is_among(kf, l) || is_loose(kx, l)) && bring_nothing(kf, kx, rest),
+    }
+}
+
+fn is_assignment(e: &Effect) -> bool
+    ensures { result ≡ is_assignment (effect_of e.now).target }
+{
+    match &e.target {
+        Target::Assign { .. } => true,
+        Target::Set(_) | Target::Unset(_) | Target::Clear(_) => false,
+    }
+}
+
+fn none_assigns(written: &[Effect]) -> bool
+    ensures { result ≡ assign_nothing (map effect_of written.now) }
+{
+    match written {
+        [] => true,
+        [e, rest @ ..] => !is_assignment(e) && none_assigns(rest),
+    }
+}
+
+/// Whether none of the effects assigns a value.
+#[tactic(auto, using(crate::proofs::Still::assigned))]
+pub(crate) fn assign_nothing(es: Effects<'_>) -> bool
+    ensures { result ≡ assign_nothing (effects_in es.entry) }
+{
+    none_assigns(es.written)
+}

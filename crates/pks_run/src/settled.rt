@@ -1,0 +1,161 @@
+// Files whose answer would be another one if the search let go of too much of the past, and files that it ends with in time
+// since it lets go of some, and since it keeps a table of failures.
+use crate::Status;
+use crate::tests::answer_row;
+use std::test::Fail;
+
+// Whether the effect fired isn't known when it is done: a look at its condition tells it later, and so what the region has.
+const OPEN_CONDITION: &str = "(pks 1)
+(domain (types t) (objects (t a b)) (predicates (q t) (c) (done))
+  (action act (effects (when ((c)) (set (q a))) (set (done))) (knows (kf (done))))
+  (action see (pre (k (done))) (senses (sense (c))) (knows (kw (c))))
+  (action look (pre (k (not (c)))) (senses (sense (q a))) (knows (kw (q a))))
+  (action fix (pre (k (c))) (effects (unset (q a))) (knows (kf (not (q a))))))
+(problem (init (lcw (q _))) (goal (k (done)) (k (not (q a)))))
+";
+
+const OPEN_CONDITION_PLAN: &str = "plan depth 5
+(act)
+(see)
+branch (c)
+true
+  (fix)
+  goal
+false
+  (look)
+  branch (q a)
+  true
+    impossible
+  false
+    goal
+";
+
+// What a place was isn't known when it is assigned, and is learnt later.
+const UNKNOWN_PLACE: &str = "(pks 1)
+(domain (types t) (objects (t a b d)) (predicates (q t)) (functions (h t) (f t))
+  (action act (effects (assign (f) a)) (knows (kf (= (f) a)))))
+(problem (init (kf (q (f))) (kf (= (f) (h))) (kv (h))) (goal (k (= (f) a)) (k (q (h)))))
+";
+
+const UNKNOWN_PLACE_PLAN: &str = "plan depth 2
+(act)
+cases (h)
+case a
+  goal
+case b
+  goal
+case d
+  goal
+";
+
+// A condition that is so by a region alone doesn't stay so when the region is lost.
+const LOST_REGION: &str = "(pks 1)
+(domain (types t) (objects (t a b d)) (predicates (q t) (p) (r) (done)) (functions (f t))
+  (action act (effects (when ((not (q a))) (set (p)))) (knows (if ((k (not (q a)))) (kf (p)))))
+  (action look (senses (sense (r))) (knows (kw (r))))
+  (action drop (effects (set (q (f))) (assign (f) b) (set (done))) (knows (kf (done)))))
+(problem (init (lcw (q _)) (kf (not (p))) (kf (not (= (f) a)))) (goal (k (done)) (k (p)) (k (not (q a)))))
+";
+
+const LOST_REGION_PLAN: &str = "plan depth 4
+(act)
+(look)
+(drop)
+branch (r)
+true
+  goal
+false
+  goal
+";
+
+// One place may have been assigned twice, and the values that it was given aren't known: it is learnt later that they are
+// equal, and that can't be.
+const TWO_VALUES: &str = "(pks 1)
+(domain (types t) (objects (t a b d)) (predicates (c) (done)) (functions (g t) (h t) (f t))
+  (action act
+    (effects (when ((c)) (assign (f) (g))) (assign (f) (h)) (set (done)))
+    (knows (kf (= (f) (h))) (kf (done))))
+  (action look (senses (sense (= (f) (g)))) (knows (kw (= (f) (g))))))
+(problem
+  (init (kf (= (f) a)) (kf (not (c))) (kf (not (= (g) (h)))) (kf (not (= (g) a))))
+  (goal (k (done)) (k (not (= (f) (g))))))
+";
+
+const TWO_VALUES_PLAN: &str = "plan depth 3
+(act)
+(look)
+branch (= (f) (g))
+true
+  impossible
+false
+  goal
+";
+
+// Eight lamps: 40,320 orders in which to light them, and 256 ways in which they may be lit.
+const LAMPS: &str = "(pks 1)
+(domain (types lamp) (objects (lamp a b c d e f g h)) (predicates (lit lamp))
+  (action light (params (?l lamp)) (effects (set (lit ?l))) (knows (kf (lit ?l)))))
+(problem
+  (init (kf (not (lit a))) (kf (not (lit b))) (kf (not (lit c))) (kf (not (lit d))) (kf (not (lit e)))
+    (kf (not (lit f))) (kf (not (lit g))) (kf (not (lit h))))
+  (goal (k (lit a)) (k (lit b)) (k (lit c)) (k (lit d)) (k (lit e))
+    (k (lit f)) (k (lit g)) (k (lit h))))
+";
+
+const LAMPS_PLAN: &str = "plan depth 8
+(light a)
+(light b)
+(light c)
+(light d)
+(light e)
+(light f)
+(light g)
+(light h)
+goal
+";
+
+// Eleven formulas to branch on, in any order, and a goal that none of them tells.
+const ELEVEN: &str = "(pks 1)
+(domain (predicates (p1) (p2) (p3) (p4) (p5) (p6) (p7) (p8) (p9) (p10) (p11) (g)))
+(problem (init (kw (p1)) (kw (p2)) (kw (p3)) (kw (p4)) (kw (p5)) (kw (p6))
+  (kw (p7)) (kw (p8)) (kw (p9)) (kw (p10)) (kw (p11))) (goal (k (g))))
+";
+
+#[test]
+fn what_the_past_may_tell_is_kept(rt: HostRuntime) -> Result<(), Fail> {
+    let alloc = rt.alloc();
+    let rows = [
+        ("4", OPEN_CONDITION, Status::NoPlan, "none to depth 4\n"),
+        ("5", OPEN_CONDITION, Status::Done, OPEN_CONDITION_PLAN),
+        ("1", UNKNOWN_PLACE, Status::NoPlan, "none to depth 1\n"),
+        ("2", UNKNOWN_PLACE, Status::Done, UNKNOWN_PLACE_PLAN),
+        ("3", LOST_REGION, Status::NoPlan, "none to depth 3\n"),
+        ("4", LOST_REGION, Status::Done, LOST_REGION_PLAN),
+        ("2", TWO_VALUES, Status::NoPlan, "none to depth 2\n"),
+        ("3", TWO_VALUES, Status::Done, TWO_VALUES_PLAN),
+    ];
+    for (depth, input, status, text) in rows {
+        let (got, written) = answer_row(alloc, "plan", depth, input)?;
+        assert_eq!(rt; got, status);
+        assert_eq!(rt; written.as_slice(), text.as_bytes());
+    }
+    Ok(())
+}
+
+#[test]
+fn orders_that_come_to_the_same(rt: HostRuntime) -> Result<(), Fail> {
+    let alloc = rt.alloc();
+    let (got, written) = answer_row(alloc, "plan", "8", LAMPS)?;
+    assert_eq!(rt; got, Status::Done);
+    assert_eq!(rt; written.as_slice(), LAMPS_PLAN.as_bytes());
+    Ok(())
+}
+
+#[test]
+fn what_failed_is_not_searched_again(rt: HostRuntime) -> Result<(), Fail> {
+    let alloc = rt.alloc();
+    let (got, written) = answer_row(alloc, "plan", "11", ELEVEN)?;
+    assert_eq!(rt; got, Status::NoPlan);
+    assert_eq!(rt; written.as_slice(), "none to depth 11\n".as_bytes());
+    Ok(())
+}

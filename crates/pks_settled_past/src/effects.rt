@@ -1,0 +1,228 @@
+//! The effects of an instance, its arguments put in, and what they surely do.
+ghost use Rattle.std.specs.Prelude.{◌≡◌, ◌&&◌, ◌||◌, false, map, IfOk};
+ghost use Rattle.std.specs.List.{list_all, list_any};
+ghost use Rattle.std.specs.Option.{option_map, option_map_or};
+ghost use Rattle.pks_terms.specs.Actions.{target_at, effect_at};
+ghost use Rattle.pks_terms.specs.Orders.{literal_eq};
+ghost use Rattle.pks_terms.specs.Settling.{effects_of};
+ghost use Rattle.pks_terms.specs.Syntax.{negated};
+ghost use Rattle.pks_terms.specs.ValidProblems.{AssignsToPlace, IsValidProblem};
+ghost use Rattle.pks_terms.specs.Views.{given_of, term_of, literal_of, literals_in, target_of, effect_of, instance_of, problem_of};
+ghost use Rattle.pks_kf.specs.Known.{literals_of};
+ghost use Rattle.pks_normal.specs.Fives.{five_of};
+ghost use Rattle.pks_cut.specs.Testing.{has, made_by, tells, had_value, fires_surely, fires_never, is_written, assigns, is_assigned};
+ghost use Rattle.pks_settled_past.specs.Placed.{ArePlaced, writes};
+
+use crate::objects::gives_value;
+use pks_normal::five::Five;
+use pks_terms::literal::{Atom, Literal, equation};
+use pks_terms::problem::Problem;
+use pks_terms::schema::{Effect, Instance, Target};
+use pks_terms::term::{Term, front};
+use std::alloc::{AllocError, Global};
+
+/// The target with the instance's arguments put in.
+fn target_at(x: &Target, i: &Instance) -> Target
+    requires { AssignsToPlace x.now }
+    ensures says { target_of result ≡ target_at (given_of i.now) (target_of x.now) }
+    ensures placed { AssignsToPlace result }
+{
+    match x {
+        Target::Set(a) => Target::Set(a.at(i)),
+        Target::Unset(a) => Target::Unset(a.at(i)),
+        Target::Clear(y) => Target::Clear(y.at(i)),
+        Target::Assign { place, value } => Target::Assign {
+            place: place.at(i),
+            value: value.at(i),
+        },
+    }
+}
+
+fn effect_at(e: &Effect, i: &Instance) -> Effect
+    requires { AssignsToPlace e.now.target }
+    ensures says { effect_of result ≡ effect_at (given_of i.now) (effect_of e.now) }
+    ensures placed { AssignsToPlace result.target }
+{
+    Effect {
+        cond: e.cond.at(i),
+        target: target_at(&e.target, i),
+    }
+}
+
+fn effects_at(alloc: Global, written: &[Effect], i: &Instance) -> Result<Vec<Effect>, AllocError>
+    requires { ArePlaced written.now }
+    ensures says { IfOk result (λ v. map effect_of v.items ≡ map (effect_at (given_of i.now)) (map effect_of written.now)) }
+    ensures placed { IfOk result (λ v. ArePlaced v.items) }
+{
+    let mut effects = Vec::new(alloc);
+    for e in written {
+        effects.push(effect_at(e, i))?;
+    }
+    Ok(effects)
+}
+
+/// The effects of the instance's action, its arguments put in. The error is want of memory.
+pub(crate) fn effects_of(
+    alloc: Global,
+    p: &Problem<'_>,
+    i: &Instance,
+) -> Result<Vec<Effect>, AllocError>
+    requires { IsValidProblem p.now }
+    ensures says { IfOk result (λ v. map effect_of v.items ≡ effects_of (problem_of p.now) (instance_of i.now)) }
+    ensures placed { IfOk result (λ v. ArePlaced v.items) }
+{
+    match p.schemas.as_slice().get(usize::from(i.act.0)) {
+        Some(schema) => effects_at(alloc, schema.effects.as_slice(), i),
+        None => Ok(Vec::new(alloc)),
+    }
+}
+
+/// Whether the literal is known.
+#[tactic(auto, using(crate::proofs::Found::is_literal_among))]
+pub(crate) fn has(d: &Five, l: &Literal) -> bool
+    ensures { result ≡ has (five_of d.now) (literal_of l.now) }
+{
+    d.kf.has(l)
+}
+
+/// What the target makes so.
+pub(crate) fn made_by(x: &Target) -> Option<Literal>
+    requires { AssignsToPlace x.now }
+    ensures { option_map literal_of result ≡ made_by (target_of x.now) }
+{
+    match x {
+        Target::Set(a) => Some(Literal {
+            atom: Atom::Pred(*a),
+            positive: true,
+        }),
+        Target::Unset(a) => Some(Literal {
+            atom: Atom::Pred(*a),
+            positive: false,
+        }),
+        Target::Clear(_) => None,
+        Target::Assign { place, value } => match place {
+            Term::Obj(_) | Term::Param(_) => unreachable!(),
+            Term::App { .. } => Some(equation(place, value, true)),
+        },
+    }
+}
+
+/// Whether the literal gives the value of the place.
+#[tactic(auto, unfolding(pks_terms::specs::Orders::term_eq))]
+fn tells(place: &Term, l: &Literal) -> bool
+    ensures { result ≡ tells (term_of place.now) (literal_of l.now) }
+{
+    match &l.atom {
+        Atom::Pred(_) => false,
+        Atom::Eq { left, right } => gives_value(left, right) && (l.positive && *left == *place),
+    }
+}
+
+/// Whether a known literal gives the value of the place.
+fn has_value(d: &Five, place: &Term) -> bool
+    ensures { result ≡ list_any (tells (term_of place.now)) (literals_of d.now.kf) }
+{
+    for l in d.kf.items() {
+        if tells(place, l) {
+            return true;
+        }
+    }
+    false
+}
+
+/// Whether a place that the target assigns has a known value.
+pub(crate) fn had_value(d: &Five, x: &Target) -> bool
+    requires { AssignsToPlace x.now }
+    ensures { result ≡ had_value (five_of d.now) (target_of x.now) }
+{
+    match x {
+        Target::Set(_) | Target::Unset(_) | Target::Clear(_) => true,
+        Target::Assign { place, .. } => match place {
+            Term::Obj(_) | Term::Param(_) => unreachable!(),
+            Term::App { .. } => has_value(d, place),
+        },
+    }
+}
+
+fn all_known(d: &Five, ls: &[Literal]) -> bool
+    ensures { result ≡ list_all (has (five_of d.now)) (literals_in ls.now) }
+{
+    match ls {
+        [] => true,
+        [l, rest @ ..] => has(d, l) && all_known(d, rest),
+    }
+}
+
+fn some_denied(d: &Five, ls: &[Literal]) -> bool
+    ensures { result ≡ list_any (λ c. has (five_of d.now) (negated c)) (literals_in ls.now) }
+{
+    match ls {
+        [] => false,
+        [l, rest @ ..] => has(d, &l.negated()) || some_denied(d, rest),
+    }
+}
+
+/// Whether each condition of the effect is known.
+pub(crate) fn fires_surely(d: &Five, e: &Effect) -> bool
+    ensures { result ≡ fires_surely (five_of d.now) (effect_of e.now) }
+{
+    all_known(d, front(&e.cond.literals, e.cond.n))
+}
+
+/// Whether the negation of a condition of the effect is known.
+pub(crate) fn fires_never(d: &Five, e: &Effect) -> bool
+    ensures { result ≡ fires_never (five_of d.now) (effect_of e.now) }
+{
+    some_denied(d, front(&e.cond.literals, e.cond.n))
+}
+
+/// Whether the target makes the literal true or false.
+#[tactic(auto, unfolding(pks_terms::specs::Orders::literal_eq))]
+fn writes(x: &Target, l: &Literal) -> bool
+    requires { AssignsToPlace x.now }
+    ensures { result ≡ writes (target_of x.now) (literal_of l.now) }
+{
+    match made_by(x) {
+        Some(m) => m == *l || m == l.negated(),
+        None => false,
+    }
+}
+
+/// Whether one of the effects surely fires and makes the literal true or false.
+pub(crate) fn is_written(d: &Five, effects: &[Effect], l: &Literal) -> bool
+    requires { ArePlaced effects.now }
+    ensures { result ≡ is_written (five_of d.now) (map effect_of effects.now) (literal_of l.now) }
+{
+    match effects {
+        [] => false,
+        [e, rest @ ..] => { (fires_surely(d, e) && writes(&e.target, l)) || is_written(d, rest, l) }
+    }
+}
+
+/// Whether the target assigns the place.
+#[tactic(auto, unfolding(pks_terms::specs::Orders::term_eq))]
+fn assigns(x: &Target, t: &Term) -> bool
+    requires { AssignsToPlace x.now }
+    ensures { result ≡ assigns (target_of x.now) (term_of t.now) }
+{
+    match x {
+        Target::Set(_) | Target::Unset(_) | Target::Clear(_) => false,
+        Target::Assign { place, .. } => match place {
+            Term::Obj(_) | Term::Param(_) => unreachable!(),
+            Term::App { .. } => *place == *t,
+        },
+    }
+}
+
+/// Whether one of the effects surely fires and assigns the place.
+pub(crate) fn is_assigned(d: &Five, effects: &[Effect], t: &Term) -> bool
+    requires { ArePlaced effects.now }
+    ensures { result ≡ is_assigned (five_of d.now) (map effect_of effects.now) (term_of t.now) }
+{
+    match effects {
+        [] => false,
+        [e, rest @ ..] => {
+            (fires_surely(d, e) && assigns(&e.target, t)) || is_assigned(d, rest, t)
+        }
+    }
+}

@@ -1,0 +1,9 @@
+//! Whole runs alone: files at each limit and one past it, and streams that fail. `docs/ARCHITECTURE.md` says where tests stand.
+#![tactic(auto)]
+
+#[cfg(test)]
+mod limits;
+#[cfg(test)]
+mod runs;
+#[cfg(test)]
+mod streams;
