@@ -1,0 +1,76 @@
+//! Cases of adds.
+ghost use Rattle.pks_terms.specs.ValidProblems.{IsValidProblem};
+
+use crate::reading::read;
+use pks_justify::{Case, case_of, justify};
+use pks_terms::ids::ActId;
+use pks_terms::problem::Problem;
+use std::alloc::{AllocError, Global};
+use std::test::Fail;
+
+const BEFORE: &str = "(pks 1)
+(domain
+  (types t)
+  (objects (t a b))
+  (predicates (p t) (r))
+  (functions (f t) (g t))
+  (action act (params (?x t) (?y t))
+    ";
+
+const AFTER: &str = ")))
+(problem (goal (k (r))))
+";
+
+/// The text of these parts.
+fn joined(alloc: Global, parts: &[&str]) -> Result<String, AllocError> {
+    let mut text = String::new(alloc);
+    for part in parts {
+        text.push_str(part)?;
+    }
+    Ok(text)
+}
+
+/// Whether each add has a case.
+fn are_justified(p: &Problem<'_>) -> bool
+    requires { IsValidProblem p.now }
+{
+    justify(p).is_ok()
+}
+
+/// The case of the first add of the only action.
+fn first_case(p: &Problem<'_>) -> Result<Option<Case>, Fail>
+    requires { IsValidProblem p.now }
+{
+    let [schema] = p.schemas.as_slice() else {
+        return Err(Fail::new("there isn't one action"));
+    };
+    if schema.adds.is_empty() {
+        return Err(Fail::new("the action knows nothing"));
+    }
+    Ok(case_of(p, ActId(0), 1))
+}
+
+/// The case of the first add, or none where it has no case; an add without one isn't justified.
+fn judged(p: &Problem<'_>) -> Result<Option<Case>, Fail>
+    requires { IsValidProblem p.now }
+{
+    let case = first_case(p)?;
+    if are_justified(p) == case.is_none() {
+        return Err(Fail::new("an add with a case isn't justified"));
+    }
+    Ok(case)
+}
+
+/// The same of a file.
+fn judged_in(alloc: Global, text: &str) -> Result<Option<Case>, Fail> {
+    let p = read(alloc, text)?;
+    let case = judged(&p)?;
+    Ok(case)
+}
+
+/// The case of what the action of these parts knows, or none where it has no case.
+pub fn case(alloc: Global, parts: &str, knows: &str) -> Result<Option<Case>, Fail> {
+    let text = joined(alloc, &[BEFORE, parts, " (knows ", knows, AFTER])?;
+    let case = judged_in(alloc, text.as_str())?;
+    Ok(case)
+}
