@@ -62,10 +62,14 @@ impl Failures {
     }
 
     /// Notes that no tree at the history, no deeper than `depth`, costs at most `limit`. Where memory is wanting the table
-    /// stays as it is.
+    /// stays as it is; and so it does for a depth of 1 or less where it is full, since that is cheap to find again, and else
+    /// would put out what is dear.
     pub fn note(&mut self, h: &History, depth: u32, limit: u32)
         ensures { (p : Problem) → HasNoTree p h.now depth limit → AreRight p self.old → AreRight p self.new }
     {
+        if depth <= 1 && self.table.len() >= 4_096 {
+            return;
+        }
         if let Ok(history) = h.share() {
             self.put(history, depth, limit);
         }

@@ -22,13 +22,16 @@ use pks_normal::five::Five;
 use pks_terms::literal::Literal;
 use pks_terms::problem::{Problem, Signature};
 use std::alloc::{AllocError, Global};
+use std::cell::Cell;
 use std::marker::Model;
 use std::rc::Rc;
 
-/// Closed databases without a clash, seen as those databases. They do not keep the signature by which they are closed.
+/// Closed databases without a clash, seen as those databases. They do not keep the signature by which they are closed. Beside
+/// them stands their mark, once it was asked for.
 #[derive(Drop)]
 pub struct Db {
     derived: Rc<Derived>,
+    mark: Cell<Option<u64>>,
 }
 
 impl Model for Db {
@@ -75,7 +78,8 @@ impl Db {
         match close(alloc, s, five) {
             Ok(derived) => {
                 let derived = shared(alloc, derived)?;
-                Ok(Db { derived })
+                let mark = Cell::new(None);
+                Ok(Db { derived, mark })
             }
             Err(end) => Err(end),
         }
@@ -118,7 +122,8 @@ impl Db {
     {
         let _s = s;
         let derived = shared(alloc, derived)?;
-        Ok(Db { derived })
+        let mark = Cell::new(None);
+        Ok(Db { derived, mark })
     }
 
     /// Lends the five. It takes no memory.
@@ -141,6 +146,17 @@ impl Db {
         ensures { IfOk result (λ same. same ≡ self.now) }
     {
         let derived = self.derived.clone()?;
-        Ok(Db { derived })
+        let mark = Cell::new(self.mark.get());
+        Ok(Db { derived, mark })
+    }
+
+    /// The mark that was kept, or `None` where none was yet. It takes no memory.
+    pub(crate) fn kept_mark(&self) -> Option<u64> {
+        self.mark.get()
+    }
+
+    /// Keeps the mark. It takes no memory.
+    pub(crate) fn keep_mark(&self, mark: u64) {
+        self.mark.set(Some(mark));
     }
 }

@@ -3,6 +3,7 @@
 
 pub mod asking;
 pub mod databases;
+pub mod marks;
 pub mod same;
 
 pub use databases::{Db, Step};
