@@ -1,5 +1,5 @@
 //! Looking up literals. `docs/RULES.md` has the rule.
-ghost use Rattle.std.specs.Prelude.{◌≡◌, ◌||◌, List, [], ◌∷◌, map, Some, None, take, IfOk};
+ghost use Rattle.std.specs.Prelude.{◌≡◌, ◌||◌, List, [], ◌∷◌, map, Some, None, take, IfOk, IsTrue, false};
 ghost use Rattle.std.specs.Option.{option_map};
 ghost use Rattle.std.specs.List.{list_any, list_all};
 ghost use Rattle.pks_terms.specs.Syntax.{Equality, negated};
@@ -15,10 +15,9 @@ ghost use Rattle.pks_derived.specs.Forms.{HasItsForms};
 use crate::forms::forms_of;
 use crate::ranges::is_foreign;
 use pks_kf::Kf;
-use pks_lcw::Entry;
+use pks_lcw::{AtomSet, Entry};
 use pks_normal::five::Five;
 use pks_normal::normals::Normals;
-use pks_terms::ids::PredId;
 use pks_terms::literal::{Arguments, Atom, Literal, PredAtom, equation};
 use pks_terms::problem::Signature;
 use pks_terms::term::{Term, front};
@@ -214,29 +213,40 @@ impl Derived {
     fn all_differ(&self, s: &Signature, atoms: &[PredAtom], args: &[Term]) -> bool
         ensures { result ≡ list_all (λ a. some_differ (signature_of s.now) (literals_of self.now.kf) a.arguments (terms_of args.now)) (atoms_of atoms.now) }
     {
-        match atoms {
-            [] => true,
-            [a, atoms @ ..] => {
-                self.some_differ(s, front(&a.args, a.n), args) && self.all_differ(s, atoms, args)
+        for a in atoms {
+            if !self.some_differ(s, front(&a.args, a.n), args) {
+                return false;
             }
         }
+        true
     }
 
-    /// Whether the region tells that the predicate at these arguments is false.
-    fn is_shut_out(&self, s: &Signature, pred: PredId, args: &[Term], region: &Entry) -> bool
-        ensures { result ≡ is_shut_out (signature_of s.now) (literals_of self.now.kf) pred.0 (terms_of args.now) (entry_of region.now) }
+    /// Whether the atom is listed and does not differ from itself. It is compared with as many as the logarithm of their
+    /// number.
+    fn is_listed(&self, s: &Signature, a: &PredAtom, list: &AtomSet) -> bool
+        ensures { IsTrue result → list_all (λ b. some_differ (signature_of s.now) (literals_of self.now.kf) b.arguments (atom_of a.now).arguments) (atoms_of list.now) ≡ false }
     {
-        region.pattern.pred == pred
+        let args = front(&a.args, a.n);
+        list.has(a) && !self.some_differ(s, args, args)
+    }
+
+    /// Whether the region tells that the atom is false.
+    fn is_shut_out(&self, s: &Signature, a: &PredAtom, region: &Entry) -> bool
+        ensures { result ≡ is_shut_out (signature_of s.now) (literals_of self.now.kf) a.now.pred.0 (atom_of a.now).arguments (entry_of region.now) }
+    {
+        let args = front(&a.args, a.n);
+        region.pattern.pred.0 == a.pred.0
             && self.fits(front(&region.pattern.args, region.pattern.n), args)
+            && !self.is_listed(s, a, &region.list)
             && self.all_differ(s, region.list.as_slice(), args)
     }
 
-    /// Whether some region tells that the predicate at these arguments is false.
-    fn is_outside(&self, s: &Signature, pred: PredId, args: &[Term]) -> bool
-        ensures { result ≡ list_any (is_shut_out (signature_of s.now) (literals_of self.now.kf) pred.0 (terms_of args.now)) (entries_of self.now.lcw) }
+    /// Whether some region tells that the atom is false.
+    fn is_outside(&self, s: &Signature, a: &PredAtom) -> bool
+        ensures { result ≡ list_any (is_shut_out (signature_of s.now) (literals_of self.now.kf) a.now.pred.0 (atom_of a.now).arguments) (entries_of self.now.lcw) }
     {
         for region in self.five().lcw.items() {
-            if self.is_shut_out(s, pred, args, region) {
+            if self.is_shut_out(s, a, region) {
                 return true;
             }
         }
@@ -251,7 +261,7 @@ impl Derived {
             return false;
         }
         match &l.atom {
-            Atom::Pred(a) => self.is_outside(s, a.pred, front(&a.args, a.n)),
+            Atom::Pred(a) => self.is_outside(s, a),
             Atom::Eq { .. } => false,
         }
     }

@@ -2,10 +2,12 @@
 use Rattle.std.specs.Prelude.{ℕ, Bool, false, not, ◌||◌, List, [], ◌∷◌, ◌++◌, take, Option, Some, None}
 use Rattle.std.specs.List.{list_any, list_all}
 use Rattle.std.specs.Option.{option_map_or}
-use Rattle.pks_terms.specs.Syntax.{Term, Literal}
+use Rattle.std.specs.Ordering.{is_eq}
+use Rattle.pks_terms.specs.Syntax.{Term, Literal, Pattern}
+use Rattle.pks_terms.specs.Orders.{pattern_cmp}
 use Rattle.pks_terms.specs.Worlds.{World, value_of}
 use Rattle.pks_terms.specs.Meaning.{is_value_of}
-use Rattle.pks_terms.specs.Problems.{Start, Problem, known_start, atom_on}
+use Rattle.pks_terms.specs.Problems.{Start, StartKf, StartKw, StartKv, StartKx, StartLcw, Problem, known_start, atom_on}
 use Rattle.pks_terms.specs.Printed.{numbers_from}
 use Rattle.pks_exec.specs.declared.compatibility.Few.{Few}
 
@@ -34,3 +36,11 @@ abbrev pub all_instances : World → ℕ → (List ℕ → Bool) → List ℕ �
 all_instances w n passes ds [] = passes ds
 all_instances w n passes ds (Some t ∷ ss) = all_instances w n passes (ds ++ value_of w t ∷ []) ss
 all_instances w n passes ds (None ∷ ss) = list_all (λ d. all_instances w n passes (ds ++ d ∷ []) ss) (numbers_from 0 n)
+
+-- the item is the region of the pattern
+abbrev pub is_region : Pattern → Start → Bool
+is_region x (StartLcw y) = is_eq (pattern_cmp y x)
+is_region x (StartKf l) = false
+is_region x (StartKw c) = false
+is_region x (StartKv t) = false
+is_region x (StartKx g) = false

@@ -1,7 +1,7 @@
 //! Whether a world is one in which a problem may begin.
 ghost use Rattle.std.specs.Prelude.{◌≡◌, ◌≤◌, ◌<◌, ◌+◌, ◌^◌, ◌↔◌, ℕ, [], ◌∷◌, ◌++◌, map, length, option_map, Some, None, IsTrue, IsNone, IfSome};
 ghost use Rattle.std.specs.List.{list_any};
-ghost use Rattle.pks_terms.specs.Sets.{exactly_one};
+ghost use Rattle.pks_terms.specs.Sets.{Each, exactly_one};
 ghost use Rattle.pks_terms.specs.Syntax.{affirmed};
 ghost use Rattle.pks_terms.specs.Worlds.{value_of, true_in};
 ghost use Rattle.pks_terms.specs.Databases.{same_objects};
@@ -10,11 +10,11 @@ ghost use Rattle.pks_terms.specs.Problems.{initial_entry, initial, IsCompatible}
 ghost use Rattle.pks_terms.specs.Answers.{Keeps, IsFirstBroken};
 ghost use Rattle.pks_terms.specs.Views.{term_of, terms_of, atom_of, literal_of, literals_in, pattern_of, start_of, signature_of, problem_of};
 ghost use Rattle.pks_world.specs.Contents.{ground, world_of};
-ghost use Rattle.pks_exec.specs.Instances.{few_of, is_value, lists, is_listed, is_told, all_instances};
+ghost use Rattle.pks_exec.specs.Instances.{few_of, is_value, lists, is_listed, is_told, is_region, all_instances};
 
 use pks_terms::ids::{ItemNo, ObjId, PredId};
 use pks_terms::literal::{Atom, Literal, Pattern, PredAtom};
-use pks_terms::problem::{Init, Problem};
+use pks_terms::problem::{Init, InitItem, Problem};
 use pks_terms::term::{Term, front};
 use pks_world::World;
 
@@ -249,6 +249,40 @@ fn keeps(p: &Problem<'_>, w: &World, start: &Init) -> bool
     }
 }
 
+/// Whether the item is the region of this pattern.
+fn is_region(x: &Pattern, start: &Init) -> bool
+    ensures { result ≡ is_region (pattern_of x.now) (start_of start.now) }
+{
+    match start {
+        Init::Lcw(y) => *y == *x,
+        Init::Kf(_) | Init::Kw(_) | Init::Kv(_) | Init::Kx(_) => false,
+    }
+}
+
+/// Whether some item is.
+fn has_region(x: &Pattern, items: &[InitItem]) -> bool
+    ensures { result ≡ list_any (is_region (pattern_of x.now)) (map (λ i. start_of i.start) items.now) }
+{
+    for item in items {
+        if is_region(x, &item.start) {
+            return true;
+        }
+    }
+    false
+}
+
+/// Whether the world keeps the initial item, where it keeps those before it. A region that stands there already isn't looked at
+/// again.
+fn keeps_next(p: &Problem<'_>, w: &World, before: &[InitItem], start: &Init) -> bool
+    requires { length p.now.signature.objects ≤ 65536 }
+    ensures { IsWorld (signature_of p.now.signature) (world_of w.now) → Each (Keeps (problem_of p.now) (world_of w.now)) (map (λ i. start_of i.start) before.now) → IsTrue result ↔ Keeps (problem_of p.now) (world_of w.now) (start_of start.now) }
+{
+    match start {
+        Init::Lcw(x) => has_region(x, before) || keeps(p, w, start),
+        Init::Kf(_) | Init::Kw(_) | Init::Kv(_) | Init::Kx(_) => keeps(p, w, start),
+    }
+}
+
 /// The first initial item that the world breaks, the items counted from 1 as written: a literal that is false, a group of which not exactly
 /// one literal is true, a region that the world doesn't meet. There is none exactly where the world is compatible. It asks that objects and
 /// items can be numbered, and says this of worlds of the signature. It takes no memory. `docs/RULES.md`, databases.
@@ -259,8 +293,9 @@ pub fn compatible(p: &Problem<'_>, w: &World) -> Option<ItemNo>
     ensures only { IsWorld (signature_of p.now.signature) (world_of w.now) → (n : ℕ) → IsFirstBroken (problem_of p.now) (world_of w.now) (problem_of p.now).init 1 n → option_map (λ i. i.0) result ≡ Some n }
     ensures none { IsWorld (signature_of p.now.signature) (world_of w.now) → IsNone result ↔ IsCompatible (problem_of p.now) (world_of w.now) }
 {
-    for (k, item) in p.init.as_slice().iter().enumerate() {
-        if !keeps(p, w, &item.start) {
+    let items = p.init.as_slice();
+    for (k, item) in items.iter().enumerate() {
+        if !keeps_next(p, w, &items[..k], &item.start) {
             return Some(ItemNo(k as u32 + 1));
         }
     }

@@ -1,5 +1,5 @@
 //! The databases of the initial items, not closed. `docs/RULES.md` has the rule on regions.
-ghost use Rattle.std.specs.Prelude.{◌≡◌, List, [], map, option_map, IfOk, OnOk};
+ghost use Rattle.std.specs.Prelude.{◌≡◌, List, [], map, option_map, IfOk, OnOk, IfSome};
 ghost use Rattle.std.specs.List.{filter_map};
 ghost use Rattle.pks_terms.specs.Sets.{set_of};
 ghost use Rattle.pks_terms.specs.Orders.{term_cmp, literal_cmp, conj_cmp, atom_cmp};
@@ -11,7 +11,7 @@ ghost use Rattle.pks_kw.specs.Formulas.{formulas_of};
 ghost use Rattle.pks_kx.specs.Groups.{groups_of};
 ghost use Rattle.pks_lcw.specs.Entries.{atoms_of, entry_of, entries_of};
 ghost use Rattle.pks_normal.specs.Fives.{five_of};
-ghost use Rattle.pks_initial.specs.Starts.{starts_of};
+ghost use Rattle.pks_initial.specs.Starts.{starts_of, known_list, AreKnownLists};
 
 use pks_kf::Kf;
 use pks_kv::Kv;
@@ -124,39 +124,92 @@ fn atom_on(pred: PredId, l: &Literal) -> Option<PredAtom>
     }
 }
 
-/// The known atoms of the predicate.
-#[tactic(auto, using(crate::proofs::Carried::atom_inserted))]
-fn known_atoms(alloc: Global, kf: &Kf, pred: PredId) -> Result<AtomSet, AllocError>
-    ensures { IfOk result (λ set. atoms_of set ≡ set_of atom_cmp (filter_map (atom_on pred.0) (literals_of kf.now))) }
+/// The known atoms of the predicate in the order of the literals.
+fn atoms_on(alloc: Global, kf: &Kf, pred: PredId) -> Result<Vec<PredAtom>, AllocError>
+    ensures { IfOk result (λ v. atoms_of v.items ≡ filter_map (atom_on pred.0) (literals_of kf.now)) }
 {
-    let mut atoms = AtomSet::empty();
+    let mut atoms = Vec::new(alloc);
     for l in kf.items() {
         if let Some(a) = atom_on(pred, l) {
-            atoms = atoms.add(alloc, a)?;
+            atoms.push(a)?;
         }
     }
     Ok(atoms)
 }
 
-/// The region of the pattern, with the known atoms of its predicate.
-fn region(alloc: Global, kf: &Kf, pattern: &Pattern) -> Result<Entry, AllocError>
-    ensures { IfOk result (λ e. entry_of e ≡ initial_entry (literals_of kf.now) (pattern_of pattern.now)) }
+/// The set of the known atoms of the predicate.
+fn known_atoms(alloc: Global, kf: &Kf, pred: PredId) -> Result<AtomSet, AllocError>
+    ensures { IfOk result (λ set. atoms_of set ≡ known_list (literals_of kf.now) pred.0) }
 {
-    let list = known_atoms(alloc, kf, pattern.pred)?;
+    let atoms = atoms_on(alloc, kf, pred)?;
+    let set = AtomSet::of(alloc, atoms)?;
+    Ok(set)
+}
+
+/// The list that was made for the predicate, if one was.
+fn made<'a>(kf: &Kf, lists: &'a [(PredId, AtomSet)], pred: PredId) -> Option<&'a AtomSet>
+    requires { AreKnownLists (literals_of kf.now) lists.now }
+    ensures { IfSome result (λ set. atoms_of set.now ≡ known_list (literals_of kf.now) pred.0) }
+{
+    match lists {
+        [] => None,
+        [list, rest @ ..] => {
+            if list.0.0 == pred.0 {
+                Some(&list.1)
+            } else {
+                made(kf, rest, pred)
+            }
+        }
+    }
+}
+
+/// The set of the known atoms of the predicate. It is made once, and shared from then on.
+fn list(
+    alloc: Global,
+    kf: &Kf,
+    lists: &mut Vec<(PredId, AtomSet)>,
+    pred: PredId,
+) -> Result<AtomSet, AllocError>
+    requires { AreKnownLists (literals_of kf.now) lists.now.items }
+    ensures list { IfOk result (λ set. atoms_of set ≡ known_list (literals_of kf.now) pred.0) }
+    ensures lists { OnOk result (AreKnownLists (literals_of kf.now) lists.new.items) }
+{
+    if let Some(set) = made(kf, lists.as_slice(), pred) {
+        return set.share();
+    }
+    let set = known_atoms(alloc, kf, pred)?;
+    let same = set.share()?;
+    lists.push((pred, same))?;
+    Ok(set)
+}
+
+/// The region of the pattern, with the known atoms of its predicate.
+fn region(
+    alloc: Global,
+    kf: &Kf,
+    lists: &mut Vec<(PredId, AtomSet)>,
+    pattern: &Pattern,
+) -> Result<Entry, AllocError>
+    requires { AreKnownLists (literals_of kf.now) lists.now.items }
+    ensures region { IfOk result (λ e. entry_of e ≡ initial_entry (literals_of kf.now) (pattern_of pattern.now)) }
+    ensures lists { OnOk result (AreKnownLists (literals_of kf.now) lists.new.items) }
+{
+    let list = list(alloc, kf, lists, pattern.pred)?;
     Ok(Entry {
         pattern: *pattern,
         list,
     })
 }
 
-/// The closed regions in written order.
+/// The closed regions in written order. Those of one predicate share their list.
 fn region_items(alloc: Global, kf: &Kf, init: &[InitItem]) -> Result<Vec<Entry>, AllocError>
     ensures { IfOk result (λ items. entries_of items.items ≡ map (initial_entry (literals_of kf.now)) (filter_map region_start (starts_of init.now))) }
 {
+    let mut lists = Vec::new(alloc);
     let mut items = Vec::new(alloc);
     for item in init {
         if let Init::Lcw(pattern) = &item.start {
-            items.push(region(alloc, kf, pattern)?)?;
+            items.push(region(alloc, kf, &mut lists, pattern)?)?;
         }
     }
     Ok(items)

@@ -5,11 +5,12 @@ ghost use Rattle.std.specs.Iterator.{YieldsFirstRef, item_count};
 ghost use Rattle.std.specs.Ordering.{on};
 ghost use Rattle.pks_terms.specs.Orders.{atom_cmp};
 ghost use Rattle.pks_terms.specs.Views.{atom_of};
-ghost use Rattle.pks_terms.specs.Sets.{IsOrdered, insert_in};
+ghost use Rattle.pks_terms.specs.Sets.{IsOrdered, insert_in, added};
 ghost use Rattle.pks_pmap.specs.Keeping.{Keeps};
 ghost use Rattle.pks_set.specs.Members.{TakesEach, is_member};
 ghost use Rattle.pks_terms.specs.Placing.{count_below};
 
+use pks_set::set::SetOf;
 use pks_terms::literal::PredAtom;
 use std::alloc::{AllocError, Global};
 use std::cmp::Ordering;
@@ -75,6 +76,15 @@ impl AtomSet {
         Ok(AtomSet { slice: Some(slice) })
     }
 
+    /// The set of these atoms, which come in any order, equal ones as often as they come.
+    pub fn of(alloc: Global, atoms: Vec<PredAtom>) -> Result<AtomSet, AllocError>
+        ensures { IfOk result (λ set. set ≡ added (on atom_of atom_cmp) [] atoms.items) }
+    {
+        let set = SetOf::empty().added(alloc, atoms)?;
+        let listed = listed(alloc, &set)?;
+        Ok(listed)
+    }
+
     /// Lends the atoms in order. It takes no memory.
     pub fn as_slice(&self) -> &[PredAtom]
         ensures members { result.now ≡ self.now }
@@ -86,11 +96,11 @@ impl AtomSet {
         }
     }
 
-    /// Whether the atom is a member.
+    /// Whether the atom is a member. It is compared with as many as the logarithm of their number.
     pub fn has(&self, a: &PredAtom) -> bool
         ensures { result ≡ is_member (on atom_of atom_cmp) a.now self.now }
     {
-        self.as_slice().iter().any(|x| a.cmp(x) == Ordering::Equal)
+        self.as_slice().binary_search(a).is_ok()
     }
 
     /// How many atoms there are.
@@ -163,6 +173,19 @@ impl<'a> Iterator for AtomSetItems<'a> {
         self.rest = others;
         Some(first)
     }
+}
+
+/// The members of a set of atoms as one slice.
+fn listed(alloc: Global, set: &SetOf<PredAtom>) -> Result<AtomSet, AllocError>
+    ensures { IfOk result (λ atoms. atoms ≡ set.now) }
+{
+    let mut all = Vec::new(alloc);
+    for a in set.items() {
+        all.push(*a)?;
+    }
+    let _count = set.len();
+    let atoms = AtomSet::from_ordered(all)?;
+    Ok(atoms)
 }
 
 /// How many atoms at the front are below the atom.

@@ -1,11 +1,13 @@
 //! Entries: patterns with the atoms that are known to fit them.
 ghost use Rattle.std.specs.Prelude.{◌≡◌, ℕ, List, [], map, Some, refl, IfOk};
 ghost use Rattle.std.specs.Ordering.{on, eq_by_cmp};
+ghost use Rattle.std.specs.Cmp.Lexicographic.{slice_cmp};
 ghost use Rattle.std.specs.Cmp.{partial_equiv_from_equiv, partial_order_from_agreeing_total};
 ghost use Rattle.std.proofs.lemmas.Cmp.{on_total, eq_by_cmp_equiv};
+ghost use Rattle.pks_terms.specs.Orders.{atom_cmp};
 ghost use Rattle.pks_terms.specs.Databases.{entry_cmp};
 ghost use Rattle.pks_terms.specs.Totality.{entry_cmp_total};
-ghost use Rattle.pks_lcw.specs.Entries.{entry_of};
+ghost use Rattle.pks_lcw.specs.Entries.{atoms_of, entry_of};
 
 use crate::atoms::AtomSet;
 use pks_terms::literal::Pattern;
@@ -31,6 +33,13 @@ impl Entry {
             list,
         })
     }
+}
+
+/// The order of lists: atom by atom, a prefix first.
+fn cmp_lists(a: &AtomSet, b: &AtomSet) -> Ordering
+    ensures { result ≡ slice_cmp atom_cmp (atoms_of a.now) (atoms_of b.now) }
+{
+    a.as_slice().cmp(&b.as_slice())
 }
 
 impl PartialEq for Entry {
@@ -67,7 +76,9 @@ impl Ord for Entry {
     ghost matches_eq = { λ x y. refl };
 
     fn cmp(&self, other: &Entry) -> Ordering {
-        let lists = self.list.as_slice().cmp(&other.list.as_slice());
-        self.pattern.cmp(&other.pattern).then(lists)
+        match self.pattern.cmp(&other.pattern) {
+            Ordering::Equal => cmp_lists(&self.list, &other.list),
+            unequal => unequal,
+        }
     }
 }

@@ -77,11 +77,12 @@ fn slots_are_stable(s: &Signature, d: &Derived, es: Effects<'_>, slots: &[Option
 fn atoms_are_stable(s: &Signature, d: &Derived, es: Effects<'_>, atoms: &[PredAtom]) -> bool
     ensures { result ≡ are_stable (signature_of s.now) (five_of d.now) (effects_in es.entry) (flat_map (λ a. a.arguments) (atoms_of atoms.now)) }
 {
-    match atoms {
-        [] => true,
-        [a, atoms @ ..] => are_stable(s, d, es, front(&a.args, a.n))
-            && atoms_are_stable(s, d, es, atoms),
+    for a in atoms {
+        if !are_stable(s, d, es, front(&a.args, a.n)) {
+            return false;
+        }
     }
+    true
 }
 
 #[tactic(auto, using(crate::proofs::Lasting::all))]
