@@ -11,13 +11,10 @@ use Rattle.pks_terms.proofs.OrderLaws.{literal_cmp_tells}
 use Rattle.pks_terms.proofs.SetLaws.{ordered_added, in_added, added_in, same_members}
 use Rattle.pks_laws.proofs.Least.{in_left, in_right, within_append}
 use Rattle.pks_closing.specs.Rounds.{HaveSameMembers}
-use Rattle.pks_postdict.specs.Growing.{Completes}
+use Rattle.pks_step_rules.specs.News.{Completes}
 
 pub completes_members : (kf news all : List Literal) → HaveSameMembers news all → Completes kf news all
 completes_members kf news all h = record { sound = h.0; whole = λ l i. inr (h.1 l i) }
-
-pub completes_same : (kf news all : List Literal) → news ≡ all → Completes kf news all
-completes_same kf news all e = record { sound = λ l i. subst (IsIn l) e i; whole = λ l i. inr (subst (IsIn l) (sym e) i) }
 
 pub completes_none : (kf news all : List Literal) → news ≡ [] → Within all kf → Completes kf news all
 completes_none kf news all e w = record { sound = λ l i. absurd (subst (IsIn l) e i); whole = λ l i. inl (w l i) }

@@ -17,6 +17,8 @@ use Rattle.pks_laws.proofs.LeastFamily.{settled_least}
 use Rattle.pks_laws.proofs.SettledEnd.{rounds_have_start, end_closed}
 use Rattle.pks_postdict.specs.Ends.{IsLeastOver}
 use Rattle.pks_postdict.specs.Lasting.{IsLastFamily}
+use Rattle.pks_postdict.specs.Read.{IsReadBut}
+use Rattle.pks_postdict.proofs.SameSteps.{closed_read}
 
 -- the history g is the end of the rounds from h
 module _ (p : Problem) (h f g : History) (same : f ≡ h) (end : IsLastFamily p f g) where
@@ -50,6 +52,14 @@ module _ (p : Problem) (h f g : History) (same : f ≡ h) (end : IsLastFamily p 
     closed = end_closed p (settle_rounds p end.count h) (settles_at none).last (ap (clashes p.signature) (sym reached_from) ∙ none);
     least = λ big within closed. settled_least p inhabited end.count h big within closed;
   }
+
+  -- each step is read
+  pub read_settled : HasValues p.signature → clashes p.signature g ≡ false → (k : History) → k ≡ tidied_history g → IsReadBut p 0 k
+  unfolding settles_at settles_by
+  read_settled inhabited none k says =
+      let whole : History = settle_rounds p end.count h in
+      let closed = end_closed p whole (settles_at none).last (ap (clashes p.signature) (sym reached_from) ∙ none) in
+      subst (IsReadBut p 0) (sym (says ∙ ap tidied_history reached_from)) (closed_read p inhabited whole.start whole.steps closed)
 
 -- there are as many moments as before
 pub as_many : (p : Problem) (h f g : History) (d : Five) → f ≡ with_last h d → IsLastFamily p f g → length g.steps ≡ length h.steps

@@ -4,5 +4,6 @@ pub mod Sparing
 pub mod Rooms
 pub mod Reading
 pub mod Stepping
+pub mod SameSteps
 pub mod Ending
 pub mod Tidied

@@ -2,3 +2,4 @@ pub mod Ends
 pub mod Families
 pub mod Growing
 pub mod Lasting
+pub mod Read

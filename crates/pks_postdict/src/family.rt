@@ -1,13 +1,15 @@
 //! The moments of a history while it is settled.
-ghost use Rattle.std.specs.Prelude.{◌≡◌, ◌<◌, ◌≤◌, ◌-◌, ◌||◌, true, List, length, take, IfOk};
-ghost use Rattle.pks_terms.specs.Sets.{Each};
+ghost use Rattle.std.specs.Prelude.{◌≡◌, ◌<◌, ◌≤◌, ◌-◌, ◌||◌, List, length, take, IfOk};
+ghost use Rattle.pks_terms.specs.Signatures.{Signature as SSignature};
 ghost use Rattle.pks_terms.specs.Problems.{Problem as SProblem};
 ghost use Rattle.pks_terms.specs.Settling.{with_last};
 ghost use Rattle.pks_terms.specs.Valid.{IsValid};
 ghost use Rattle.pks_terms.specs.Moments.{IsMomentOf, AreMomentsOf};
 ghost use Rattle.pks_normal.specs.Fives.{five_of};
+ghost use Rattle.pks_postdict.specs.declared.family.Held.TheVariants as held_is;
 ghost use Rattle.pks_postdict.specs.Families.{held_of, links_of, family_of};
-ghost use Rattle.pks_postdict.specs.Growing.{AreSpared, is_unread, some_grew};
+ghost use Rattle.pks_postdict.specs.Growing.{AreMarked, AreSpared, IsFine, is_unread, some_grew};
+ghost use Rattle.pks_postdict.specs.Read.{IsReadBut};
 
 use pks_derived::derived::Derived;
 use pks_history::histories::History;
@@ -25,7 +27,8 @@ pub(crate) enum Held {
     Grown(Rc<Derived>),
 }
 
-/// A moment, and whether its databases grew in the last round.
+/// A moment, and whether its databases grew in the last round. Before the first round those count as grown from which a
+/// step goes out that is to be read.
 #[derive(Drop)]
 pub(crate) struct Place {
     pub(crate) held: Held,
@@ -59,7 +62,8 @@ impl Held {
 
     /// Equal databases, all of whose memory is shared.
     pub(crate) fn share(&self) -> Result<Held, AllocError>
-        ensures { IfOk result (λ same. held_of same ≡ held_of self.now) }
+        ensures says { IfOk result (λ same. held_of same ≡ held_of self.now) }
+        ensures fine { (s : SSignature) → IsFine s self.now → IfOk result (IsFine s) }
     {
         match self {
             Held::Closed(db) => {
@@ -87,44 +91,59 @@ impl Place {
 }
 
 /// A moment that no round has looked at.
-fn fresh(d: Db) -> Place
-    ensures held { held_of result.held ≡ five_of d }
-    ensures grew { result.grew ≡ true }
+fn fresh(d: Db, grew: bool) -> Place
+    ensures held { result.held ≡ held_is.Closed d }
+    ensures grew { result.grew ≡ grew }
 {
     Place {
         held: Held::Closed(d),
-        grew: true,
+        grew,
     }
 }
 
-/// The first so many later moments.
-fn links(alloc: Global, h: &History, count: u32) -> Result<Vec<Link>, AllocError>
-    requires { count ≤ length h.now.steps }
+/// The first so many later moments, of which the steps out of the last ones are to be read: those behind which `unread` or
+/// fewer steps follow.
+fn links(
+    alloc: Global,
+    h: &History,
+    count: u32,
+    last: u32,
+    unread: u32,
+) -> Result<Vec<Link>, AllocError>
+    requires last { last ≡ length h.now.steps }
+    requires count { count ≤ last }
     ensures links { IfOk result (λ v. links_of v.items ≡ take count h.now.steps) }
-    ensures fresh { IfOk result (λ v. Each (λ x. x.place.grew ≡ true) v.items) }
+    ensures marked { IfOk result (λ v. AreMarked unread (last - count) v.items) }
 {
     let mut all = Vec::new(alloc);
     for k in 0..count {
         let db = h.at(k + 1).share()?;
+        let behind = last - (k + 1);
         all.push(Link {
             step: *h.step(k),
-            place: fresh(db),
+            place: fresh(db, behind <= unread),
         })?;
     }
     Ok(all)
 }
 
 /// All later moments, the last one with these databases.
-fn later_links(alloc: Global, h: &History, last: u32, d: Db) -> Result<Vec<Link>, AllocError>
+fn later_links(
+    alloc: Global,
+    h: &History,
+    last: u32,
+    d: Db,
+    unread: u32,
+) -> Result<Vec<Link>, AllocError>
     requires later { 0 < last }
     requires last { last ≡ length h.now.steps }
     ensures links { IfOk result (λ v. links_of v.items ≡ (with_last h.now (five_of d)).steps) }
-    ensures fresh { IfOk result (λ v. Each (λ x. x.place.grew ≡ true) v.items) }
+    ensures marked { IfOk result (λ v. AreMarked unread 0 v.items) }
 {
-    let mut all = links(alloc, h, last - 1)?;
+    let mut all = links(alloc, h, last - 1, last, unread)?;
     all.push(Link {
         step: *h.step(last - 1),
-        place: fresh(d),
+        place: fresh(d, true),
     })?;
     Ok(all)
 }
@@ -140,22 +159,23 @@ fn some_grew(later: &[Link]) -> bool
 }
 
 impl Family {
-    /// The moments of the history, the last one with these databases. No round has looked at any.
-    pub(crate) fn of(alloc: Global, h: &History, d: Db) -> Result<Family, AllocError>
+    /// The moments of the history, the last one with these databases. No round has looked at any. Of the steps all but the
+    /// last `unread`, one or more, bring nothing new.
+    pub(crate) fn of(alloc: Global, h: &History, d: Db, unread: u32) -> Result<Family, AllocError>
         ensures moments { IfOk result (λ f. family_of f ≡ with_last h.now (five_of d)) }
-        ensures spared { (p : SProblem) → IsValid p → AreMomentsOf p h.now → IsMomentOf p.signature (five_of d) → IfOk result (λ f. AreSpared p f.start f.later.items) }
+        ensures spared { (p : SProblem) → IsValid p → AreMomentsOf p h.now → IsMomentOf p.signature (five_of d) → 1 ≤ unread → IsReadBut p unread h.now → IfOk result (λ f. AreSpared p f.start f.later.items) }
     {
         let last = h.len() - 1;
         if last == 0 {
             return Ok(Family {
-                start: fresh(d),
+                start: fresh(d, true),
                 later: Vec::new(alloc),
             });
         }
         let first = h.at(0).share()?;
-        let later = later_links(alloc, h, last, d)?;
+        let later = later_links(alloc, h, last, d, unread)?;
         Ok(Family {
-            start: fresh(first),
+            start: fresh(first, last <= unread),
             later,
         })
     }

@@ -5,4 +5,4 @@ mod family;
 mod round;
 pub mod settling;
 
-pub use settling::{Settled, settle};
+pub use settling::{Settled, settle, settle_after};

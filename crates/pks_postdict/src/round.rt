@@ -1,6 +1,7 @@
 //! Rounds over the moments of a history, and the last of them. `docs/RULES.md` has the rules on settling.
 ghost use Rattle.std.specs.Prelude.{◌≡◌, ◌≤◌, ◌<◌, true, false, List, [], ◌∷◌, ◌++◌, length, IfOk, OnOk};
 ghost use Rattle.pks_terms.specs.Sets.{added, IsOrdered};
+ghost use Rattle.pks_terms.specs.Signatures.{Signature as SSignature};
 ghost use Rattle.pks_terms.specs.Syntax.{Literal as SLiteral};
 ghost use Rattle.pks_terms.specs.Orders.{literal_cmp};
 ghost use Rattle.pks_terms.specs.Closure.{additions};
@@ -11,7 +12,8 @@ ghost use Rattle.pks_terms.specs.Views.{instance_of, problem_of, signature_of};
 ghost use Rattle.pks_kf.specs.Known.{literals_of};
 ghost use Rattle.pks_normal.specs.Fives.{five_of};
 ghost use Rattle.pks_postdict.specs.Families.{held_of, link_of, links_of, family_of};
-ghost use Rattle.pks_postdict.specs.Growing.{Completes, IsSparedAlone, IsSparedForward, AreSpared, IsGrowth, IsLinkGrowth, AreGrowths, is_unread};
+ghost use Rattle.pks_step_rules.specs.News.{Completes};
+ghost use Rattle.pks_postdict.specs.Growing.{IsSparedAlone, IsSparedForward, AreSpared, IsFine, IsGrowth, IsLinkGrowth, AreGrowths, is_unread};
 ghost use Rattle.pks_postdict.specs.Lasting.{IsLastFamily};
 
 use crate::family::{Family, Held, Link, Place};
@@ -19,7 +21,7 @@ use pks_closing::rounds::additions;
 use pks_derived::derived::Derived;
 use pks_kf::Kf;
 use pks_normal::five::Five;
-use pks_step_rules::steps::{backward, forward};
+use pks_step_rules::steps;
 use pks_terms::literal::Literal;
 use pks_terms::problem::{Problem, Signature};
 use std::alloc::{AllocError, Global};
@@ -52,7 +54,13 @@ fn forward_news(
     if !before.grew {
         return Ok(Vec::new(alloc));
     }
-    let all = forward(alloc, p, &link.step, before.held.derived())?;
+    let all = steps::forward_news(
+        alloc,
+        p,
+        &link.step,
+        before.held.derived(),
+        link.place.held.derived(),
+    )?;
     Ok(all)
 }
 
@@ -73,7 +81,7 @@ fn backward_news(
             if !place.grew && !link.place.grew {
                 return Ok(Vec::new(alloc));
             }
-            let all = backward(
+            let all = steps::backward_news(
                 alloc,
                 p,
                 &link.step,
@@ -89,6 +97,7 @@ fn backward_news(
 fn held(alloc: Global, five: Five) -> Result<Held, AllocError>
     ensures says { IfOk result (λ h. held_of h ≡ five_of five) }
     ensures unread { IfOk result (λ h. is_unread h true ≡ true) }
+    ensures fine { (s : SSignature) → IfOk result (IsFine s) }
 {
     let derived = Derived::of(alloc, five)?;
     let rc = Rc::new(alloc, derived)?;
@@ -213,7 +222,8 @@ pub(crate) fn last_family(
 ) -> Result<Family, AllocError>
     requires valid { IsValidProblem p.now }
     requires spared { AreSpared (problem_of p.now) family.start family.later.items }
-    ensures { IfOk result (λ last. IsLastFamily (problem_of p.now) (family_of family) (family_of last)) }
+    ensures last { IfOk result (λ last. IsLastFamily (problem_of p.now) (family_of family) (family_of last)) }
+    ensures spared { IfOk result (λ last. AreSpared (problem_of p.now) last.start last.later.items) }
 {
     let mut now = family;
     'rounds: loop {

@@ -13,12 +13,13 @@ ghost use Rattle.pks_terms.specs.Moments.{IsMomentOf, AreMomentsOf};
 ghost use Rattle.pks_normal.specs.Fives.{five_of};
 ghost use Rattle.pks_postdict.specs.Ends.{state_of, IfAt, IsAtWith, IsLeastOver};
 ghost use Rattle.pks_postdict.specs.Families.{held_of, links_of, family_of};
+ghost use Rattle.pks_postdict.specs.Growing.{IsFine};
+ghost use Rattle.pks_postdict.specs.Read.{IsReadBut};
 
 use crate::family::{Family, Held, Link};
 use crate::round::last_family;
 use pks_closing::closing::first_clash;
 use pks_closing::tidied::tidied;
-use pks_derived::derived::Derived;
 use pks_history::histories::History;
 use pks_query::databases::Db;
 use pks_terms::problem::{Problem, Signature};
@@ -33,22 +34,35 @@ pub enum Settled {
     Clash,
 }
 
+/// Whether the databases of a moment clash: not where they are as they were handed in.
+fn place_clashes(s: &Signature, held: &Held) -> bool
+    requires { IsFine (signature_of s.now) held.now }
+    ensures { result ≡ is_some (first_clash (signature_of s.now) (held_of held.now)) }
+{
+    match held {
+        Held::Closed(_) => false,
+        Held::Grown(derived) => first_clash(s, derived).is_some(),
+    }
+}
+
 /// Whether one of the later moments clashes.
 fn some_clashes(s: &Signature, later: &[Link]) -> bool
+    requires { Each (λ x. IsFine (signature_of s.now) x.place.held) later.now }
     ensures { result ≡ list_any (λ step. is_some (first_clash (signature_of s.now) step.1)) (links_of later.now) }
 {
     match later {
         [] => false,
-        [x, rest @ ..] => first_clash(s, x.place.held.derived()).is_some() || some_clashes(s, rest),
+        [x, rest @ ..] => place_clashes(s, &x.place.held) || some_clashes(s, rest),
     }
 }
 
 /// Whether some moment clashes.
 fn clashes(s: &Signature, family: &Family) -> bool
+    requires start { IsFine (signature_of s.now) family.now.start.held }
+    requires later { Each (λ x. IsFine (signature_of s.now) x.place.held) family.now.later.items }
     ensures { result ≡ clashes (signature_of s.now) (family_of family.now) }
 {
-    first_clash(s, family.start.held.derived()).is_some()
-        || some_clashes(s, family.later.as_slice())
+    place_clashes(s, &family.start.held) || some_clashes(s, family.later.as_slice())
 }
 
 /// The databases of a moment at the end of the rounds, in normal form. Those that did not grow are so already.
@@ -65,8 +79,8 @@ fn tidy(alloc: Global, s: &Signature, held: &Held) -> Result<Db, AllocError>
         }
         Held::Grown(derived) => {
             let five = derived.five().share()?;
-            let derived = Derived::of(alloc, five)?;
-            let derived = tidied(alloc, derived)?;
+            let same = derived.again(five)?;
+            let derived = tidied(alloc, same)?;
             let db = Db::of_closed(alloc, s, derived)?;
             Ok(db)
         }
@@ -110,6 +124,39 @@ fn whole(alloc: Global, s: &Signature, family: &Family) -> Result<History, Alloc
     Ok(all)
 }
 
+/// What `settle` gives, where it is known of all steps but the last `unread` that they bring nothing new: at each of these
+/// both moments know all that the rules between them give. So it is of a history that settling gave and to which so many
+/// steps were added, and of what is left of it without some first moments. Only what the other steps, the databases handed in
+/// and what comes of these bring is read. It asks besides what `settle` asks that this is so. Of what is settled it is so
+/// with `unread` 0. The error is want of memory.
+pub fn settle_after(
+    alloc: Global,
+    p: &Problem<'_>,
+    h: &History,
+    d: Db,
+    unread: u32,
+) -> Result<Settled, AllocError>
+    requires valid { IsValidProblem p.now }
+    requires moments { AreMomentsOf (problem_of p.now) h.now }
+    requires moment { IsMomentOf (problem_of p.now).signature (five_of d) }
+    requires read { IsReadBut (problem_of p.now) unread h.now }
+    ensures settles { IfOk result (λ x. Settles (problem_of p.now) (with_last h.now (five_of d)) (state_of x)) }
+    ensures moments { IfOk result (λ x. IfAt (AreMomentsOf (problem_of p.now)) (state_of x)) }
+    ensures keeps_truth { (w w' : World) → IsTrueHistory (problem_of p.now) w w' (with_last h.now (five_of d)) → IfOk result (λ x. IsAtWith (IsTrueHistory (problem_of p.now) w w') (state_of x)) }
+    ensures least { IfOk result (λ x. IfAt (IsLeastOver (problem_of p.now) (with_last h.now (five_of d))) (state_of x)) }
+    ensures read { IfOk result (λ x. IfAt (IsReadBut (problem_of p.now) 0) (state_of x)) }
+{
+    let _moments = h.len();
+    let late = if unread == 0 { 1 } else { unread };
+    let family = Family::of(alloc, h, d, late)?;
+    let last = last_family(alloc, p, family)?;
+    if clashes(&p.signature, &last) {
+        return Ok(Settled::Clash);
+    }
+    let all = whole(alloc, &p.signature, &last)?;
+    Ok(Settled::Whole(all))
+}
+
 /// The history settled with these databases at its last moment (`docs/RULES.md`, "Settling"): the known literals of every
 /// moment grow to the least family that the rules of closing and the rules between neighbouring moments add nothing to.
 /// `Clash` comes exactly where some moment of that family clashes. It asks for a valid problem and for closed databases of
@@ -124,12 +171,7 @@ pub fn settle(alloc: Global, p: &Problem<'_>, h: &History, d: Db) -> Result<Sett
     ensures keeps_truth { (w w' : World) → IsTrueHistory (problem_of p.now) w w' (with_last h.now (five_of d)) → IfOk result (λ x. IsAtWith (IsTrueHistory (problem_of p.now) w w') (state_of x)) }
     ensures least { IfOk result (λ x. IfAt (IsLeastOver (problem_of p.now) (with_last h.now (five_of d))) (state_of x)) }
 {
-    let _moments = h.len();
-    let family = Family::of(alloc, h, d)?;
-    let last = last_family(alloc, p, family)?;
-    if clashes(&p.signature, &last) {
-        return Ok(Settled::Clash);
-    }
-    let all = whole(alloc, &p.signature, &last)?;
-    Ok(Settled::Whole(all))
+    let moments = h.len();
+    let settled = settle_after(alloc, p, h, d, moments)?;
+    Ok(settled)
 }

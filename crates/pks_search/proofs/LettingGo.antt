@@ -1,21 +1,30 @@
 -- What is left of a history in place of the whole: the same trees are derived.
-use Rattle.std.proofs.Common.{◌≡◌, ℕ, Bool, true, false, Option, Some, None, refl, sym, ◌∙◌, arith, true≢false}
+use Rattle.std.proofs.Common.{◌≡◌, ℕ, Bool, true, false, List, [], ◌∷◌, Option, Some, None, refl, sym, ◌∙◌, subst, inl, inr, arith, true≢false}
 use Rattle.pks_terms.specs.declared.problem.Problem.{Problem as DProblem}
+use Rattle.pks_terms.specs.Databases.{Five}
+use Rattle.pks_terms.specs.Actions.{Instance}
 use Rattle.pks_terms.specs.Problems.{Problem}
 use Rattle.pks_terms.specs.Settling.{History, At}
 use Rattle.pks_terms.specs.Aims.{met}
 use Rattle.pks_terms.specs.Trees.{Tree, Goal}
 use Rattle.pks_terms.specs.Views.{problem_of}
-use Rattle.pks_settled_past.specs.Same.{HasSameTrees}
+use Rattle.pks_postdict.specs.Read.{AreRead, IsReadBut}
+use Rattle.pks_settled_past.specs.Same.{IsEndOf, HasSameTrees}
 use Rattle.pks_search.specs.Limits.{IsBestWithin}
 use Rattle.pks_search.specs.Ready.{IsReady}
 
+-- what is left of a history is read where the history is
+pub end_read : (p : Problem) (n : ℕ) (d : Five) (steps : List (Instance × Five)) (rest : History) → IsEndOf d steps rest → AreRead p n d steps → AreRead p n rest.start rest.steps
+end_read p n d [] rest e r = subst (IsReadBut p n) (sym e) tt
+end_read p n d (step ∷ steps) rest (inl e) r = subst (IsReadBut p n) (sym e) r
+end_read p n d (step ∷ steps) rest (inr e) r = end_read p n step.1 steps rest e r.1
+
 -- the search may go on from it
-pub rest_ready : (p : DProblem) (h rest : History) (n : ℕ) → HasSameTrees (problem_of p) h rest → IsReady p h n → IsReady p rest n
-rest_ready p h rest n same r =
+pub rest_ready : (p : DProblem) (h rest : History) (m n : ℕ) → HasSameTrees (problem_of p) h rest → IsReady p h m n → IsReady p rest m n
+rest_ready p h rest m n same r =
     let short = r.short in
     let left = same.short in
-    record { valid = r.valid; justified = r.justified; moments = same.moments; short = omega arith }
+    record { valid = r.valid; justified = r.justified; moments = same.moments; short = omega arith; few = r.few; read = end_read (problem_of p) m h.start h.steps rest same.end r.read }
 
 module _ (p : Problem) (h rest : History) (same : HasSameTrees p h rest) where
   -- the goal isn't met at it either

@@ -18,30 +18,42 @@ use Rattle.pks_terms.specs.Views.{problem_of}
 use Rattle.pks_terms.proofs.ListLaws.{each_of, in_appended, in_mapped, in_filtered}
 use Rattle.pks_terms.specs.Moments.{IsMomentOf, AreMomentsOf}
 use Rattle.pks_laws.proofs.SearchStates.{last_of_it, acts_of}
+use Rattle.pks_postdict.specs.Read.{AreRead, IsReadBut}
 use Rattle.pks_search.specs.Ready.{IsReady}
 use Rattle.pks_search.proofs.Lengths.{with_last_as_long, settles_as_long}
 
 -- ---- histories
 
-pub ready_last : (p : DProblem) (h : History) (n : ℕ) → IsReady p h n → IsMomentOf (problem_of p).signature (last_moment h)
-ready_last p h n r = last_of_it (problem_of p) r.valid.says h r.moments
+-- with one more step behind them the same steps are read, one more not being
+pub pushed_read : (p : Problem) (n : ℕ) (d : Five) (steps : List (Instance × Five)) (i : Instance) (e : Five) → AreRead p n d steps → AreRead p (n + 1) d (steps ++ (i, e) ∷ [])
+pushed_read p n d [] i e r = (λ h. absurd (omega (arith, h)), tt)
+pushed_read p n d (step ∷ steps) i e r =
+    let longer : length (steps ++ (i, e) ∷ []) ≡ length steps + 1 = length-append steps ((i, e) ∷ []) in
+    (λ h. r.0 (omega (arith, h, longer)), pushed_read p n step.1 steps i e r.1)
 
-pub ready_acted : (p : DProblem) (h : History) (n : ℕ) (i : Instance) (d : Five) → IsReady p h (n + 1) → IsIn i (instances (problem_of p) (last_moment h)) → Progress (problem_of p).signature (last_moment h) (schema_of (problem_of p) i.action) i (Next d) → IsReady p (pushed h i d) n
-ready_acted p h n i d r member progress =
+pub ready_last : (p : DProblem) (h : History) (m n : ℕ) → IsReady p h m n → IsMomentOf (problem_of p).signature (last_moment h)
+ready_last p h m n r = last_of_it (problem_of p) r.valid.says h r.moments
+
+pub ready_acted : (p : DProblem) (h : History) (m n : ℕ) (i : Instance) (d : Five) → IsReady p h m (n + 1) → IsIn i (instances (problem_of p) (last_moment h)) → Progress (problem_of p).signature (last_moment h) (schema_of (problem_of p) i.action) i (Next d) → IsReady p (pushed h i d) (m + 1) n
+ready_acted p h m n i d r member progress =
     let short = r.short in
+    let few = r.few in
     let longer : length (h.steps ++ (i, d) ∷ []) ≡ length h.steps + 1 = length-append h.steps ((i, d) ∷ []) in
     record {
       valid = r.valid;
       justified = r.justified;
       moments = acts_of (problem_of p) r.valid.says h (pushed h i d) i r.moments member (record { outcome = Next d; progress = progress; gives = refl });
       short = omega arith;
+      few = omega arith;
+      read = pushed_read (problem_of p) m h.start h.steps i d r.read;
     }
 
-pub ready_taken : (p : DProblem) (h g : History) (n : ℕ) (d : Five) → IsReady p h (n + 1) → Settles (problem_of p) (with_last h d) (At g) → AreMomentsOf (problem_of p) g → IsReady p g n
-ready_taken p h g n d r s moments =
+pub ready_taken : (p : DProblem) (h g : History) (m n : ℕ) (d : Five) → IsReady p h m (n + 1) → Settles (problem_of p) (with_last h d) (At g) → AreMomentsOf (problem_of p) g → IsReadBut (problem_of p) 0 g → IsReady p g 0 n
+ready_taken p h g m n d r s moments read =
     let short = r.short in
+    let few = r.few in
     let same : length g.steps ≡ length h.steps = settles_as_long (problem_of p) (with_last h d) g s ∙ with_last_as_long h d in
-    record { valid = r.valid; justified = r.justified; moments = moments; short = omega arith }
+    record { valid = r.valid; justified = r.justified; moments = moments; short = omega arith; few = omega arith; read = read }
 
 -- ---- choices
 

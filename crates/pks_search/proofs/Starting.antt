@@ -24,9 +24,9 @@ abbrev first_history : Five → History
 first_history d = record { start = d; steps = [] }
 
 -- the first history is one to search from
-pub start_ready : (p : DProblem) (d : Five) (h : History) (n : ℕ) → IsValidProblem p → unjustified (problem_of p) ≡ [] → Closes (problem_of p).signature (initial (problem_of p)) (Next d) → h ≡ first_history d → n ≤ 16 → IsReady p h n
+pub start_ready : (p : DProblem) (d : Five) (h : History) (n : ℕ) → IsValidProblem p → unjustified (problem_of p) ≡ [] → Closes (problem_of p).signature (initial (problem_of p)) (Next d) → h ≡ first_history d → n ≤ 16 → IsReady p h 0 n
 start_ready p d h n v u c e k =
-    subst (λ g. IsReady p g n) (sym e) (record { valid = v; justified = all_justified (problem_of p) u; moments = start_of (problem_of p) v.says d c; short = omega arith })
+    subst (λ g. IsReady p g 0 n) (sym e) (record { valid = v; justified = all_justified (problem_of p) u; moments = start_of (problem_of p) v.says d c; short = omega arith; few = omega arith; read = tt })
 
 -- the best tree there is the best plan
 pub start_best : (p : Problem) (d : Five) (h : History) (n m : ℕ) (o : Option Tree) → Closes p.signature (initial p) (Next d) → h ≡ first_history d → m ≡ n → IsBestAt p (At h) m o → IsBest p n o

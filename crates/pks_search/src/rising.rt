@@ -28,13 +28,13 @@ pub(crate) fn best_rising(
     limit: u32,
     failures: &mut Failures,
 ) -> Result<Option<Tree>, AllocError>
-    requires ready { IsReady p.now h.now full }
+    requires ready { IsReady p.now h.now 0 full }
     requires within { n ≤ full }
     requires limit { IsLimitAt (problem_of p.now) (At h.now) n full limit }
     requires right { AreRight (problem_of p.now) failures.now }
     ensures { IfOk result (λ o. IsBestAt (problem_of p.now) (At h.now) full (option_map tree_of o)) }
 {
-    let found = best_within(alloc, p, h, n, limit, failures)?;
+    let found = best_within(alloc, p, h, 0, n, limit, failures)?;
     if n == full {
         return Ok(found);
     }

@@ -24,7 +24,7 @@ use pks_failures::failures::Failures;
 use pks_history::histories::History;
 use pks_past::meeting::met;
 use pks_plan::{CaseChain, Tree, action_cost, cost};
-use pks_postdict::settling::{Settled, settle};
+use pks_postdict::settling::{Settled, settle_after};
 use pks_progress::progressing::progress;
 use pks_query::databases::Step;
 use pks_settled_past::cut;
@@ -36,17 +36,19 @@ use pks_terms::term::Term;
 use std::alloc::{AllocError, Global};
 
 /// The best tree that is derived at the history, no deeper than `n`, and costs at most `limit`; `None` where there is none.
-/// It asks for a history of the problem to which `n` more moments may be added. The error is want of memory.
+/// It asks for a history of the problem to which `n` more moments may be added, of whose steps all but the last `unread`
+/// bring nothing new. The error is want of memory.
 #[cycle(searching)]
 pub(crate) fn best_within(
     alloc: Global,
     p: &Problem<'_>,
     h: &History,
+    unread: u32,
     n: u32,
     limit: u32,
     failures: &mut Failures,
 ) -> Result<Option<Tree>, AllocError>
-    requires ready { IsReady p.now h.now n }
+    requires ready { IsReady p.now h.now unread n }
     requires right { AreRight (problem_of p.now) failures.now }
     ensures best { IfOk result (λ o. IsBestWithin (problem_of p.now) (At h.now) n limit (option_map tree_of o)) }
     ensures right { AreRight (problem_of p.now) failures.new }
@@ -57,7 +59,7 @@ pub(crate) fn best_within(
     if n == 0 || limit == 0 {
         return Ok(None);
     }
-    best_unmet(alloc, p, h, n, limit, failures)
+    best_unmet(alloc, p, h, unread, n, limit, failures)
 }
 
 /// The same where the goal isn't met: the settled past is let go of first, since without it the same trees are derived.
@@ -66,11 +68,12 @@ fn best_unmet(
     alloc: Global,
     p: &Problem<'_>,
     h: &History,
+    unread: u32,
     n: u32,
     limit: u32,
     failures: &mut Failures,
 ) -> Result<Option<Tree>, AllocError>
-    requires ready { IsReady p.now h.now n }
+    requires ready { IsReady p.now h.now unread n }
     requires unmet { met (problem_of p.now) h.now ≡ false }
     requires some { 1 ≤ n }
     requires right { AreRight (problem_of p.now) failures.now }
@@ -78,7 +81,7 @@ fn best_unmet(
     ensures right { AreRight (problem_of p.now) failures.new }
 {
     let rest = cut(alloc, p, h)?;
-    best_of_rest(alloc, p, &rest, n, limit, failures)
+    best_of_rest(alloc, p, &rest, unread, n, limit, failures)
 }
 
 /// The same at what is left of a history: a failure in the table tells that there is none, and what is found to fail is
@@ -88,11 +91,12 @@ fn best_of_rest(
     alloc: Global,
     p: &Problem<'_>,
     h: &History,
+    unread: u32,
     n: u32,
     limit: u32,
     failures: &mut Failures,
 ) -> Result<Option<Tree>, AllocError>
-    requires ready { IsReady p.now h.now n }
+    requires ready { IsReady p.now h.now unread n }
     requires unmet { met (problem_of p.now) h.now ≡ false }
     requires some { 1 ≤ n }
     requires right { AreRight (problem_of p.now) failures.now }
@@ -102,7 +106,7 @@ fn best_of_rest(
     if failures.tells(h, n, limit) {
         return Ok(None);
     }
-    match best_of_choices(alloc, p, h, n - 1, limit, failures)? {
+    match best_of_choices(alloc, p, h, unread, n - 1, limit, failures)? {
         Some(t) => Ok(Some(t)),
         None => {
             failures.note(h, n, limit);
@@ -118,11 +122,12 @@ fn best_of_choices(
     alloc: Global,
     p: &Problem<'_>,
     h: &History,
+    unread: u32,
     n: u32,
     limit: u32,
     failures: &mut Failures,
 ) -> Result<Option<Tree>, AllocError>
-    requires ready { IsReady p.now h.now (n + 1) }
+    requires ready { IsReady p.now h.now unread (n + 1) }
     requires unmet { met (problem_of p.now) h.now ≡ false }
     requires right { AreRight (problem_of p.now) failures.now }
     ensures best { IfOk result (λ o. IsBestWithin (problem_of p.now) (At h.now) (n + 1) limit (option_map tree_of o)) }
@@ -133,7 +138,7 @@ fn best_of_choices(
     let mut best = None;
     let mut below = limit;
     'each: while let Some(c) = walk.next(alloc, p, d)? {
-        if let Some(t) = best_by_choice(alloc, p, h, n, below, &c, failures)? {
+        if let Some(t) = best_by_choice(alloc, p, h, unread, n, below, &c, failures)? {
             below = cost(p, &t) - 1;
             best = Some(t);
         }
@@ -147,21 +152,22 @@ fn best_by_choice(
     alloc: Global,
     p: &Problem<'_>,
     h: &History,
+    unread: u32,
     n: u32,
     limit: u32,
     c: &Choice,
     failures: &mut Failures,
 ) -> Result<Option<Tree>, AllocError>
-    requires ready { IsReady p.now h.now (n + 1) }
+    requires ready { IsReady p.now h.now unread (n + 1) }
     requires chosen { IsIn (choice_of c.now) (choices (problem_of p.now) (last_moment h.now)) }
     requires right { AreRight (problem_of p.now) failures.now }
     ensures best { IfOk result (λ o. IsBestOf (problem_of p.now) (IsCheapBy (problem_of p.now) h.now (n + 1) limit (choice_of c.now)) (option_map tree_of o)) }
     ensures right { AreRight (problem_of p.now) failures.new }
 {
     match c {
-        Choice::Act(step) => best_by_action(alloc, p, h, n, limit, step, failures),
-        Choice::Branch(test) => best_by_branch(alloc, p, h, n, limit, test, failures),
-        Choice::Cases(term) => best_by_cases(alloc, p, h, n, limit, term, failures),
+        Choice::Act(step) => best_by_action(alloc, p, h, unread, n, limit, step, failures),
+        Choice::Branch(test) => best_by_branch(alloc, p, h, unread, n, limit, test, failures),
+        Choice::Cases(term) => best_by_cases(alloc, p, h, unread, n, limit, term, failures),
     }
 }
 
@@ -171,12 +177,13 @@ fn best_by_action(
     alloc: Global,
     p: &Problem<'_>,
     h: &History,
+    unread: u32,
     n: u32,
     limit: u32,
     step: &Instance,
     failures: &mut Failures,
 ) -> Result<Option<Tree>, AllocError>
-    requires ready { IsReady p.now h.now (n + 1) }
+    requires ready { IsReady p.now h.now unread (n + 1) }
     requires chosen { IsIn (instance_of step.now) (instances (problem_of p.now) (last_moment h.now)) }
     requires right { AreRight (problem_of p.now) failures.now }
     ensures best { IfOk result (λ o. IsBestOf (problem_of p.now) (IsCheapBy (problem_of p.now) h.now (n + 1) limit (Act (instance_of step.now))) (option_map tree_of o)) }
@@ -186,7 +193,7 @@ fn best_by_action(
     if limit < own {
         return Ok(None);
     }
-    let next = best_after(alloc, p, h, n, limit - own, step, failures)?;
+    let next = best_after(alloc, p, h, unread, n, limit - own, step, failures)?;
     act(alloc, *step, next)
 }
 
@@ -196,12 +203,13 @@ fn best_after(
     alloc: Global,
     p: &Problem<'_>,
     h: &History,
+    unread: u32,
     n: u32,
     limit: u32,
     step: &Instance,
     failures: &mut Failures,
 ) -> Result<Option<Tree>, AllocError>
-    requires ready { IsReady p.now h.now (n + 1) }
+    requires ready { IsReady p.now h.now unread (n + 1) }
     requires chosen { IsIn (instance_of step.now) (instances (problem_of p.now) (last_moment h.now)) }
     requires right { AreRight (problem_of p.now) failures.now }
     ensures best { IfOk result (λ o. IsBestAfter (problem_of p.now) h.now (instance_of step.now) n limit (option_map tree_of o)) }
@@ -211,7 +219,7 @@ fn best_after(
         Step::Clash(_) => Ok(Some(Tree::Impossible)),
         Step::Next(d) => {
             let longer = h.push(alloc, *step, d)?;
-            best_within(alloc, p, &longer, n, limit, failures)
+            best_within(alloc, p, &longer, unread + 1, n, limit, failures)
         }
     }
 }
@@ -222,12 +230,13 @@ fn best_by_branch(
     alloc: Global,
     p: &Problem<'_>,
     h: &History,
+    unread: u32,
     n: u32,
     limit: u32,
     test: &Conj,
     failures: &mut Failures,
 ) -> Result<Option<Tree>, AllocError>
-    requires ready { IsReady p.now h.now (n + 1) }
+    requires ready { IsReady p.now h.now unread (n + 1) }
     requires member { IsIn (conj_of test.now) (last_moment h.now).kw }
     requires undecided { is_undecided (problem_of p.now).signature (last_moment h.now) (conj_of test.now) ≡ true }
     requires right { AreRight (problem_of p.now) failures.now }
@@ -238,10 +247,10 @@ fn best_by_branch(
         return Ok(None);
     }
     let c = Choice::Branch(*test);
-    let Some(yes) = best_taking(alloc, p, h, n, limit - 1, &c, Side::True, failures)? else {
+    let Some(yes) = best_taking(alloc, p, h, unread, n, limit - 1, &c, Side::True, failures)? else {
         return Ok(None);
     };
-    let Some(no) = best_taking(alloc, p, h, n, limit - 1, &c, Side::False, failures)? else {
+    let Some(no) = best_taking(alloc, p, h, unread, n, limit - 1, &c, Side::False, failures)? else {
         return Ok(None);
     };
     let tree = branch(alloc, *test, yes, no)?;
@@ -254,12 +263,13 @@ fn best_by_cases(
     alloc: Global,
     p: &Problem<'_>,
     h: &History,
+    unread: u32,
     n: u32,
     limit: u32,
     term: &Term,
     failures: &mut Failures,
 ) -> Result<Option<Tree>, AllocError>
-    requires ready { IsReady p.now h.now (n + 1) }
+    requires ready { IsReady p.now h.now unread (n + 1) }
     requires member { IsIn (term_of term.now) (last_moment h.now).kv }
     requires splits { may_split (problem_of p.now).signature (last_moment h.now) (term_of term.now) ≡ true }
     requires right { AreRight (problem_of p.now) failures.now }
@@ -274,6 +284,7 @@ fn best_by_cases(
         alloc,
         p,
         h,
+        unread,
         n,
         limit - 1,
         term,
@@ -289,13 +300,14 @@ fn best_chain(
     alloc: Global,
     p: &Problem<'_>,
     h: &History,
+    unread: u32,
     n: u32,
     limit: u32,
     term: &Term,
     objects: &[ObjId],
     failures: &mut Failures,
 ) -> Result<Option<CaseChain>, AllocError>
-    requires ready { IsReady p.now h.now (n + 1) }
+    requires ready { IsReady p.now h.now unread (n + 1) }
     requires member { IsIn (term_of term.now) (last_moment h.now).kv }
     requires sides { Each (λ e. IsIn e (range_of (problem_of p.now).signature (term_of term.now))) (map object_of objects.now) }
     requires few { length objects.now ≤ 16 }
@@ -307,10 +319,21 @@ fn best_chain(
         return Ok(Some(CaseChain::Empty));
     };
     let c = Choice::Cases(*term);
-    let Some(tree) = best_taking(alloc, p, h, n, limit, &c, Side::Is(*object), failures)? else {
+    let Some(tree) = best_taking(
+        alloc,
+        p,
+        h,
+        unread,
+        n,
+        limit,
+        &c,
+        Side::Is(*object),
+        failures,
+    )?
+    else {
         return Ok(None);
     };
-    let Some(rest) = best_chain(alloc, p, h, n, limit, term, others, failures)? else {
+    let Some(rest) = best_chain(alloc, p, h, unread, n, limit, term, others, failures)? else {
         return Ok(None);
     };
     let rest = Box::new(alloc, rest)?;
@@ -327,13 +350,14 @@ fn best_taking(
     alloc: Global,
     p: &Problem<'_>,
     h: &History,
+    unread: u32,
     n: u32,
     limit: u32,
     c: &Choice,
     side: Side,
     failures: &mut Failures,
 ) -> Result<Option<Tree>, AllocError>
-    requires ready { IsReady p.now h.now (n + 1) }
+    requires ready { IsReady p.now h.now unread (n + 1) }
     requires member { IsMember (last_moment h.now) (choice_of c.now) }
     requires side { IsSideOf (problem_of p.now).signature (choice_of c.now) (side_of side) }
     requires right { AreRight (problem_of p.now) failures.now }
@@ -342,9 +366,9 @@ fn best_taking(
 {
     match assume(alloc, p, h.last(), c, side)? {
         Step::Clash(_) => Ok(Some(Tree::Impossible)),
-        Step::Next(d) => match settle(alloc, p, h, d)? {
+        Step::Next(d) => match settle_after(alloc, p, h, d, unread)? {
             Settled::Clash => Ok(Some(Tree::Impossible)),
-            Settled::Whole(settled) => best_within(alloc, p, &settled, n, limit, failures),
+            Settled::Whole(settled) => best_within(alloc, p, &settled, 0, n, limit, failures),
         },
     }
 }

@@ -6,7 +6,7 @@ ghost use Rattle.pks_terms.specs.ValidProblems.{IsValidProblem};
 ghost use Rattle.pks_terms.specs.Versions.{IsNow};
 ghost use Rattle.pks_terms.specs.Views.{aim_of, problem_of};
 ghost use Rattle.pks_cut.specs.Transparent.{AreSetsAlong};
-ghost use Rattle.pks_settled_past.specs.Same.{HasSameTrees, first_hides_nothing};
+ghost use Rattle.pks_settled_past.specs.Same.{HasSameTrees, first_hides_nothing, without_settled};
 
 use crate::hiding::hides_nothing;
 use pks_history::histories::History;
@@ -52,7 +52,8 @@ fn without_settled(alloc: Global, p: &Problem<'_>, h: History) -> Result<History
     requires plain { Each IsNow (problem_of p.now).goal }
     requires moments { AreMomentsOf (problem_of p.now) h }
     requires sets { AreSetsAlong h }
-    ensures { IfOk result (λ rest. HasSameTrees (problem_of p.now) h rest) }
+    ensures trees { IfOk result (λ rest. HasSameTrees (problem_of p.now) h rest) }
+    ensures exact { IfOk result (λ rest. rest ≡ without_settled (problem_of p.now) h) }
 {
     if !first_hides_nothing(alloc, p, &h)? {
         return Ok(h);
@@ -63,12 +64,14 @@ fn without_settled(alloc: Global, p: &Problem<'_>, h: History) -> Result<History
 }
 
 /// The history without its settled past: where each aim is one of the last moment it lets go of the first moment as long as
-/// the step from there hides nothing. The same trees are derived from what is left. It asks for a valid problem and for
-/// moments of it. The error is want of memory.
+/// the step from there hides nothing, and no longer. The same trees are derived from what is left. It asks for a valid problem
+/// and for moments of it. The error is want of memory.
 pub fn cut(alloc: Global, p: &Problem<'_>, h: &History) -> Result<History, AllocError>
     requires valid { IsValidProblem p.now }
     requires moments { AreMomentsOf (problem_of p.now) h.now }
-    ensures { IfOk result (λ rest. HasSameTrees (problem_of p.now) h.now rest) }
+    ensures trees { IfOk result (λ rest. HasSameTrees (problem_of p.now) h.now rest) }
+    ensures exact { Each IsNow (problem_of p.now).goal → IfOk result (λ rest. rest ≡ without_settled (problem_of p.now) h.now) }
+    ensures whole { (Each IsNow (problem_of p.now).goal → ⊥) → IfOk result (λ rest. rest ≡ h.now) }
 {
     in_order(h);
     let whole = h.share()?;

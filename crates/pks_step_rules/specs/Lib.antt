@@ -1,3 +1,4 @@
 pub mod Changes
 pub mod Choosing
 pub mod Targets
+pub mod News

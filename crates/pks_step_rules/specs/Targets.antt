@@ -55,6 +55,10 @@ others_after done xs = map (λ p. (p.0, done ++ p.1)) (with_others xs)
 abbrev pub given_forward : Signature → List Effect → Five → List Literal
 given_forward s es before = lasting s es before ++ flat_map (fired s es before) (with_later es)
 
+-- what follows of the conditions of the effects
+abbrev pub given_by_conditions : Signature → List Effect → Five → Five → List Literal
+given_by_conditions s es before after = flat_map (must_have_fired s es before after) (with_others es) ++ flat_map (cannot_have_fired s es before after) (with_later es)
+
 -- what must have been there, and what follows of the conditions of the effects
 abbrev pub given_backward : Signature → List Effect → Five → Five → List Literal
-given_backward s es before after = lasted s es before after ++ (flat_map (must_have_fired s es before after) (with_others es) ++ flat_map (cannot_have_fired s es before after) (with_later es))
+given_backward s es before after = lasted s es before after ++ given_by_conditions s es before after

@@ -1,5 +1,5 @@
 //! What a moment gives the next one, and what it gets from it. `docs/RULES.md` has the rules on settling.
-ghost use Rattle.std.specs.Prelude.{◌≡◌, map, IfOk};
+ghost use Rattle.std.specs.Prelude.{◌≡◌, ◌++◌, map, IfOk, OnOk};
 ghost use Rattle.pks_terms.specs.Problems.{schema_of};
 ghost use Rattle.pks_terms.specs.Settling.{forward, backward, effects_of};
 ghost use Rattle.pks_terms.specs.ValidProblems.{IsValidProblem};
@@ -7,11 +7,12 @@ ghost use Rattle.pks_terms.specs.Views.{effect_of, instance_of, problem_of, sign
 ghost use Rattle.pks_kf.specs.Known.{literals_of};
 ghost use Rattle.pks_normal.specs.Fives.{five_of};
 ghost use Rattle.pks_step_rules.specs.Changes.{signature_in, before_in, effects_by};
-ghost use Rattle.pks_step_rules.specs.Targets.{ArePlaced, given_forward, given_backward};
+ghost use Rattle.pks_step_rules.specs.News.{Completes};
+ghost use Rattle.pks_step_rules.specs.Targets.{ArePlaced, given_forward, given_by_conditions, given_backward};
 
 use crate::change::Change;
 use crate::firing::{put_all_cannot_have_fired, put_all_fired, put_all_must_have_fired};
-use crate::lasting::{put_lasted, put_lasting};
+use crate::lasting::{put_lasted, put_lasted_news, put_lasting, put_lasting_news};
 use pks_derived::derived::Derived;
 use pks_spoiling::effects::Effects;
 use pks_terms::ids::ActId;
@@ -62,6 +63,38 @@ pub(crate) fn forward_by(alloc: Global, change: &Change<'_>) -> Result<Vec<Liter
     Ok(news)
 }
 
+/// The same without the literals that last and are known afterwards. The error is want of memory.
+pub(crate) fn forward_news_by(
+    alloc: Global,
+    change: &Change<'_>,
+    after: &Derived,
+) -> Result<Vec<Literal>, AllocError>
+    requires { ArePlaced change.now.effects.written.now }
+    ensures { IfOk result (λ v. Completes (five_of after.now).kf (literals_of v.items) (given_forward (signature_in change.now) (effects_by change.now) (before_in change.now))) }
+{
+    let mut news = Vec::new(alloc);
+    put_lasting_news(&mut news, change, after)?;
+    put_all_fired(alloc, &mut news, change, change.effects.written)?;
+    Ok(news)
+}
+
+/// Puts the conditions of effects that must have fired, and the negations of conditions of effects that cannot have fired,
+/// after the others.
+fn put_conditions(
+    alloc: Global,
+    to: &mut Vec<Literal>,
+    change: &Change<'_>,
+    after: &Derived,
+) -> Result<(), AllocError>
+    requires { ArePlaced change.now.effects.written.now }
+    ensures { OnOk result (literals_of to.new.items ≡ literals_of to.old.items ++ given_by_conditions (signature_in change.now) (effects_by change.now) (before_in change.now) (five_of after.now)) }
+{
+    let written = change.effects.written;
+    put_all_must_have_fired(alloc, to, change, after, written)?;
+    put_all_cannot_have_fired(alloc, to, change, after, written)?;
+    Ok(())
+}
+
 /// The literals that must have been there, the conditions of effects that must have fired, and the negations of conditions of
 /// effects that cannot have fired. The error is want of memory.
 pub(crate) fn backward_by(
@@ -72,11 +105,24 @@ pub(crate) fn backward_by(
     requires { ArePlaced change.now.effects.written.now }
     ensures { IfOk result (λ v. literals_of v.items ≡ given_backward (signature_in change.now) (effects_by change.now) (before_in change.now) (five_of after.now)) }
 {
-    let written = change.effects.written;
     let mut news = Vec::new(alloc);
     put_lasted(&mut news, change, after)?;
-    put_all_must_have_fired(alloc, &mut news, change, after, written)?;
-    put_all_cannot_have_fired(alloc, &mut news, change, after, written)?;
+    put_conditions(alloc, &mut news, change, after)?;
+    Ok(news)
+}
+
+/// The same without the literals that must have been there and are known before. The error is want of memory.
+pub(crate) fn backward_news_by(
+    alloc: Global,
+    change: &Change<'_>,
+    after: &Derived,
+) -> Result<Vec<Literal>, AllocError>
+    requires { ArePlaced change.now.effects.written.now }
+    ensures { IfOk result (λ v. Completes (before_in change.now).kf (literals_of v.items) (given_backward (signature_in change.now) (effects_by change.now) (before_in change.now) (five_of after.now))) }
+{
+    let mut news = Vec::new(alloc);
+    put_lasted_news(&mut news, change, after)?;
+    put_conditions(alloc, &mut news, change, after)?;
     Ok(news)
 }
 
@@ -109,5 +155,37 @@ pub fn backward(
     ensures { IfOk result (λ v. literals_of v.items ≡ backward (problem_of p.now) (instance_of i.now) (five_of before.now) (five_of after.now)) }
 {
     let news = backward_by(alloc, &change_of(p, i, before), after)?;
+    Ok(news)
+}
+
+/// What `forward` gives but for the literals that last and are known afterwards. It asks for a valid problem. The error is
+/// want of memory.
+pub fn forward_news(
+    alloc: Global,
+    p: &Problem<'_>,
+    i: &Instance,
+    before: &Derived,
+    after: &Derived,
+) -> Result<Vec<Literal>, AllocError>
+    requires { IsValidProblem p.now }
+    ensures { IfOk result (λ v. Completes (five_of after.now).kf (literals_of v.items) (forward (problem_of p.now) (instance_of i.now) (five_of before.now))) }
+{
+    let news = forward_news_by(alloc, &change_of(p, i, before), after)?;
+    Ok(news)
+}
+
+/// What `backward` gives but for the literals that must have been there and are known before. It asks for a valid problem.
+/// The error is want of memory.
+pub fn backward_news(
+    alloc: Global,
+    p: &Problem<'_>,
+    i: &Instance,
+    before: &Derived,
+    after: &Derived,
+) -> Result<Vec<Literal>, AllocError>
+    requires { IsValidProblem p.now }
+    ensures { IfOk result (λ v. Completes (five_of before.now).kf (literals_of v.items) (backward (problem_of p.now) (instance_of i.now) (five_of before.now) (five_of after.now))) }
+{
+    let news = backward_news_by(alloc, &change_of(p, i, before), after)?;
     Ok(news)
 }

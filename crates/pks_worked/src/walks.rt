@@ -10,7 +10,7 @@ ghost use Rattle.pks_terms.specs.Moments.{AreMomentsOf, IsMomentOf};
 ghost use Rattle.pks_laws.specs.OfSignature.{IsSideOf};
 ghost use Rattle.pks_normal.specs.Fives.{five_of};
 ghost use Rattle.pks_branch.specs.ChoiceViews.{choice_of, side_of};
-ghost use Rattle.pks_search.specs.Ready.{IsReady};
+ghost use Rattle.pks_worked.specs.Walks.{MayGoOn};
 
 use crate::domains::Domain;
 use pks_bench::generate;
@@ -107,7 +107,7 @@ fn chosen<'c>(
 
 /// The history longer by an action.
 fn acted(alloc: Global, p: &Problem<'_>, h: &History, wanted: &str) -> Result<History, Fail>
-    requires ready { IsReady p.now h.now 1 }
+    requires ready { MayGoOn p.now h.now 1 }
     ensures moments { IfOk result (λ g. AreMomentsOf (problem_of p.now) g) }
     ensures longer { IfOk result (λ g. length g.steps ≡ length h.now.steps + 1) }
 {
@@ -124,7 +124,7 @@ fn acted(alloc: Global, p: &Problem<'_>, h: &History, wanted: &str) -> Result<Hi
 
 /// The history longer by these actions.
 fn longer(alloc: Global, p: &Problem<'_>, h: History, actions: &[&str]) -> Result<History, Fail>
-    requires ready { IsReady p.now h (length actions.now) }
+    requires ready { MayGoOn p.now h (length actions.now) }
     ensures moments { IfOk result (λ g. AreMomentsOf (problem_of p.now) g) }
 {
     match actions {

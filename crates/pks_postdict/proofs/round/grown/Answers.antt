@@ -11,13 +11,14 @@ returns-then-len-clause-known c =
     let d = held_of c.args.place.now.held in
     let lent : five_of five ≡ d = ap five_of c.five-five.ensures ∙ c.derived.ensures in
     let count : length c.in_ok-kf.kf ≡ length five.kf = sym c.len.ensures.count ∙ c.if-len.true ∙ c.len-2.ensures.count in
-    c.in_ok-held.ensures ∙ same_added five d lent c.in_ok-kf.kf c.args.news.items c.in_ok-kf.ensures count
+    c.in_ok-held.ensures.says ∙ same_added five d lent c.in_ok-kf.kf c.args.news.items c.in_ok-kf.ensures count
 
 pub returns-then-len-clause-growth : goal.returns-then-len-clause-growth
 returns-then-len-clause-growth c = record {
   longer = λ h. absurd (true≢false (sym h));
-  same = λ h. c.in_ok-held.ensures;
+  same = λ h. c.in_ok-held.ensures.says;
   read = still_read c.in_ok-held.held;
+  fine = λ s f. c.in_ok-held.ensures.fine s f;
 }
 
 pub returns-then-len-clause-ordered : goal.returns-then-len-clause-ordered
@@ -46,6 +47,7 @@ returns-clause-growth c =
       longer = λ h. longer_added five d lent c.in_ok-kf.kf c.args.news.items c.in_ok-kf.ensures (held_of c.in_ok-held-2.held) whole other fits;
       same = λ h. absurd (true≢false h);
       read = c.in_ok-held-2.ensures.unread;
+      fine = λ s f. c.in_ok-held-2.ensures.fine s;
     }
 
 pub returns-clause-ordered : goal.returns-clause-ordered

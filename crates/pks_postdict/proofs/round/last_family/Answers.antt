@@ -6,8 +6,8 @@ use Rattle.pks_postdict.proofs.Sparing.{spared_after}
 use Rattle.pks_postdict.proofs.Rooms.{family_smaller, family_same}
 use Rattle.pks_postdict.proofs.round.last_family.Goals as goal
 
-pub returns-then-not-grew : goal.returns-then-not-grew
-returns-then-not-grew c =
+pub returns-then-not-grew-clause-last : goal.returns-then-not-grew-clause-last
+returns-then-not-grew-clause-last c =
     let none : c.in_ok-next.next.start.grew || some_grew c.in_ok-next.next.later.items ≡ false = cc (c.grew.ensures) in
     let next = c.in_ok-next.ensures in
     record {
@@ -29,5 +29,5 @@ rounds-preserved c =
     record {
       count = suc c.rounds.invariant.count;
       reached = next.round ∙ ap (settle_round p) c.rounds.invariant.reached;
-      spared = spared_after p c.rounds.now c.in_ok-next.next next.round next.start next.later;
+      spared = spared_after p c.rounds.now c.in_ok-next.next c.rounds.invariant.spared next.round next.start next.later;
     }

@@ -12,7 +12,7 @@ use Rattle.pks_postdict.proofs.round.own_news.Goals as goal
 pub returns-then-not-is_unread : goal.returns-then-not-is_unread
 returns-then-not-is_unread c =
     let still : is_unread c.args.place.now.held c.args.place.now.grew ≡ false = cc (c.is_unread.ensures) in
-    completes_none _ _ (additions (signature_of c.args.s.now) (held_of c.args.place.now.held)) (ap literals_of c.new.ensures.items) (c.requires.spared still)
+    completes_none _ _ (additions (signature_of c.args.s.now) (held_of c.args.place.now.held)) (ap literals_of c.new.ensures.items) (c.requires.spared.0 still)
 
 pub returns : goal.returns
 returns c =

@@ -12,6 +12,7 @@ use Rattle.pks_terms.specs.Moments.{IsMomentOf, AreMomentsOf}
 use Rattle.pks_normal.specs.Fives.{five_of}
 use Rattle.pks_query.specs.Steps.{outcome_of}
 use Rattle.pks_postdict.specs.Ends.{state_of, IfAt}
+use Rattle.pks_postdict.specs.Read.{IsReadBut}
 use Rattle.pks_plan.specs.TreeViews.{tree_of, chain_of}
 use Rattle.pks_branch.specs.ChoiceOrder.{choice_cmp}
 use Rattle.pks_branch.specs.ChoiceViews.{choice_of, side_of, left_in}
@@ -33,7 +34,7 @@ use Rattle.pks_search.proofs.within.+searching.Goals.{best_within-then-n-eq0-via
 -- ---- after an action
 
 pub best_after-progress-requires-clause-moment : goal.best_after-progress-requires-clause-moment
-best_after-progress-requires-clause-moment t c = subst (IsMomentOf (problem_of c.args.p.now).signature) (sym c.last.ensures) (ready_last c.args.p.now c.args.h.now (c.args.n + 1) c.requires.ready)
+best_after-progress-requires-clause-moment t c = subst (IsMomentOf (problem_of c.args.p.now).signature) (sym c.last.ensures) (ready_last c.args.p.now c.args.h.now c.args.unread (c.args.n + 1) c.requires.ready)
 
 pub best_after-returns-in-Clash-clause-best : goal.best_after-returns-in-Clash-clause-best
 best_after-returns-in-Clash-clause-best t c =
@@ -45,7 +46,7 @@ best_after-best_within-requires t c =
     let less : c.args.n * 32 + 2 < t = omega (arith, c.decreases) in
     let i = instance_of c.args.step.now in
     let progress = acted p c.args.h.now i (five_of c.last.result.now) (five_of c.in-Next.d) (outcome_of c.in_ok-progress.field-0) c.last.ensures (ap outcome_of c.in-Next.is) c.in_ok-progress.ensures.progress in
-    (less, (subst (λ g. IsReady c.args.p.now g c.args.n) (sym c.in_ok-longer-in-Next.ensures) (ready_acted c.args.p.now c.args.h.now c.args.n i (five_of c.in-Next.d) c.requires.ready c.requires.chosen progress), c.requires.right))
+    (less, (subst (λ g. IsReady c.args.p.now g (c.args.unread + 1) c.args.n) (sym c.in_ok-longer-in-Next.ensures) (ready_acted c.args.p.now c.args.h.now c.args.unread c.args.n i (five_of c.in-Next.d) c.requires.ready c.requires.chosen progress), c.requires.right))
 
 pub best_after-returns-in_ok-longer-in-Next-clause-best : goal.best_after-returns-in_ok-longer-in-Next-clause-best
 best_after-returns-in_ok-longer-in-Next-clause-best t c =
@@ -261,15 +262,16 @@ best_of_choices-returns-clause-best t c =
 -- ---- sides
 
 pub best_taking-assume-requires-clause-moment : goal.best_taking-assume-requires-clause-moment
-best_taking-assume-requires-clause-moment t c = subst (IsMomentOf (problem_of c.args.p.now).signature) (sym c.last.ensures) (ready_last c.args.p.now c.args.h.now (c.args.n + 1) c.requires.ready)
+best_taking-assume-requires-clause-moment t c = subst (IsMomentOf (problem_of c.args.p.now).signature) (sym c.last.ensures) (ready_last c.args.p.now c.args.h.now c.args.unread (c.args.n + 1) c.requires.ready)
 
 pub best_taking-best_within-requires : goal.best_taking-best_within-requires
 best_taking-best_within-requires t c =
     let p = problem_of c.args.p.now in
     let less : c.args.n * 32 + 2 < t = omega (arith, c.decreases) in
-    let settles = subst (λ x. Settles p (with_last c.args.h.now (five_of c.in-Next.d)) (state_of x)) c.in-Whole.is c.in_ok-settle-in-Next.ensures.settles in
-    let moments = subst (λ x. IfAt (AreMomentsOf p) (state_of x)) c.in-Whole.is c.in_ok-settle-in-Next.ensures.moments in
-    (less, (ready_taken c.args.p.now c.args.h.now c.in-Whole.settled c.args.n (five_of c.in-Next.d) c.requires.ready settles moments, c.requires.right))
+    let settles = subst (λ x. Settles p (with_last c.args.h.now (five_of c.in-Next.d)) (state_of x)) c.in-Whole.is c.in_ok-settle_after-in-Next.ensures.settles in
+    let moments = subst (λ x. IfAt (AreMomentsOf p) (state_of x)) c.in-Whole.is c.in_ok-settle_after-in-Next.ensures.moments in
+    let read = subst (λ x. IfAt (IsReadBut p 0) (state_of x)) c.in-Whole.is c.in_ok-settle_after-in-Next.ensures.read in
+    (less, (ready_taken c.args.p.now c.args.h.now c.in-Whole.settled c.args.unread c.args.n (five_of c.in-Next.d) c.requires.ready settles moments read, c.requires.right))
 
 pub best_taking-returns-in-Clash-clause-best : goal.best_taking-returns-in-Clash-clause-best
 best_taking-returns-in-Clash-clause-best t c =
@@ -278,8 +280,8 @@ best_taking-returns-in-Clash-clause-best t c =
 pub best_taking-returns-in-Clash-2-clause-best : goal.best_taking-returns-in-Clash-2-clause-best
 best_taking-returns-in-Clash-2-clause-best t c =
     let p = problem_of c.args.p.now in
-    taking_next p c.args.h.now c.args.n c.args.limit (choice_of c.args.c.now) (side_of c.args.side) (five_of c.last.result.now) (five_of c.in-Next.d) (outcome_of c.in_ok-assume.field-0) (state_of c.in_ok-settle-in-Next.field-0) Stopped (Some Impossible)
-    c.last.ensures (ap outcome_of c.in-Next.is) c.in_ok-assume.ensures.assumes c.in_ok-settle-in-Next.ensures.settles (ap state_of c.in-Clash-2.is) (cheap_stopped p c.args.n c.args.limit)
+    taking_next p c.args.h.now c.args.n c.args.limit (choice_of c.args.c.now) (side_of c.args.side) (five_of c.last.result.now) (five_of c.in-Next.d) (outcome_of c.in_ok-assume.field-0) (state_of c.in_ok-settle_after-in-Next.field-0) Stopped (Some Impossible)
+    c.last.ensures (ap outcome_of c.in-Next.is) c.in_ok-assume.ensures.assumes c.in_ok-settle_after-in-Next.ensures.settles (ap state_of c.in-Clash-2.is) (cheap_stopped p c.args.n c.args.limit)
 
 pub best_taking-returns-in-Whole-clause-best : goal.best_taking-returns-in-Whole-clause-best
 best_taking-returns-in-Whole-clause-best t c =
@@ -287,8 +289,8 @@ best_taking-returns-in-Whole-clause-best t c =
     let choice = choice_of c.args.c.now in
     let side = side_of c.args.side in
     IfOk-weaker c.best_within.result (λ o. IsBestWithin p (At c.in-Whole.settled) c.args.n c.args.limit (option_map tree_of o)) (λ o. IsBestTaking p c.args.h.now choice side c.args.n c.args.limit (option_map tree_of o))
-    (λ o b. taking_next p c.args.h.now c.args.n c.args.limit choice side (five_of c.last.result.now) (five_of c.in-Next.d) (outcome_of c.in_ok-assume.field-0) (state_of c.in_ok-settle-in-Next.field-0) (At c.in-Whole.settled) (option_map tree_of o)
-    c.last.ensures (ap outcome_of c.in-Next.is) c.in_ok-assume.ensures.assumes c.in_ok-settle-in-Next.ensures.settles (ap state_of c.in-Whole.is) b)
+    (λ o b. taking_next p c.args.h.now c.args.n c.args.limit choice side (five_of c.last.result.now) (five_of c.in-Next.d) (outcome_of c.in_ok-assume.field-0) (state_of c.in_ok-settle_after-in-Next.field-0) (At c.in-Whole.settled) (option_map tree_of o)
+    c.last.ensures (ap outcome_of c.in-Next.is) c.in_ok-assume.ensures.assumes c.in_ok-settle_after-in-Next.ensures.settles (ap state_of c.in-Whole.is) b)
     c.best_within.ensures.best
 
 -- ---- at a history
@@ -309,13 +311,13 @@ pub best_unmet-best_of_rest-requires : goal.best_unmet-best_of_rest-requires
 best_unmet-best_of_rest-requires t c =
     let p = problem_of c.args.p.now in
     let less : c.args.n * 32 < t = omega (arith, c.decreases) in
-    let same : HasSameTrees p c.args.h.now c.in_ok-rest.rest = c.in_ok-rest.ensures in
-    (less, (rest_ready c.args.p.now c.args.h.now c.in_ok-rest.rest c.args.n same c.requires.ready, (rest_unmet p c.args.h.now c.in_ok-rest.rest same c.requires.unmet, (c.requires.some, c.requires.right))))
+    let same : HasSameTrees p c.args.h.now c.in_ok-rest.rest = c.in_ok-rest.ensures.trees in
+    (less, (rest_ready c.args.p.now c.args.h.now c.in_ok-rest.rest c.args.unread c.args.n same c.requires.ready, (rest_unmet p c.args.h.now c.in_ok-rest.rest same c.requires.unmet, (c.requires.some, c.requires.right))))
 
 pub best_unmet-returns-clause-best : goal.best_unmet-returns-clause-best
 best_unmet-returns-clause-best t c =
     let p = problem_of c.args.p.now in
-    let same : HasSameTrees p c.args.h.now c.in_ok-rest.rest = c.in_ok-rest.ensures in
+    let same : HasSameTrees p c.args.h.now c.in_ok-rest.rest = c.in_ok-rest.ensures.trees in
     IfOk-weaker c.best_of_rest.result (λ o. IsBestWithin p (At c.in_ok-rest.rest) c.args.n c.args.limit (option_map tree_of o)) (λ o. IsBestWithin p (At c.args.h.now) c.args.n c.args.limit (option_map tree_of o))
     (λ o b. best_of_rest p c.args.h.now c.in_ok-rest.rest same c.args.n c.args.limit (option_map tree_of o) b)
     c.best_of_rest.ensures.best
@@ -330,7 +332,7 @@ pub best_of_rest-best_of_choices-requires : goal.best_of_rest-best_of_choices-re
 best_of_rest-best_of_choices-requires t c =
     let same : c.args.n ≡ c.args.n - 1 + 1 = omega (arith, c.requires.some) in
     let less : (c.args.n - 1) * 32 + 31 < t = omega (arith, c.decreases, c.requires.some) in
-    (less, (subst (IsReady c.args.p.now c.args.h.now) same c.requires.ready, (c.requires.unmet, c.tells.ensures.right (problem_of c.args.p.now) c.requires.right)))
+    (less, (subst (IsReady c.args.p.now c.args.h.now c.args.unread) same c.requires.ready, (c.requires.unmet, c.tells.ensures.right (problem_of c.args.p.now) c.requires.right)))
 
 pub best_of_rest-returns-in-None-clause-right : goal.best_of_rest-returns-in-None-clause-right
 best_of_rest-returns-in-None-clause-right t c =

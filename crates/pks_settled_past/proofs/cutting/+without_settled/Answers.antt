@@ -4,10 +4,10 @@ use Rattle.pks_settled_past.specs.Same.{first_hides_nothing}
 use Rattle.pks_settled_past.proofs.Shorter.{same_through, rest_trees}
 use Rattle.pks_settled_past.proofs.cutting.+without_settled.Goals as goal
 
-pub returns : goal.returns
-returns t c =
+pub returns-clause-trees : goal.returns-clause-trees
+returns-clause-trees t c =
     let p = problem_of c.args.p.now in
     let h = c.args.h in
     let later = c.in_ok-later.later in
     let hides : first_hides_nothing p h ≡ true = sym c.in_ok-first_hides_nothing.ensures ∙ c.if-not-branch.false in
-    same_through p h later c.in_ok-rest.rest (rest_trees p h later c.in_ok-later.ensures c.requires.valid.says c.requires.plain c.requires.moments c.requires.sets hides) c.in_ok-rest.ensures
+    same_through p h later c.in_ok-rest.rest (rest_trees p h later c.in_ok-later.ensures c.requires.valid.says c.requires.plain c.requires.moments c.requires.sets hides) c.in_ok-rest.ensures.trees

@@ -1,19 +1,21 @@
-use Rattle.std.proofs.Common.{◌≡◌, map, sym, ap, ◌∙◌, subst}
+use Rattle.std.proofs.Common.{◌≡◌, map, refl, sym, ap, ◌∙◌, subst}
 use Rattle.pks_terms.specs.Sets.{IsIn}
 use Rattle.pks_terms.specs.Branching.{choices, instances, Act}
-use Rattle.pks_terms.specs.Settling.{last_moment}
+use Rattle.pks_terms.specs.Closure.{Next}
+use Rattle.pks_terms.specs.Settling.{last_moment, pushed}
 use Rattle.pks_terms.specs.Views.{instance_of, problem_of}
 use Rattle.pks_terms.specs.Moments.{IsMomentOf, AreMomentsOf}
+use Rattle.pks_laws.proofs.SearchStates.{last_of_it, acts_of}
 use Rattle.pks_normal.specs.Fives.{five_of}
 use Rattle.pks_query.specs.Steps.{outcome_of}
 use Rattle.pks_branch.specs.ChoiceViews.{choice_of}
-use Rattle.pks_search.proofs.Readiness.{ready_last, ready_acted, chosen_action}
+use Rattle.pks_search.proofs.Readiness.{chosen_action}
 use Rattle.pks_search.proofs.Children.{acted}
 use Rattle.pks_worked.proofs.Walking.{chosen}
 use Rattle.pks_worked.proofs.walks.acted.Goals as goal
 
 pub progress-requires-clause-moment : goal.progress-requires-clause-moment
-progress-requires-clause-moment c = subst (IsMomentOf (problem_of c.args.p.now).signature) (sym c.last-2.ensures) (ready_last c.args.p.now c.args.h.now 1 c.requires.ready)
+progress-requires-clause-moment c = subst (IsMomentOf (problem_of c.args.p.now).signature) (sym c.last-2.ensures) (last_of_it (problem_of c.args.p.now) c.requires.ready.valid.says c.args.h.now c.requires.ready.moments)
 
 pub progress-requires-clause-choice : goal.progress-requires-clause-choice
 progress-requires-clause-choice c =
@@ -35,5 +37,6 @@ returns-clause-moments c =
     let acts : IsIn (Act i) (choices p d) = subst (λ x. IsIn (choice_of x) (choices p d)) c.in-Act.is member in
     let choice = chosen_action p d i acts in
     let progress = acted p c.args.h.now i (five_of c.last-2.result.now) (five_of c.in-Next.d) (outcome_of c.in_ok-d.field-0) c.last-2.ensures (ap outcome_of c.in-Next.is) c.in_ok-d.ensures.progress in
-    let ready = ready_acted c.args.p.now c.args.h.now 0 i (five_of c.in-Next.d) c.requires.ready choice progress in
-    subst (AreMomentsOf p) (sym c.in_ok-longer.ensures) ready.moments
+    let e = five_of c.in-Next.d in
+    let moments = acts_of p c.requires.ready.valid.says c.args.h.now (pushed c.args.h.now i e) i c.requires.ready.moments choice (record { outcome = Next e; progress = progress; gives = refl }) in
+    subst (AreMomentsOf p) (sym c.in_ok-longer.ensures) moments
