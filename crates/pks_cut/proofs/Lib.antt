@@ -7,6 +7,7 @@ pub mod Rules
 pub mod Small
 pub mod Ends
 pub mod Total
+pub mod ClosingEnds
 pub mod Sequence
 pub mod Trees
 pub mod Cut

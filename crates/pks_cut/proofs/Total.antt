@@ -123,10 +123,10 @@ module _ {X : Type 0} (cmp : X → X → Ordering) (o : IsTotalOrder cmp) (tells
       above y (inl e) q i = not_below z (subst (λ u. cmp z u ≡ Less) (e ∙ sym q) (each_in (λ u. cmp z u ≡ Less) zs x c.0 i))
       above y (inr j) q i = not_both x z (subst (λ u. cmp x u ≡ Less) (sym q) (each_in (λ u. cmp x u ≡ Less) xs y a.0 j)) (each_in (λ u. cmp z u ≡ Less) zs x c.0 i)
 
-unfoldable most : ℕ → ℕ
+unfoldable pub most : ℕ → ℕ
 most b = length (set_of literal_cmp (literals b))
 
-at_most : (b : ℕ) (kf : List Literal) → IsOrdered literal_cmp kf → Each (LiteralSmall b) kf → length kf ≤ most b
+pub at_most : (b : ℕ) (kf : List Literal) → IsOrdered literal_cmp kf → Each (LiteralSmall b) kf → length kf ≤ most b
 unfolding most
 at_most b kf o a =
     no_longer literal_cmp literal_cmp_total literal_cmp_tells kf (set_of literal_cmp (literals b)) o (ordered_set_of literal_cmp_total literal_cmp_tells (literals b))

@@ -1,8 +1,11 @@
 //! The laws, each the clause of a function that does nothing.
 
 ghost use Rattle.std.specs.Prelude.{◌↔◌, ◌≡◌, ℕ, true, false, [], ◌∷◌, Option};
-ghost use Rattle.pks_terms.specs.Sets.{Each};
+ghost use Rattle.pks_terms.specs.Sets.{Each, IsOrdered};
+ghost use Rattle.pks_terms.specs.Orders.{literal_cmp};
+ghost use Rattle.pks_terms.specs.Signatures.{Signature};
 ghost use Rattle.pks_terms.specs.Databases.{Five};
+ghost use Rattle.pks_terms.specs.Closure.{Outcome, Closes};
 ghost use Rattle.pks_terms.specs.Actions.{Instance};
 ghost use Rattle.pks_terms.specs.Moments.{AreMomentsOf};
 ghost use Rattle.pks_terms.specs.Problems.{Problem};
@@ -17,6 +20,11 @@ ghost use Rattle.pks_cut.specs.Transparent.{IsTransparent, AreSetsAlong, with_fi
 /// A history of the problem whose sets are in order settles: the rounds come to an end.
 pub fn settling_comes_to_an_end()
     ensures { (p : Problem) (h : History) → IsValid p → AreMomentsOf p h → AreSetsAlong h → (x : State) × Settles p h x }
+{}
+
+/// Closing comes to an end, by whatever signature, where the known literals are in order: there is an outcome.
+pub fn closing_comes_to_an_end()
+    ensures { (s : Signature) (d : Five) → IsOrdered literal_cmp d.kf → (o : Outcome) × Closes s d o }
 {}
 
 /// Where the first step of a history hides nothing and each aim is one of the last moment, the history without its first moment has the same derived trees.
