@@ -26,7 +26,7 @@ use Rattle.pks_agent.proofs.Causing.{cause_behind, cause_ends, cause_unfit, caus
 
 -- ---- texts
 
-appends_more : (old mid new : Option Text) (xs ys : Text) → Appends old mid xs → Appends mid new ys → Appends old new (xs ++ ys)
+pub appends_more : (old mid new : Option Text) (xs ys : Text) → Appends old mid xs → Appends mid new ys → Appends old new (xs ++ ys)
 appends_more None mid new xs ys a b = tt
 appends_more (Some o) None new xs ys a b = absurd a
 appends_more (Some o) (Some m) None xs ys a b = absurd b
@@ -36,14 +36,14 @@ appends_none : (old : Option Text) → Appends old old []
 appends_none None = tt
 appends_none (Some o) = sym (append-nil o)
 
-front_behind : (old mid new : Option Text) (xs ys : Text) → Appends old mid xs → AppendsFront mid new ys → AppendsFront old new (xs ++ ys)
+pub front_behind : (old mid new : Option Text) (xs ys : Text) → Appends old mid xs → AppendsFront mid new ys → AppendsFront old new (xs ++ ys)
 front_behind old mid new xs ys a (n, few, b) = (
   length xs + n,
   omega (arith, few, length-append xs ys),
   subst (Appends old new) (sym (take-append-add xs ys n)) (appends_more old mid new xs (take n ys) a b),
 )
 
-front_first : (old new : Option Text) (xs ys : Text) → AppendsFront old new xs → AppendsFront old new (xs ++ ys)
+pub front_first : (old new : Option Text) (xs ys : Text) → AppendsFront old new xs → AppendsFront old new (xs ++ ys)
 front_first old new xs ys (n, few, a) = (
   n,
   omega (arith, few, length-append xs ys),
@@ -76,6 +76,7 @@ module _ {Y : Type 0} (reads : Text → Option Y) (question : Text) (k : ℕ) (m
   asked_on {X = X} answer x y a few fit go m'' result behind = record {
     led = on m.answers a.answered;
     cause = cause_behind m.sends m'.sends m''.sends m.receipts m'.receipts m''.receipts x result a.cause behind.cause;
+    kept = behind.kept ∙ a.kept;
   }
     where
       on : (before : Option (List Text)) → IfSome before (Answered {X = X} m m' question k answer (Ok x)) → IfSome before (λ answers. Led m.said m''.said m''.answers result (asking reads question go k answers))
@@ -98,6 +99,7 @@ module _ {Y : Type 0} (reads : Text → Option Y) (question : Text) (k : ℕ) (m
   asked_unfit {X = X} answer x a few none go = record {
     led = ends m.answers a.answered;
     cause = cause_unfit m.sends m'.sends m.receipts m'.receipts x k a.cause;
+    kept = a.kept;
   }
     where
       ends : (before : Option (List Text)) → IfSome before (Answered {X = X} m m' question k answer (Ok x)) → IfSome before (λ answers. Led m.said m'.said m'.answers (Err (Misfit k)) (asking reads question go k answers))
@@ -115,6 +117,7 @@ module _ {Y : Type 0} (reads : Text → Option Y) (question : Text) (k : ℕ) (m
   asked_ends {X = X} answer end a go = record {
     led = ends m.answers end a.answered;
     cause = cause_ends m.sends m'.sends m.receipts m'.receipts end a.cause;
+    kept = a.kept;
   }
     where
       ends : (before : Option (List Text)) (end : Stop) → IfSome before (Answered {X = X} m m' question k answer (Err end)) → IfSome before (λ answers. Led m.said m'.said m'.answers (Err end) (asking reads question go k answers))
@@ -199,20 +202,22 @@ module _ (s : Signature) (names : Names) where
 -- ---- a line that asks for no answer
 
 module _ (m m' : Moment) (text : Text) (k : ℕ) where
-  pub told_on : {X : Type 0} (x : X) → HasPeerCause {X = X} m.sends m'.sends m.receipts m'.receipts (Ok x) → Appends m.said m'.said (line text) → Stay m.answers m'.answers → LeadsOn {Y = Unit {0}} (λ go. stating text (go tt)) k k tt m m'
-  told_on x cause said stay go m'' result behind = record {
+  pub told_on : {X : Type 0} (x : X) → HasPeerCause {X = X} m.sends m'.sends m.receipts m'.receipts (Ok x) → Appends m.said m'.said (line text) → Stay m.answers m'.answers → m'.kept ≡ m.kept → LeadsOn {Y = Unit {0}} (λ go. stating text (go tt)) k k tt m m'
+  told_on x cause said stay same go m'' result behind = record {
     led = on m.answers stay;
     cause = cause_behind m.sends m'.sends m''.sends m.receipts m'.receipts m''.receipts (tt {0}) result (cause_well m.sends m'.sends m.receipts m'.receipts x (tt {0}) cause) behind.cause;
+    kept = behind.kept ∙ same;
   }
     where
       on : (before : Option (List Text)) → Stay before m'.answers → IfSome before (λ answers. Led m.said m''.said m''.answers result (stating text (go tt) k answers))
       on None s = tt
       on (Some answers) s = led_behind m.said m'.said m''.said m''.answers result (Statement text) (go tt k answers) said (subst (λ o. IfSome o (λ answers. Led m'.said m''.said m''.answers result (go tt k answers))) s behind.led)
 
-  pub told_ends : {X : Type 0} (fault : PeerFault) → HasPeerCause {X = X} m.sends m'.sends m.receipts m'.receipts (Err fault) → AppendsFront m.said m'.said (line text) → EndsIn {Y = Unit {0}} (λ go. stating text (go tt)) k (Failed fault) m m'
-  told_ends fault cause said go = record {
+  pub told_ends : {X : Type 0} (fault : PeerFault) → HasPeerCause {X = X} m.sends m'.sends m.receipts m'.receipts (Err fault) → AppendsFront m.said m'.said (line text) → m'.kept ≡ m.kept → EndsIn {Y = Unit {0}} (λ go. stating text (go tt)) k (Failed fault) m m'
+  told_ends fault cause said same go = record {
     led = ends m.answers;
     cause = cause_failed m.sends m'.sends m.receipts m'.receipts fault cause;
+    kept = same;
   }
     where
       ends : (before : Option (List Text)) → IfSome before (λ answers. Led m.said m'.said m'.answers (Err (Failed fault)) (stating text (go tt) k answers))
@@ -228,6 +233,7 @@ module _ (end : End) (k : ℕ) (m m' : Moment) where
   over_led = record {
     led = still m'.answers;
     cause = cause_still m'.sends m'.receipts end;
+    kept = refl;
   }
     where
       still : (now : Option (List Text)) → IfSome now (λ answers. Led m'.said m'.said now (Ok end) (over tt k answers))

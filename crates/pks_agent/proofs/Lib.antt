@@ -5,3 +5,5 @@ pub mod Fronts
 pub mod Sizes
 pub mod Longest
 pub mod Serving
+pub mod Lines
+pub mod Streams

@@ -17,7 +17,8 @@ Answered m m' question k answer (Err (Silent j)) [] = (j ≡ k) × Appends m.sai
 Answered m m' question k answer (Err (Silent j)) (next ∷ rest) = ⊥
 Answered m m' question k answer (Err (Failed fault)) answers = AppendsFront m.said m'.said (line question)
 
--- the question was asked so, and a fault has its cause
+-- the question was asked so, a fault has its cause, and the peer borrows the same places
 pub record IsAsked {X : Type 0} (m m' : Moment) (question : Text) (k : ℕ) (answer : Text) (result : Result X TalkEnd) : Type 0 where
   pub answered : IfSome m.answers (Answered m m' question k answer result)
   pub cause : HasTalkCause m.sends m'.sends m.receipts m'.receipts result
+  pub kept : m'.kept ≡ m.kept

@@ -1,5 +1,5 @@
 -- What a peer says and hears.
-use Rattle.std.specs.Prelude.{ℕ, ◌≡◌, ◌≤◌, ◌<◌, List, [], ◌∷◌, length, Option, Some, None, Result, Ok, Err, IfErr}
+use Rattle.std.specs.Prelude.{ℕ, ◌≡◌, ◌≤◌, ◌<◌, List, [], ◌∷◌, length, Option, Some, None, Result, Ok, Err, IfErr, OnOk}
 use Rattle.pks_io.specs.Causes.{Rose}
 use Rattle.pks_terms.specs.Printed.{Text}
 use Rattle.pks_agent.specs.declared.peers.Heard.{Heard}
@@ -42,8 +42,19 @@ abbrev pub FaultRose : ℕ → ℕ → ℕ → ℕ → PeerFault → Type 0
 FaultRose sends sends' receipts receipts' Send = Rose sends sends'
 FaultRose sends sends' receipts receipts' Receive = Rose receipts receipts'
 
--- neither count of faults falls, and each fault comes only where its count rose
+-- both counts stand still
+abbrev pub BothStand : ℕ → ℕ → ℕ → ℕ → Type 0
+BothStand sends sends' receipts receipts' = (sends' ≡ sends) × (receipts' ≡ receipts)
+
+-- the count of the other faults stands still
+abbrev pub OtherStands : ℕ → ℕ → ℕ → ℕ → PeerFault → Type 0
+OtherStands sends sends' receipts receipts' Send = receipts' ≡ receipts
+OtherStands sends sends' receipts receipts' Receive = sends' ≡ sends
+
+-- neither count of faults falls, each fault comes only where its count rose, and a count stands still else
 pub record HasPeerCause {X : Type 0} (sends sends' receipts receipts' : ℕ) (result : Result X PeerFault) : Type 0 where
   pub later_sends : sends ≤ sends'
   pub later_receipts : receipts ≤ receipts'
   pub risen : IfErr result (FaultRose sends sends' receipts receipts')
+  pub still : OnOk result (BothStand sends sends' receipts receipts')
+  pub other : IfErr result (OtherStands sends sends' receipts receipts')

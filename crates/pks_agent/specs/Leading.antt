@@ -1,5 +1,6 @@
 -- How a dialogue over a peer is led.
-use Rattle.std.specs.Prelude.{ℕ, ◌≡◌, ◌≤◌, List, ◌++◌, Option, Some, Result, Ok, Err, IfSome, IfErr}
+use Rattle.std.specs.Prelude.{ℕ, ◌≡◌, ◌≤◌, List, ◌++◌, Option, Some, Result, Ok, Err, IfSome, IfErr, OnOk}
+use Rattle.std.specs.Borrow.{GName}
 use Rattle.std.specs.Io.KnownBytes.{Appends}
 use Rattle.pks_io.specs.Writing.{AppendsFront}
 use Rattle.pks_terms.specs.Syntax.{Inner}
@@ -9,7 +10,7 @@ use Rattle.pks_terms.specs.Printed.{Text, Names}
 use Rattle.pks_terms.specs.Talk.{Talked, Over, Unfit, Missing, Statement, talked_text, GoesOn, saying, asking_each, do_text}
 use Rattle.pks_exec.specs.Runs.{ending_of}
 use Rattle.pks_exec.specs.declared.runs.End.{End}
-use Rattle.pks_agent.specs.Hearing.{FaultRose}
+use Rattle.pks_agent.specs.Hearing.{FaultRose, BothStand, OtherStands}
 use Rattle.pks_agent.specs.declared.ends.TalkEnd.{TalkEnd}
 use Rattle.pks_agent.specs.declared.ends.TalkEnd.TheVariants.{Misfit, Silent, Failed}
 
@@ -26,11 +27,19 @@ EndRose sends sends' receipts receipts' (Misfit k) = Unit {0}
 EndRose sends sends' receipts receipts' (Silent k) = Unit {0}
 EndRose sends sends' receipts receipts' (Failed fault) = FaultRose sends sends' receipts receipts' fault
 
--- neither count of faults falls, and each fault comes only where its count rose
+-- where it didn't fail, both counts stand still, and where it failed that of the other faults
+abbrev pub EndStands : ℕ → ℕ → ℕ → ℕ → TalkEnd → Type 0
+EndStands sends sends' receipts receipts' (Misfit k) = BothStand sends sends' receipts receipts'
+EndStands sends sends' receipts receipts' (Silent k) = BothStand sends sends' receipts receipts'
+EndStands sends sends' receipts receipts' (Failed fault) = OtherStands sends sends' receipts receipts' fault
+
+-- neither count of faults falls, each fault comes only where its count rose, and a count stands still else
 pub record HasTalkCause {X : Type 0} (sends sends' receipts receipts' : ℕ) (result : Result X TalkEnd) : Type 0 where
   pub later_sends : sends ≤ sends'
   pub later_receipts : receipts ≤ receipts'
   pub risen : IfErr result (EndRose sends sends' receipts receipts')
+  pub still : OnOk result (BothStand sends sends' receipts receipts')
+  pub other : IfErr result (EndStands sends sends' receipts receipts')
 
 -- ---- parts of a dialogue
 
@@ -40,15 +49,18 @@ pub record Moment : Type 0 where
   pub said : Option Text
   pub sends : ℕ
   pub receipts : ℕ
+  -- the places that it borrows
+  pub kept : List GName
 
 -- so of a peer
-abbrev pub moment : {P : Type 0} → (P → Option (List Text)) → (P → Option Text) → (P → ℕ) → (P → ℕ) → P → Moment
-moment answers said sends receipts peer = record { answers = answers peer; said = said peer; sends = sends peer; receipts = receipts peer }
+abbrev pub moment : {P : Type 0} → (P → Option (List Text)) → (P → Option Text) → (P → ℕ) → (P → ℕ) → (P → List GName) → P → Moment
+moment answers said sends receipts kept peer = record { answers = answers peer; said = said peer; sends = sends peer; receipts = receipts peer; kept = kept peer }
 
--- the dialogue that comes of the answers was led, and a fault has its cause
+-- the dialogue that comes of the answers was led, a fault has its cause, and the peer borrows the same places
 pub record IsLed (m m' : Moment) (result : Result End TalkEnd) (talk : List Text → Talked) : Type 0 where
   pub led : IfSome m.answers (λ answers. Led m.said m'.said m'.answers result (talk answers))
   pub cause : HasTalkCause m.sends m'.sends m.receipts m'.receipts result
+  pub kept : m'.kept ≡ m.kept
 
 -- where a part ends well, all that is led behind it is led from before it on
 abbrev pub LeadsOn : {Y : Type 0} → ((Y → GoesOn) → GoesOn) → ℕ → ℕ → Y → Moment → Moment → Type 0

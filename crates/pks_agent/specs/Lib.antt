@@ -5,3 +5,5 @@ pub mod Hearing
 pub mod Leading
 pub mod Memory
 pub mod Rooms
+pub mod Streams
+pub mod Wires

@@ -1,5 +1,6 @@
 -- What a peer in memory shows.
-use Rattle.std.specs.Prelude.{ℕ, ◌+◌, ◌<◌, ◌-◌, ◌^◌, ◌⊎◌, min, List, drop, length, Contains}
+use Rattle.std.specs.Prelude.{ℕ, ◌+◌, ◌<◌, ◌-◌, ◌^◌, ◌⊎◌, min, List, [], drop, length, Contains}
+use Rattle.std.specs.Borrow.{GName}
 use Rattle.pks_terms.specs.Printed.{Text}
 use Rattle.pks_agent.specs.Rooms.{texts_in}
 use Rattle.pks_agent.specs.declared.memory.MemPeer.{MemPeer}
@@ -27,6 +28,10 @@ peer_sends x = x.sends
 -- how often receiving has failed
 abbrev pub peer_receipts : MemPeer → ℕ
 peer_receipts x = x.receipts
+
+-- it borrows nothing
+abbrev pub peer_kept : MemPeer → List GName
+peer_kept x = []
 
 -- the number of the next call
 abbrev pub next_call : ℕ → ℕ

@@ -1,5 +1,5 @@
 //! One answer.
-ghost use Rattle.std.specs.Prelude.{◌≡◌, ◌≤◌, [], length};
+ghost use Rattle.std.specs.Prelude.{◌≡◌, ◌≤◌, ◌<◌, ◌↔◌, ◌∷◌, ◌++◌, [], false, IsTrue, length};
 ghost use Rattle.pks_agent.specs.Answers.{answer_text};
 
 use pks_terms::term::front;
@@ -39,5 +39,29 @@ impl Answer {
     {
         self.bytes[..text.len()].copy_from_slice(text);
         self.n = text.len() as u8;
+    }
+
+    /// Whether it holds no byte.
+    #[tactic(auto, using(crate::proofs::Streams::none_taken, crate::proofs::Streams::none_held))]
+    pub(crate) fn is_empty(&self) -> bool
+        ensures { IsTrue result ↔ answer_text self.now ≡ [] }
+    {
+        self.n == 0
+    }
+
+    /// Holds one more byte, where there is room.
+    #[tactic(auto, using(crate::proofs::Streams::held_more, crate::proofs::Streams::held_few, crate::proofs::Streams::held_all))]
+    pub(crate) fn push(&mut self, byte: u8) -> bool
+        ensures held { IsTrue result → answer_text self.new ≡ answer_text self.old ++ byte ∷ [] }
+        ensures room { IsTrue result → length (answer_text self.old) < 64 }
+        ensures full { result ≡ false → 64 ≤ length (answer_text self.old) }
+    {
+        let at = usize::from(self.n);
+        if at >= 64 {
+            return false;
+        }
+        self.bytes[at] = byte;
+        self.n += 1;
+        true
     }
 }

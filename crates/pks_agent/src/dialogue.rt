@@ -24,7 +24,7 @@ use pks_terms::term::front;
 
 /// Tells a line.
 fn tell<P: Peer>(peer: &mut P, text: &[u8]) -> Result<(), TalkEnd>
-    ensures { (k : ℕ) → Tells text.now k result (moment P.answers P.said P.sends P.receipts peer.old) (moment P.answers P.said P.sends P.receipts peer.new) }
+    ensures { (k : ℕ) → Tells text.now k result (moment P.answers P.said P.sends P.receipts P.kept peer.old) (moment P.answers P.said P.sends P.receipts P.kept peer.new) }
 {
     match peer.tell(text) {
         Ok(()) => Ok(()),
@@ -45,7 +45,7 @@ fn end_line(end: End) -> &'static str
 
 /// Tells an end, and ends with it.
 fn tell_end<P: Peer>(end: End, peer: &mut P) -> Result<End, TalkEnd>
-    ensures { IsLed (moment P.answers P.said P.sends P.receipts peer.old) (moment P.answers P.said P.sends P.receipts peer.new) result (ending (ending_of end)) }
+    ensures { IsLed (moment P.answers P.said P.sends P.receipts P.kept peer.old) (moment P.answers P.said P.sends P.receipts P.kept peer.new) result (ending (ending_of end)) }
 {
     match tell(peer, end_line(end).as_bytes()) {
         Ok(()) => Ok(end),
@@ -67,7 +67,7 @@ fn act<P: Peer>(
     requires desk { IsDesk (names_of p.now) desk.old }
     requires numbers { k + 4 < 2 ^ 32 }
     ensures leads { Does (signature_of p.now.signature) (names_of p.now) (instance_of step.now) k
-        (k + argument_count (instance_of step.now).arguments) result (moment P.answers P.said P.sends P.receipts peer.old) (moment P.answers P.said P.sends P.receipts peer.new) }
+        (k + argument_count (instance_of step.now).arguments) result (moment P.answers P.said P.sends P.receipts P.kept peer.old) (moment P.answers P.said P.sends P.receipts P.kept peer.new) }
     ensures next { IfOk result (λ next. next ≡ k + argument_count (instance_of step.now).arguments) }
     ensures few { IfOk result (λ next. next ≤ k + 4) }
     ensures desk { OnOk result (IsDesk (names_of p.now) desk.new) }
@@ -106,7 +106,7 @@ fn walk<P: Peer>(
     requires questions { Opens (texts_in questions.now) (questions_of (names_of p.now) (tree_of t.now)) }
     requires desk { IsDesk (names_of p.now) desk.old }
     requires numbers { k + 4 * depth (tree_of t.now) < 2 ^ 32 }
-    ensures { IsLed (moment P.answers P.said P.sends P.receipts peer.old) (moment P.answers P.said P.sends P.receipts peer.new) result
+    ensures { IsLed (moment P.answers P.said P.sends P.receipts P.kept peer.old) (moment P.answers P.said P.sends P.receipts P.kept peer.new) result
         (talk_from (signature_of p.now.signature) (names_of p.now) (tree_of t.now) k) }
 {
     match t {
@@ -155,7 +155,7 @@ fn walk_case<P: Peer>(
     requires questions { Opens (texts_in questions.now) (case_questions (names_of p.now) (chain_of cases.now)) }
     requires desk { IsDesk (names_of p.now) desk.old }
     requires numbers { k + 4 * chain_depth (chain_of cases.now) < 2 ^ 32 }
-    ensures { IsLed (moment P.answers P.said P.sends P.receipts peer.old) (moment P.answers P.said P.sends P.receipts peer.new) result
+    ensures { IsLed (moment P.answers P.said P.sends P.receipts P.kept peer.old) (moment P.answers P.said P.sends P.receipts P.kept peer.new) result
         (talk_case (signature_of p.now.signature) (names_of p.now) (chain_of cases.now) value.0 k) }
 {
     match cases {
@@ -176,7 +176,7 @@ fn walk_case<P: Peer>(
 ///
 /// Where the peer tells its answers, the text said is the lines of the dialogue that comes of them, or where the peer failed a front of
 /// these. `Misfit` comes exactly where the answer with its number isn't fit or is too long, `Silent` exactly where it is missing, `Failed` only
-/// where that count of the peer's faults rose. Where the dialogue comes to its end, the answers that are left are those that it doesn't take.
+/// where that count of the peer's faults rose, which stands still else. Where the dialogue comes to its end, the answers that are left are those that it doesn't take.
 #[tactic(auto, unfolding(pks_terms::specs::Talk::talk))]
 pub fn converse<P: Peer>(
     p: &Problem<'_>,
@@ -188,6 +188,7 @@ pub fn converse<P: Peer>(
     requires room { IsRoomOf (names_of p.now) (tree_of t.now) room.old }
     ensures led { IfSome (P.answers peer.old) (λ answers. Led (P.said peer.old) (P.said peer.new) (P.answers peer.new) result (talk (signature_of p.now.signature) (names_of p.now) (tree_of t.now) answers)) }
     ensures cause { HasTalkCause (P.sends peer.old) (P.sends peer.new) (P.receipts peer.old) (P.receipts peer.new) result }
+    ensures kept { P.kept peer.new ≡ P.kept peer.old }
 {
     walk(p, t, room.questions.as_slice(), &mut room.desk, peer, 1)
 }

@@ -113,7 +113,7 @@ impl MemPeer {
 }
 
 impl Peer for MemPeer {
-    ghost use Rattle.pks_agent.specs.Memory.{peer_text, peer_answers, peer_failing, peer_calls, peer_sends, peer_receipts, next_call, Fails, raised};
+    ghost use Rattle.pks_agent.specs.Memory.{peer_text, peer_answers, peer_failing, peer_calls, peer_sends, peer_receipts, peer_kept, next_call, Fails, raised};
 
     ghost answers = { λ x. Some (peer_answers x) };
 
@@ -123,11 +123,14 @@ impl Peer for MemPeer {
 
     ghost receipts = { peer_receipts };
 
+    ghost kept = { peer_kept };
+
     fn tell(&mut self, text: &[u8]) -> Result<(), PeerFault>
         ensures ok { OnOk result (Appends (Some (peer_text self.old)) (Some (peer_text self.new)) (line text.now)) }
         ensures err { OnErr result (AppendsFront (Some (peer_text self.old)) (Some (peer_text self.new)) (line text.now)) }
         ensures answers { Stay (Some (peer_answers self.old)) (Some (peer_answers self.new)) }
         ensures cause { HasPeerCause (peer_sends self.old) (peer_sends self.new) (peer_receipts self.old) (peer_receipts self.new) result }
+        ensures kept { peer_kept self.new ≡ peer_kept self.old }
 
         // It fails exactly there, and the fault is counted and nothing else is.
         ensures fails { IsErr result ↔ Fails (peer_failing self.old) (next_call (peer_calls self.old)) text.now }
@@ -148,6 +151,7 @@ impl Peer for MemPeer {
         ensures err { OnErr result (AppendsFront (Some (peer_text self.old)) (Some (peer_text self.new)) (line text.now)) }
         ensures hears { Hears (Some (peer_answers self.old)) (Some (peer_answers self.new)) (answer_text into.new) result }
         ensures cause { HasPeerCause (peer_sends self.old) (peer_sends self.new) (peer_receipts self.old) (peer_receipts self.new) result }
+        ensures kept { peer_kept self.new ≡ peer_kept self.old }
 
         // It fails exactly there, and the fault is counted and nothing else is.
         ensures fails { IsErr result ↔ Fails (peer_failing self.old) (next_call (peer_calls self.old)) text.now }

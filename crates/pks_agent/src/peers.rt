@@ -1,5 +1,6 @@
 //! Who answers, by what was said, by the answers that are left and by two counts of faults.
 ghost use Rattle.std.specs.Prelude.{◌≡◌, ℕ, List, Option, OnOk, OnErr};
+ghost use Rattle.std.specs.Borrow.{GName};
 ghost use Rattle.std.specs.Io.KnownBytes.{Appends};
 ghost use Rattle.pks_io.specs.Writing.{AppendsFront};
 ghost use Rattle.pks_terms.specs.Printed.{Text, line};
@@ -42,13 +43,17 @@ pub trait Peer {
     /// A count of the faults of receiving.
     ghost receipts: { Self → ℕ };
 
+    /// The places that the peer borrows, which stay the same.
+    ghost kept: { Self → List GName };
+
     /// Says the line and a line feed, or where it fails a front of them. The answers stay as they are. Neither count
-    /// falls, and each fault comes only where its count rose.
+    /// falls, each fault comes only where its count rose, and a count stands still where its fault isn't answered.
     fn tell(&mut self, text: &[u8]) -> Result<(), PeerFault>
         ensures ok { OnOk result (Appends (said self.old) (said self.new) (line text.now)) }
         ensures err { OnErr result (AppendsFront (said self.old) (said self.new) (line text.now)) }
         ensures answers { Stay (answers self.old) (answers self.new) }
-        ensures cause { HasPeerCause (sends self.old) (sends self.new) (receipts self.old) (receipts self.new) result };
+        ensures cause { HasPeerCause (sends self.old) (sends self.new) (receipts self.old) (receipts self.new) result }
+        ensures kept { kept self.new ≡ kept self.old };
 
     /// Says the line and a line feed, and takes the next answer. `Long` comes exactly where that has more than 64
     /// bytes, `End` exactly where none is left. Where sending fails a front of the text was said and the answers
@@ -57,5 +62,6 @@ pub trait Peer {
         ensures ok { OnOk result (Appends (said self.old) (said self.new) (line text.now)) }
         ensures err { OnErr result (AppendsFront (said self.old) (said self.new) (line text.now)) }
         ensures hears { Hears (answers self.old) (answers self.new) (answer_text into.new) result }
-        ensures cause { HasPeerCause (sends self.old) (sends self.new) (receipts self.old) (receipts self.new) result };
+        ensures cause { HasPeerCause (sends self.old) (sends self.new) (receipts self.old) (receipts self.new) result }
+        ensures kept { kept self.new ≡ kept self.old };
 }
