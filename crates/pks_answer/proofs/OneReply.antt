@@ -11,7 +11,8 @@ use Rattle.pks_terms.specs.Printed.{Text, Refusal, name_in, none_text, refusal_t
 use Rattle.pks_terms.specs.Settling.{State}
 use Rattle.pks_terms.specs.Recalled.{IsRecalled, recall_text}
 use Rattle.pks_terms.specs.Nodes.{Node, IsShared, shared_text}
-use Rattle.pks_terms.specs.Answers.{Stated, NoWorld, BadWorld, GivenWorld, File, refusal, unjustified, RefusesAdd, RefusesStart, RefusesWorld, RefusesRun, RefusesFor, NoneApplies, RefusesFile, IsDone}
+use Rattle.pks_terms.specs.Answers.{Stated, NoWorld, BadWorld, GivenWorld, File, refusal, unjustified, RefusesAdd, RefusesStart, RefusesWorld, RefusesRun, RefusesFor, NoneApplies, RefusesFile, IsDone, IsUnplanned, talk_in}
+use Rattle.pks_terms.specs.Talk.{talked_text}
 use Rattle.pks_laws.proofs.Accepting as accepting
 use Rattle.pks_laws.proofs.BestTree.{best_one}
 use Rattle.pks_laws.proofs.Validity.{valid_typed}
@@ -76,7 +77,7 @@ one_later j f r q (inl a) (inr b) = absurd (b.0 r a)
 one_later j f r q (inr a) (inl b) = absurd (a.0 q b)
 one_later j f r q (inr a) (inr b) = one_for j f r q a.1 b.1
 
-one_refusal : (j : Job) (f : File) (r q : Refusal) → RefusesFile j f r → RefusesFile j f q → r ≡ q
+pub one_refusal : (j : Job) (f : File) (r q : Refusal) → RefusesFile j f r → RefusesFile j f q → r ≡ q
 one_refusal j f r q (inl a) (inl b) = one_add f r q a b
 one_refusal j f r q (inl a) (inr b) = absurd (b.0 r a)
 one_refusal j f r q (inr a) (inl b) = absurd (a.0 q b)
@@ -87,10 +88,10 @@ one_refusal j f r q (inr a) (inr b) = one_later j f r q a.1 b.1
 one_best : (p : Problem) (n : ℕ) (t u : Option Tree) → IsBest p n t → IsBest p n u → t ≡ u
 one_best p n t u a b = best_one p (λ t. IsPlan p t × (depth t ≤ n)) t u a b
 
-one_tree : (p : Problem) (n : ℕ) (t u : Tree) → IsBest p n (Some t) → IsBest p n (Some u) → t ≡ u
+pub one_tree : (p : Problem) (n : ℕ) (t u : Tree) → IsBest p n (Some t) → IsBest p n (Some u) → t ≡ u
 one_tree p n t u a b = same_Some t u (one_best p n (Some t) (Some u) a b)
 
-none_or_tree : (p : Problem) (n m : ℕ) (t : Tree) → Some m ≡ Some n → IsBest p n None → IsBest p m (Some t) → ⊥
+pub none_or_tree : (p : Problem) (n m : ℕ) (t : Tree) → Some m ≡ Some n → IsBest p n None → IsBest p m (Some t) → ⊥
 none_or_tree p n m t e a b = none-some t (one_best p n None (Some t) a (subst (λ k. IsBest p k (Some t)) (same_Some m n e) b))
 
 none_or_done : (j : Job) (f : File) (n : ℕ) (x y : Text) → depth_for j ≡ Some n → IsBest f.problem n None → IsDone j x f y → ⊥
@@ -130,7 +131,7 @@ one_done (Recall n) f i x y built a b =
     let trees : a.0 ≡ b.0 = one_tree f.problem n a.0 b.0 a.1 b.1 in
     let leaves : a.2.0 ≡ b.2.0 = one_recall f a.0 b.0 a.2.0 b.2.0 trees a.2.1 b.2.1 in
     a.2.2 ∙ (λ i. tree_text f.names (trees i) ++ recall_text f.names (leaves i)) ∙ sym b.2.2
-one_done (Agent n) f i x y built a b = unbuilt built
+one_done (Agent n) f i x y built a b = a.2.1 ∙ ap (λ t. talked_text (talk_in f i t)) (one_tree f.problem n a.0 b.0 a.1 b.1) ∙ sym b.2.1
 one_done (Explain n) f i x y built a b = unbuilt built
 one_done Derive f i x y built a b = a ∙ sym b
 one_done (Shared n) f i x y built a b =
@@ -138,12 +139,15 @@ one_done (Shared n) f i x y built a b =
     let nodes : a.2.0 ≡ b.2.0 = one_nodes a.0 b.0 a.2.0 b.2.0 trees a.2.1 b.2.1 in
     a.2.2 ∙ ap (shared_text f.names) nodes ∙ sym b.2.2
 
+pub one_unplanned : (j : Job) (f : File) (x y : Text) → IsUnplanned j f x → IsUnplanned j f y → x ≡ y
+one_unplanned j f x y a b = a.3 ∙ ap none_text (same_Some a.0 b.0 (sym a.1 ∙ b.1)) ∙ sym b.3
+
 pub one_reply : (j : Job) (f : File) (v u : Verdict) (x y : Text) → IsBuilt j → IsReply j f v x → IsReply j f u y → (v ≡ u) × (x ≡ y)
 one_reply j f Refused Refused x y built a b = (refl, a.2 ∙ ap refusal_text (one_refusal j f a.0 b.0 a.1 b.1) ∙ sym b.2)
 one_reply j f Refused NoPlan x y built a b = absurd (b.0 a.0 a.1)
 one_reply j f Refused Done x y built a b = absurd (b.0 a.0 a.1)
 one_reply j f NoPlan Refused x y built a b = absurd (a.0 b.0 b.1)
-one_reply j f NoPlan NoPlan x y built a b = (refl, a.1.3 ∙ ap none_text (same_Some a.1.0 b.1.0 (sym a.1.1 ∙ b.1.1)) ∙ sym b.1.3)
+one_reply j f NoPlan NoPlan x y built a b = (refl, one_unplanned j f x y a.1 b.1)
 one_reply j f NoPlan Done x y built a b = absurd (none_or_done j f a.1.0 [] y a.1.1 a.1.2 (b.1 []))
 one_reply j f Done Refused x y built a b = absurd (a.0 b.0 b.1)
 one_reply j f Done NoPlan x y built a b = absurd (none_or_done j f b.1.0 [] x b.1.1 b.1.2 (a.1 []))
@@ -155,7 +159,7 @@ no_first : (xs : List (ℕ × ℕ)) → ((x : ℕ × ℕ) (rest : List (ℕ × �
 no_first [] h = refl
 no_first (x ∷ xs) h = absurd (h x xs refl)
 
-all_justified : (j : Job) (f : File) → NoneApplies (RefusesFile j f) → unjustified f.problem ≡ []
+pub all_justified : (j : Job) (f : File) → NoneApplies (RefusesFile j f) → unjustified f.problem ≡ []
 all_justified j f none = no_first (unjustified f.problem) (λ x rest e. none (add_refusal f x) (inl (x.0, x.1, rest, e, refl)))
 
 pub good_reply : (j : Job) (f : File) (x : Text) → IsValid f.problem → IsReply j f Done x → HasGoodPlan j f

@@ -2,18 +2,22 @@
 use Rattle.std.specs.Prelude.{◌≡◌, ◌++◌, ℕ, List, Some, None}
 use Rattle.pks_terms.specs.Problems.{Problem}
 use Rattle.pks_terms.specs.Trees.{Tree, IsBest}
-use Rattle.pks_terms.specs.Jobs.{Job}
+use Rattle.pks_terms.specs.Jobs.{Job, Agent}
 use Rattle.pks_terms.specs.Printed.{Text, Names, Refusal, tree_text, none_text, refusal_text}
 use Rattle.pks_terms.specs.Settling.{State}
 use Rattle.pks_terms.specs.Recalled.{IsRecalled, recall_text}
 use Rattle.pks_terms.specs.Nodes.{Node, IsShared, shared_text}
 use Rattle.pks_terms.specs.Answers.{File, RefusesFile, NoneApplies, IsDone, IsUnplanned, text_for}
+use Rattle.pks_plan.specs.TreeViews.{tree_of}
+use Rattle.pks_answer.specs.declared.leads.Lead.{Lead}
+use Rattle.pks_answer.specs.declared.leads.Lead.TheVariants as lead_is
 use Rattle.pks_answer.specs.Goodness.{HasGoodPlan, TellsTruth}
 use Rattle.pks_answer.specs.declared.reply.Verdict.{Verdict}
 use Rattle.pks_answer.specs.declared.reply.Verdict.TheVariants.{Done, NoPlan, Refused}
 
--- the job is about this text: any, but for a job about the generated file
+-- the job is about this text alone: any, but for a job about the generated file; no dialogue is, since it hangs on its answers too
 abbrev pub IsAbout : Job → Text → Type 0
+IsAbout (Agent n) text = ⊥
 IsAbout j text = text_for j text ≡ text
 
 -- a text that is made of the plan alone
@@ -46,3 +50,11 @@ pub record RepliesTo (j : Job) (f : File) (v : Verdict) (text : Text) : Type 0 w
   pub only : (other : Verdict) (t : Text) → IsReply j f other t → (other ≡ v) × (t ≡ text)
   pub good : v ≡ Done → HasGoodPlan j f
   pub told : v ≡ Done → TellsTruth j f text
+
+-- ---- dialogues
+
+-- what a dialogue to this depth about the file begins with: its first refusal, or that there is no plan, or the best one
+abbrev pub IsLead : ℕ → File → Lead → Type 0
+IsLead n f (lead_is.Refused text) = (r : Refusal) × RefusesFile (Agent n) f r × (text.items ≡ refusal_text r)
+IsLead n f (lead_is.NoPlan text) = NoneApplies (RefusesFile (Agent n) f) × IsUnplanned (Agent n) f text.items
+IsLead n f (lead_is.Plan t) = NoneApplies (RefusesFile (Agent n) f) × IsBest f.problem n (Some (tree_of t))

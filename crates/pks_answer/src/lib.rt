@@ -3,6 +3,7 @@
 
 pub mod accept;
 pub mod laws;
+pub mod leads;
 pub mod line;
 mod plans;
 pub mod reply;

@@ -28,7 +28,7 @@ use std::alloc::{AllocError, Global};
 const BENCH_DEPTH: u8 = 2;
 
 // That there is no plan.
-fn none_text(alloc: Global, depth: u8) -> Result<Vec<u8>, AllocError>
+pub(crate) fn none_text(alloc: Global, depth: u8) -> Result<Vec<u8>, AllocError>
     ensures { IfOk result (λ text. text.items ≡ none_text depth) }
 {
     let text = format!(in alloc; "none to depth {depth}\n")?;

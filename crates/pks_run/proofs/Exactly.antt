@@ -3,21 +3,21 @@ use Rattle.std.proofs.Common.{◌≡◌, ◌⊎◌, inl, inr, List, refl, sym, �
 use Rattle.pks_terms.specs.Printed.{Text, none_text, refusal_text}
 use Rattle.pks_run.specs.Answer.{IsAnswer, IsAnswered, IsCutShort, IsExactly, HasNoPlan, IsRefused}
 use Rattle.pks_run.specs.declared.status.Status.{Status}
-use Rattle.pks_run.proofs.Replying.{asked_no_talk}
 use Rattle.pks_run.specs.declared.status.Status.TheVariants.{NoPlan, Refused, WriteFault}
 
 has_no_plan : (words : List Text) (input text : Text) → IsAnswer words input NoPlan text → HasNoPlan words input
 has_no_plan words input text (j, asks, (f, accepted, (n, depth, best, e))) = (j, asks, (f, accepted, (n, depth, best)))
 
 is_refused : (words : List Text) (input text : Text) → IsAnswer words input Refused text → IsRefused words input
-is_refused words input text (j, asks, inl (r, refuses, e)) = (j, asks, (r, refuses))
-is_refused words input text (j, asks, inr (f, accepted, refused)) = absurd (asked_no_talk words j input f text asks refused)
+is_refused words input text (j, asks, inl (r, refuses, e)) = (j, asks, inl (r, refuses))
+is_refused words input text (j, asks, inr (f, accepted, refused)) = (j, asks, inr (f, accepted, (text, refused)))
 
 none_answers : (words : List Text) (input : Text) → HasNoPlan words input → (text : Text) × IsAnswer words input NoPlan text
 none_answers words input (j, asks, (f, accepted, (n, depth, best))) = (none_text n, (j, asks, (f, accepted, (n, depth, best, refl))))
 
 refusal_answers : (words : List Text) (input : Text) → IsRefused words input → (text : Text) × IsAnswer words input Refused text
-refusal_answers words input (j, asks, (r, refuses)) = (refusal_text r, (j, asks, inl (r, refuses, refl)))
+refusal_answers words input (j, asks, inl (r, refuses)) = (refusal_text r, (j, asks, inl (r, refuses, refl)))
+refusal_answers words input (j, asks, inr (f, accepted, (text, refused))) = (text, (j, asks, inr (f, accepted, refused)))
 
 -- a status is this one exactly where P, if an answer with it is
 module _ (words : List Text) (input : Text) (this : Status) (P : Type 0) (cut_isnt : (s : Status) → s ≡ this → IsAnswered s) (comes : (text : Text) → IsAnswer words input this text → P) (answers : P → (text : Text) × IsAnswer words input this text) where

@@ -1,73 +1,73 @@
 -- Answers and replies: to a text that was read as a file the answers are the replies to the job, and to a first fault its refusal.
-use Rattle.std.proofs.Common.{◌≡◌, ℕ, true, false, List, [], ◌∷◌, Some, None, Option, IfSome, inl, inr, refl, sym, ap, ◌∙◌, subst}
+use Rattle.std.proofs.Common.{◌≡◌, ℕ, List, [], ◌∷◌, Some, None, Option, IfSome, inl, inr, refl, sym, ap, ◌∙◌, subst}
 use Rattle.pks_terms.specs.Jobs.{Job, Check, Plan, Exec, Bench, Recall, Agent, Explain, Derive, Shared, IsInBounds, usage_text}
 use Rattle.pks_terms.specs.Printed.{Text, refusal_text}
 use Rattle.pks_terms.specs.Answers as answers
 use Rattle.pks_terms.specs.Answers.{Place, Reading, ReadAs, Faulty, File, IsAccepted, IsDone, IsTalkRefused, IsUnplanned, refusal, text_for}
 use Rattle.pks_words.specs.JobViews.{modes, IsBuilt, AskFor, AskForOne, AskNoJob}
 use Rattle.pks_file.specs.Inputs.{Reads, IsRead}
-use Rattle.pks_answer.specs.Replies.{IsReply, RepliesTo}
+use Rattle.pks_answer.specs.Replies.{IsReply, IsAbout, RepliesTo}
 use Rattle.pks_answer.specs.declared.reply.Verdict.{Verdict}
 use Rattle.pks_answer.specs.declared.reply.Verdict.TheVariants as verdict_is
-use Rattle.pks_run.specs.Answer.{IsBench, AnswersJob, IsReplied, IsReplyTo, Replies, IsAnswered, IsAnswer, IsAnswerTo, Responds}
+use Rattle.pks_run.specs.Answer.{IsBench, IsDialogue, AnswersJob, IsReplied, IsReplyTo, Replies, IsAnswered, IsAnswer, IsAnswerTo, Responds}
 use Rattle.pks_run.specs.Replied.{status_for}
 use Rattle.pks_run.specs.declared.status.Status.{Status}
 use Rattle.pks_run.specs.declared.status.Status.TheVariants.{Done, NoPlan, Words, Refused, ReadFault, WriteFault, Memory}
 
--- a mode that the program doesn't have
-unbuilt : {A : Type 0} → false ≡ true → A
-unbuilt e = absurd cc
-
 -- ---- the text that a job is about
 
--- a job that isn't about the generated file is about the input
-pub text_is : (j : Job) (input : Text) → IsBuilt j → (IsBench j → ⊥) → text_for j input ≡ input
-text_is Check input built b = refl
-text_is (Plan n) input built b = refl
-text_is (Exec n) input built b = refl
-text_is (Bench n) input built b = absurd (b tt)
-text_is (Recall n) input built b = refl
-text_is (Agent n) input built b = unbuilt built
-text_is (Explain n) input built b = refl
-text_is Derive input built b = refl
-text_is (Shared n) input built b = refl
+-- a job that isn't about the generated file, and is no dialogue, is about the input
+pub text_is : (j : Job) (input : Text) → IsBuilt j → (IsBench j → ⊥) → (IsDialogue j → ⊥) → text_for j input ≡ input
+text_is Check input built b single = refl
+text_is (Plan n) input built b single = refl
+text_is (Exec n) input built b single = refl
+text_is (Bench n) input built b single = absurd (b tt)
+text_is (Recall n) input built b single = refl
+text_is (Agent n) input built b single = absurd (single tt)
+text_is (Explain n) input built b single = refl
+text_is Derive input built b single = refl
+text_is (Shared n) input built b single = refl
 
--- no built job talks
-no_talk : (j : Job) (input : Text) (f : File) (t : Text) → IsBuilt j → IsTalkRefused j input f t → ⊥
-no_talk Check input f t built a = a
-no_talk (Plan n) input f t built a = a
-no_talk (Exec n) input f t built a = a
-no_talk (Bench n) input f t built a = a
-no_talk (Recall n) input f t built a = a
-no_talk (Agent n) input f t built a = unbuilt built
-no_talk (Explain n) input f t built a = a
-no_talk Derive input f t built a = a
-no_talk (Shared n) input f t built a = a
+-- a job about this text alone is no dialogue
+pub about_single : (j : Job) (text : Text) → IsAbout j text → IsDialogue j → ⊥
+about_single Check text about d = d
+about_single (Plan n) text about d = d
+about_single (Exec n) text about d = d
+about_single (Bench n) text about d = d
+about_single (Recall n) text about d = d
+about_single (Agent n) text about d = about
+about_single (Explain n) text about d = d
+about_single Derive text about d = d
+about_single (Shared n) text about d = d
+
+-- only a dialogue talks
+no_talk : (j : Job) (input : Text) (f : File) (t : Text) → (IsDialogue j → ⊥) → IsTalkRefused j input f t → ⊥
+no_talk Check input f t single a = a
+no_talk (Plan n) input f t single a = a
+no_talk (Exec n) input f t single a = a
+no_talk (Bench n) input f t single a = a
+no_talk (Recall n) input f t single a = a
+no_talk (Agent n) input f t single a = absurd (single tt)
+no_talk (Explain n) input f t single a = a
+no_talk Derive input f t single a = a
+no_talk (Shared n) input f t single a = a
 
 -- so what it prints hangs on the file alone
-done_alike : (j : Job) (f : File) (x y t : Text) → IsBuilt j → IsDone j x f t → IsDone j y f t
-done_alike Check f x y t built a = a
-done_alike (Plan n) f x y t built a = a
-done_alike (Exec n) f x y t built a = a
-done_alike (Bench n) f x y t built a = a
-done_alike (Recall n) f x y t built a = a
-done_alike (Agent n) f x y t built a = unbuilt built
-done_alike (Explain n) f x y t built a = a
-done_alike Derive f x y t built a = a
-done_alike (Shared n) f x y t built a = a
+done_alike : (j : Job) (f : File) (x y t : Text) → (IsDialogue j → ⊥) → IsDone j x f t → IsDone j y f t
+done_alike Check f x y t single a = a
+done_alike (Plan n) f x y t single a = a
+done_alike (Exec n) f x y t single a = a
+done_alike (Bench n) f x y t single a = a
+done_alike (Recall n) f x y t single a = a
+done_alike (Agent n) f x y t single a = absurd (single tt)
+done_alike (Explain n) f x y t single a = a
+done_alike Derive f x y t single a = a
+done_alike (Shared n) f x y t single a = a
 
 -- what words ask for is within its bounds
 pub asked_in_bounds : (words : List Text) (j : Job) → AskFor words j → IsInBounds j
 asked_in_bounds [] j asks = absurd asks
 asked_in_bounds (name ∷ words) j (rest, found, are) = are.bounds
-
--- and of a mode that the program has
-asked_built : (words : List Text) (j : Job) → AskFor words j → IsBuilt j
-asked_built [] j asks = absurd asks
-asked_built (name ∷ words) j (rest, found, are) = are.built
-
-pub asked_no_talk : (words : List Text) (j : Job) (input : Text) (f : File) (t : Text) → AskFor words j → IsTalkRefused j input f t → ⊥
-asked_no_talk words j input f t asks a = no_talk j input f t (asked_built words j asks) a
 
 -- ---- answers to a job
 
@@ -87,7 +87,7 @@ module _ (j : Job) (built : IsBuilt j) (input text : Text) (about : text_for j i
   read_there x r = subst (λ t. Reads t x) (sym about) r
 
   -- about a text that reads as this file alone
-  module _ (f : File) (is_read : Reads text (ReadAs f)) (one : (x : Reading) → Reads text x → x ≡ ReadAs f) where
+  module _ (f : File) (is_read : Reads text (ReadAs f)) (one : (x : Reading) → Reads text x → x ≡ ReadAs f) (single : IsDialogue j → ⊥) where
     this_file : (g : File) → Reads (text_for j input) (ReadAs g) → g ≡ f
     this_file g r = ap (file_or f) (one (ReadAs g) (read_here (ReadAs g) r))
 
@@ -99,13 +99,13 @@ module _ (j : Job) (built : IsBuilt j) (input text : Text) (about : text_for j i
     answer_replies : (status : Status) (t : Text) → AnswersJob j input status t → (v : Verdict) × (status ≡ status_for v) × IsReply j f v t
     answer_replies Refused t (inl (r, refuses, e)) =
         (verdict_is.Refused, refl, (r, subst (λ y. answers.RefusesReading Reads j y r) (one refuses.0 (read_here refuses.0 refuses.1)) refuses.2, e))
-    answer_replies Refused t (inr (g, accepted, refused)) = absurd (no_talk j input g t built refused)
+    answer_replies Refused t (inr (g, accepted, refused)) = absurd (no_talk j input g t single refused)
     answer_replies NoPlan t (g, accepted, none) =
         let here : IsAccepted Reads j input f × IsUnplanned j f t = subst (λ (h : File). IsAccepted Reads j input h × IsUnplanned j h t) (this_file g accepted.reads) (accepted, none) in
         (verdict_is.NoPlan, refl, (here.0.fine, here.1))
     answer_replies Done t (g, accepted, done) =
         let here : IsAccepted Reads j input f × IsDone j input f t = subst (λ (h : File). IsAccepted Reads j input h × IsDone j input h t) (this_file g accepted.reads) (accepted, done) in
-        (verdict_is.Done, refl, (here.0.fine, λ other. done_alike j f input other t built here.1))
+        (verdict_is.Done, refl, (here.0.fine, λ other. done_alike j f input other t single here.1))
     answer_replies Words t a = absurd a
     answer_replies ReadFault t a = absurd a
     answer_replies WriteFault t a = absurd a
@@ -171,7 +171,7 @@ answer_kind j input Memory t a = absurd a
 -- ---- answers to words
 
 -- the answer to the job that the words ask for answers the words
-job_answered : (words : List Text) (j : Job) (input : Text) (status : Status) (t : Text) → AskFor words j → AnswersJob j input status t → IsAnswer words input status t
+pub job_answered : (words : List Text) (j : Job) (input : Text) (status : Status) (t : Text) → AskFor words j → AnswersJob j input status t → IsAnswer words input status t
 job_answered words j input Done t asks a = (j, asks, a)
 job_answered words j input NoPlan t asks a = (j, asks, a)
 job_answered words j input Refused t asks a = (j, asks, a)
@@ -181,7 +181,7 @@ job_answered words j input WriteFault t asks a = absurd a
 job_answered words j input Memory t asks a = absurd a
 
 -- and where they ask for no other, what answers them answers it
-answered_job : (words : List Text) (j : Job) (input : Text) (status : Status) (t : Text) → AskForOne words j → IsAnswer words input status t → AnswersJob j input status t
+pub answered_job : (words : List Text) (j : Job) (input : Text) (status : Status) (t : Text) → AskForOne words j → IsAnswer words input status t → AnswersJob j input status t
 answered_job words j input Done t asks (k, asked, a) = subst (λ i. AnswersJob i input Done t) (asks.1 k asked) a
 answered_job words j input NoPlan t asks (k, asked, a) = subst (λ i. AnswersJob i input NoPlan t) (asks.1 k asked) a
 answered_job words j input Refused t asks (k, asked, a) = subst (λ i. AnswersJob i input Refused t) (asks.1 k asked) a

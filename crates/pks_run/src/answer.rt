@@ -30,7 +30,7 @@ fn status_for(verdict: Verdict) -> Status
 }
 
 // The line of a refusal of an input, which says nothing but its place and its code.
-fn refusal_of(alloc: Global, input: &[u8], r: Refusal) -> Result<Vec<u8>, AllocError>
+pub fn refusal_of(alloc: Global, input: &[u8], r: Refusal) -> Result<Vec<u8>, AllocError>
     requires { length input.now ≤ 262144 }
     ensures { IfOk result (λ text. text.items ≡ refusal_text (refusal (line_and_column input.now r.at) r.code [])) }
 {
@@ -43,7 +43,7 @@ pub fn usage(alloc: Global) -> Result<Vec<u8>, AllocError>
     ensures { IfOk result (λ text. text.items ≡ usage_text modes) }
 {
     let text =
-        b"usage: pks check | plan DEPTH | exec DEPTH | bench N | recall DEPTH | derive | shared DEPTH\n".to_vec(
+        b"usage: pks check | plan DEPTH | exec DEPTH | bench N | recall DEPTH | agent DEPTH | derive | shared DEPTH\n".to_vec(
             alloc,
         )?;
     Ok(text)

@@ -10,5 +10,6 @@ are_built (job_is.Plan n) = refl
 are_built (job_is.Exec n) = refl
 are_built (job_is.Bench n) = refl
 are_built (job_is.Recall n) = refl
+are_built (job_is.Agent n) = refl
 are_built job_is.Derive = refl
 are_built (job_is.Shared n) = refl

@@ -17,16 +17,16 @@ unbuilt : {A : Type 0} → false ≡ true → A
 unbuilt e = absurd cc
 
 -- a mode with a number that is none of these
-pub no_mode : (mode : Text) (n : ℕ) → (mode ≡ codes "plan" → ⊥) → (mode ≡ codes "exec" → ⊥) → (mode ≡ codes "bench" → ⊥) → (mode ≡ codes "recall" → ⊥) → (mode ≡ codes "shared" → ⊥) → AreNoWords (mode ∷ decimal n ∷ [])
-no_mode mode n plan exec bench recall shared Check w = let e = w.spelled in cc
-no_mode mode n plan exec bench recall shared (Plan m) w = let e = w.spelled in plan cc
-no_mode mode n plan exec bench recall shared (Exec m) w = let e = w.spelled in exec cc
-no_mode mode n plan exec bench recall shared (Bench m) w = let e = w.spelled in bench cc
-no_mode mode n plan exec bench recall shared (Recall m) w = let e = w.spelled in recall cc
-no_mode mode n plan exec bench recall shared (Agent m) w = unbuilt w.built
-no_mode mode n plan exec bench recall shared (Explain m) w = unbuilt w.built
-no_mode mode n plan exec bench recall shared Derive w = let e = w.spelled in cc
-no_mode mode n plan exec bench recall shared (Shared m) w = let e = w.spelled in shared cc
+pub no_mode : (mode : Text) (n : ℕ) → (mode ≡ codes "plan" → ⊥) → (mode ≡ codes "exec" → ⊥) → (mode ≡ codes "bench" → ⊥) → (mode ≡ codes "recall" → ⊥) → (mode ≡ codes "agent" → ⊥) → (mode ≡ codes "shared" → ⊥) → AreNoWords (mode ∷ decimal n ∷ [])
+no_mode mode n plan exec bench recall agent shared Check w = let e = w.spelled in cc
+no_mode mode n plan exec bench recall agent shared (Plan m) w = let e = w.spelled in plan cc
+no_mode mode n plan exec bench recall agent shared (Exec m) w = let e = w.spelled in exec cc
+no_mode mode n plan exec bench recall agent shared (Bench m) w = let e = w.spelled in bench cc
+no_mode mode n plan exec bench recall agent shared (Recall m) w = let e = w.spelled in recall cc
+no_mode mode n plan exec bench recall agent shared (Agent m) w = let e = w.spelled in agent cc
+no_mode mode n plan exec bench recall agent shared (Explain m) w = unbuilt w.built
+no_mode mode n plan exec bench recall agent shared Derive w = let e = w.spelled in cc
+no_mode mode n plan exec bench recall agent shared (Shared m) w = let e = w.spelled in shared cc
 
 -- a mode without a number
 pub no_bare_job : (mode : Text) → (mode ≡ codes "check" → ⊥) → (mode ≡ codes "derive" → ⊥) → AreNoWords (mode ∷ [])
@@ -35,7 +35,7 @@ no_bare_job mode check derive (Plan m) w = let e = w.spelled in cc
 no_bare_job mode check derive (Exec m) w = let e = w.spelled in cc
 no_bare_job mode check derive (Bench m) w = let e = w.spelled in cc
 no_bare_job mode check derive (Recall m) w = let e = w.spelled in cc
-no_bare_job mode check derive (Agent m) w = unbuilt w.built
+no_bare_job mode check derive (Agent m) w = let e = w.spelled in cc
 no_bare_job mode check derive (Explain m) w = unbuilt w.built
 no_bare_job mode check derive Derive w = let e = w.spelled in derive cc
 no_bare_job mode check derive (Shared m) w = let e = w.spelled in cc

@@ -13,6 +13,8 @@ pub enum Job {
     Bench(u8),
     /// Plan to this depth, from 0 to 16, and tell what each leaf of the plan knows of every moment.
     Recall(u8),
+    /// Plan to this depth, from 0 to 16, and lead a caller through the plan by its answers.
+    Agent(u8),
     /// Read a file, and tell the knowledge effects that follow from the text of its actions.
     Derive,
     /// Plan to this depth, from 0 to 16, and list the plan with its equal parts once.

@@ -2,6 +2,8 @@
 #![tactic(auto)]
 
 #[cfg(test)]
+mod dialogues;
+#[cfg(test)]
 mod limits;
 #[cfg(test)]
 mod runs;

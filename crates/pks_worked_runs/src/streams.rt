@@ -26,7 +26,7 @@ const TURN: &str = "(pks 1)
 ";
 
 const USAGE: &str =
-    "usage: pks check | plan DEPTH | exec DEPTH | bench N | recall DEPTH | derive | shared DEPTH\n";
+    "usage: pks check | plan DEPTH | exec DEPTH | bench N | recall DEPTH | agent DEPTH | derive | shared DEPTH\n";
 
 /// A mode, its number if there is one, a file, and the whole answer.
 #[derive(Clone, Copy)]
