@@ -132,6 +132,9 @@ fn led_until(
     piece: u32,
     failing: u32,
 ) -> Result<(Status, Vec<u8>), AllocError> {
+    if piece == 0 {
+        return Err(AllocError);
+    }
     let words = words_of(alloc, "agent", "2")?;
     let bytes = input.as_bytes().to_vec(alloc)?;
     let mut source = MemSource::new(bytes, piece, [failing].to_vec(alloc)?);
@@ -145,7 +148,9 @@ fn led_until(
 fn is_asked_first(alloc: Global, file: &str) -> Result<bool, AllocError> {
     let mut input = String::from_str(alloc, file)?;
     input.push_str(".\n")?;
-    let piece = input.len() as u32;
+    let Ok(piece) = u32::try_from(input.len()) else {
+        return Ok(false);
+    };
     input.push_str("c3\n")?;
     let (status, written) = led_until(alloc, input.as_str(), piece, 2)?;
     Ok(
