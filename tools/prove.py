@@ -5,6 +5,7 @@
 
 `rt lib` and `rt run` take one crate after another. This hands the same builds to the scheduler of `rt ci`: a crate is proved
 once those below it are, as many at a time as there are processors and memory, first those with the longest chain above them.
+No number of processors shortens a chain of crates, so each crate on a long one is proved by several processes at once.
 What is proved stays where rt keeps it, so that `rt run` has the program itself left to do. The first fault ends it.
 """
 
@@ -19,7 +20,18 @@ from importlib.machinery import SourceFileLoader
 from importlib.util import module_from_spec, spec_from_loader
 
 # What this takes of rt.
-NEEDED = ("in_lanes", "need", "rtlib", "share_work")
+NEEDED = ("free", "in_lanes", "need", "processors", "rtlib", "share_work")
+
+# What the slow crates take, and what each other one is taken for, in processor seconds: for the order alone.
+SECONDS = {
+    "pks_agent": 250, "pks_answer": 200, "pks_branch": 200, "pks_closing": 450, "pks_domain": 240, "pks_lines": 330, "pks_plan": 180,
+    "pks_pmap": 330, "pks_postdict": 160, "pks_progress": 270, "pks_proof": 440, "pks_replay": 300, "pks_run": 200, "pks_stated": 340,
+    "pks_step_rules": 190,
+}
+SECONDS_OF_OTHERS = 90
+
+# A chain is long from this part of the longest one on; so many processes then prove one of its crates.
+LONG, JOBS_ON_CHAIN = 0.99, 3
 
 # The look for faults goes before all proofs.
 LINES_OF_LOOK = 1_000_000
@@ -48,6 +60,11 @@ def end_unless(status, said):
         os._exit(status if 0 < status < 128 else 1)
 
 
+def seconds(crate):
+    """About what the crate's proofs take, in processor seconds."""
+    return SECONDS.get(crate.name, SECONDS_OF_OTHERS)
+
+
 class Proofs:
     """The proofs of the libraries below a program."""
 
@@ -56,6 +73,24 @@ class Proofs:
         self.program = rt.rtlib.Crate(folder, rt.rtlib.root_above(folder), {})
         self.left = [it for it in self.program.below() if not it.is_built()]
         self.begun, self.done, self.turn = itertools.count(1), itertools.count(1), threading.Lock()
+        self.on_chain = self.names_on_long_chains()
+
+    def names_on_long_chains(self):
+        """The names of the crates on the longest ways up to the program, by the seconds that they take."""
+        up, down = {}, {}
+        for crate in self.left:
+            up[crate.name] = seconds(crate) + max((up.get(it.name, 0) for it in crate.below()), default=0)
+        for crate in reversed(self.left):
+            above = (down[it.name] for it in self.left if it.name in down and crate in it.below())
+            down[crate.name] = seconds(crate) + max(above, default=0)
+        longest = max(up.values(), default=0)
+        return {it.name for it in self.left if up[it.name] + down[it.name] - seconds(it) >= LONG * longest}
+
+    def jobs_of(self, crate, jobs):
+        """How many processes prove the crate, which the scheduler gives so many processors."""
+        if crate.name not in self.on_chain or 4 * self.rt.need(crate) > self.rt.free():
+            return jobs
+        return max(jobs, min(JOBS_ON_CHAIN, self.rt.processors()))
 
     def tell(self, number, what, crate):
         with self.turn:
@@ -64,7 +99,7 @@ class Proofs:
     def prove(self, crate, jobs):
         self.tell(self.begun, "proving", crate)
         with tempfile.TemporaryFile("w+", errors="replace") as crate.out:
-            status = crate.build_rlib(["--jobs", str(jobs)], anew=False)
+            status = crate.build_rlib(["--jobs", str(self.jobs_of(crate, jobs))], anew=False)
             end_unless(status, crate.out)
         self.tell(self.done, "proved", crate)
 
@@ -74,13 +109,13 @@ class Proofs:
             end_unless(self.program.front_end(), self.program.out)
 
     def tasks(self):
-        """For the scheduler: what each step waits for, its lines, its memory, and the call that does it."""
+        """For the scheduler: what each step waits for, its work, its memory, and the call that does it."""
         look = [], LINES_OF_LOOK, MEMORY_OF_LOOK, lambda given, jobs: self.look_for_faults()
         tasks = {(self.program.name, "proof"): look}
         for crate in self.left:
             waits = [(it.name, "proof") for it in crate.below() if it in self.left]
             call = lambda given, jobs, crate=crate: self.prove(crate, jobs)
-            tasks[crate.name, "proof"] = waits, crate.count(rb"\n"), self.rt.need(crate), call
+            tasks[crate.name, "proof"] = waits, seconds(crate), self.rt.need(crate), call
         return tasks
 
     def run(self):

@@ -7,11 +7,6 @@ use Rattle.pks_terms.specs.Problems.{Problem, initial}
 use Rattle.pks_terms.specs.Jobs.{Job, Check, Plan, Exec, Bench, Recall, Agent, Explain, Derive, Shared}
 use Rattle.pks_terms.specs.Printed as printed
 use Rattle.pks_terms.specs.Answers.{Stated, NoWorld, BadWorld, GivenWorld, File, refusal, unjustified, RefusesAdd, RefusesStart, RefusesWorld, RefusesRun, RefusesFor, NoneApplies, RefusesFile}
-use Rattle.pks_terms.specs.Views.{literal_of}
-use Rattle.pks_terms.specs.declared.literal.Literal.{Literal as CodeLiteral}
-use Rattle.pks_closing.specs.Closing.{IfClash}
-use Rattle.pks_closing.specs.declared.closing.CloseEnd.{CloseEnd}
-use Rattle.pks_closing.specs.declared.closing.CloseEnd.TheVariants as end_is
 use Rattle.pks_grammar.specs.declared.report.Extra.{Extra}
 use Rattle.pks_grammar.specs.declared.report.Refusal.{Refusal}
 use Rattle.pks_grammar.specs.declared.report.Turned.{Turned}
@@ -85,10 +80,9 @@ world_refuses j f d e begins refused =
     refused_as f (RefusesFor j (file_of f)) (RefusesFile j (file_of f)) e (λ r a. inr (no_add (file_of f) begins.justified, inr (no_clash (file_of f) d begins, a))) refused
 
 -- first databases that clash
-pub clash_refuses : (f : InputFile) (end : CloseEnd) (l : CodeLiteral) (r : Refusal) → unjustified (file_of f).problem ≡ [] → end ≡ end_is.Clash l
-    → IfClash (λ l. Closes (file_of f).problem.signature (initial (file_of f).problem) (Clash (literal_of l))) end → printed_of f r ≡ refusal (file_of f).init_at 270 [] → RefusesFirst (file_of f) (printed_of f r)
-clash_refuses f end l r none is clashes says =
-    inr (no_add (file_of f) none, (literal_of l, subst (IfClash (λ l. Closes (file_of f).problem.signature (initial (file_of f).problem) (Clash (literal_of l)))) is clashes, says))
+pub clash_refuses : (f : InputFile) (r : Refusal) → unjustified (file_of f).problem ≡ [] → ((l : Literal) × Closes (file_of f).problem.signature (initial (file_of f).problem) (Clash l))
+    → printed_of f r ≡ refusal (file_of f).init_at 270 [] → RefusesFirst (file_of f) (printed_of f r)
+clash_refuses f r none clashes says = inr (no_add (file_of f) none, (clashes.0, clashes.1, says))
 
 -- ---- the world of a file
 

@@ -9,7 +9,6 @@ ghost use Rattle.pks_words.specs.JobViews.{job_of};
 ghost use Rattle.pks_file.specs.Views.{file_of, IsWhole};
 ghost use Rattle.pks_answer.specs.Accepting.{printed_of, IfRefused, RefusesFirst, RefusesAnyRun, Begins, IsFaultless, IsUnbroken, IsFit, IsRunIn, Accepts};
 
-use pks_closing::closing::CloseEnd;
 use pks_exec::compatible;
 use pks_file::{InputFile, add_at, init_at, problem_at, stated_world, world_at};
 use pks_justify::{Unjustified, justify};
@@ -76,10 +75,10 @@ fn begin(alloc: Global, f: &InputFile<'_>) -> Result<Db, Turned>
 {
     match justify(&f.problem) {
         Err(first) => Err(Turned::Refused(unjustified(f, first))),
-        Ok(()) => match Db::first(alloc, &f.problem) {
-            Ok(db) => Ok(db),
-            Err(CloseEnd::Clash(_)) => Err(Turned::Refused(clash(f))),
-            Err(CloseEnd::Memory) => Err(Turned::Memory),
+        Ok(()) => match Db::first_unless_clash(alloc, &f.problem) {
+            Ok(Some(db)) => Ok(db),
+            Ok(None) => Err(Turned::Refused(clash(f))),
+            Err(_error) => Err(Turned::Memory),
         },
     }
 }

@@ -178,7 +178,7 @@ module _ (p : Problem) where
   -- ---- runs
 
   -- a choice may be done
-  may_do : (h : History) (v : World) (i : Instance) → MayBeAt p h v → IsIn i (instances p (last_moment h)) → MayBeDone p v (grounded v i)
+  pub may_do : (h : History) (v : World) (i : Instance) → MayBeAt p h v → IsIn i (instances p (last_moment h)) → MayBeDone p v (grounded v i)
   may_do h v i m member =
       let t = last_true h v m in
       let a = allowed_instance p (last_moment h) i member in

@@ -12,6 +12,8 @@ ghost use Rattle.pks_terms.specs.Views.{literals_in, conj_of, term_of, terms_of,
 ghost use Rattle.pks_terms.specs.Moments.{IsMomentOf};
 ghost use Rattle.pks_laws.specs.OfSignature.{IsSideOf};
 ghost use Rattle.pks_kw.specs.Formulas.{formulas_of};
+ghost use Rattle.pks_kx.specs.Groups.{groups_of};
+ghost use Rattle.pks_lcw.specs.Entries.{entries_of};
 ghost use Rattle.pks_normal.specs.Fives.{five_of};
 ghost use Rattle.pks_query.specs.Steps.{outcome_of, IfNext, IsNextWith};
 ghost use Rattle.pks_branch.specs.ChoiceViews.{choice_of, side_of};
@@ -20,6 +22,8 @@ use crate::choosing::Choice;
 use pks_closing::closing::CloseEnd;
 use pks_kv::Kv;
 use pks_kw::Kw;
+use pks_kx::Kx;
+use pks_lcw::Lcw;
 use pks_normal::five::Five;
 use pks_query::databases::{Db, Step};
 use pks_terms::ids::ObjId;
@@ -145,6 +149,18 @@ fn with_false(alloc: Global, s: &Signature, d: &Db, c: &Conj) -> Result<Five, Al
     Ok(next)
 }
 
+/// The formulas, groups and regions, which a value leaves as they are.
+fn beside_values(five: &Five) -> Result<(Kw, Kx, Lcw), AllocError>
+    ensures formulas { IfOk result (λ sets. formulas_of sets.0 ≡ formulas_of five.now.kw) }
+    ensures groups { IfOk result (λ sets. groups_of sets.1 ≡ groups_of five.now.kx) }
+    ensures regions { IfOk result (λ sets. entries_of sets.2 ≡ entries_of five.now.lcw) }
+{
+    let kw = five.kw.share()?;
+    let kx = five.kx.share()?;
+    let lcw = five.lcw.share()?;
+    Ok((kw, kx, lcw))
+}
+
 /// The five with the object as the value of the term.
 #[tactic(auto, unfolding(pks_terms::specs::Branching::assumed))]
 fn with_value(alloc: Global, s: &Signature, d: &Db, t: &Term, e: ObjId) -> Result<Five, AllocError>
@@ -154,9 +170,7 @@ fn with_value(alloc: Global, s: &Signature, d: &Db, t: &Term, e: ObjId) -> Resul
     let five = d.parts();
     let kf = five.kf.add(alloc, equation(t, &Term::Obj(e), true))?;
     let kv = other_values(alloc, &five.kv, t)?;
-    let kw = five.kw.share()?;
-    let kx = five.kx.share()?;
-    let lcw = five.lcw.share()?;
+    let (kw, kx, lcw) = beside_values(five)?;
     Ok(Five {
         kf,
         kw,

@@ -4,3 +4,5 @@ pub mod Members
 pub mod Alike
 pub mod LastRounds
 pub mod Truth
+pub mod Growing
+pub mod Apart

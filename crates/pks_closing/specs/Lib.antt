@@ -2,3 +2,4 @@ pub mod Reading
 pub mod Possible
 pub mod Rounds
 pub mod Closing
+pub mod Working

@@ -11,10 +11,12 @@ ghost use Rattle.pks_terms.specs.Views.{literal_of, signature_of};
 ghost use Rattle.pks_terms.specs.Moments.{AreInOrder, IsMomentOf};
 ghost use Rattle.pks_normal.specs.Fives.{five_of};
 ghost use Rattle.pks_closing.specs.Closing.{IfClash};
+ghost use Rattle.pks_closing.specs.Working.{EndsWith};
 ghost use Rattle.pks_closing.specs.declared.closing.CloseEnd.TheVariants.{Memory};
 
 use crate::rounds::last_round;
 use crate::tidied::tidied;
+use crate::working::worked;
 use pks_derived::derived::Derived;
 use pks_normal::five::Five;
 use pks_terms::literal::Literal;
@@ -70,4 +72,28 @@ pub fn close(alloc: Global, s: &Signature, five: Five) -> Result<Derived, CloseE
             Ok(d)
         }
     }
+}
+
+/// The databases closed, or `None` where there is a clash, which isn't named: it is seen where two values of one place, or
+/// a value and its denial, come to be known. It asks for at most 65,536 objects, and for an object of each function's
+/// result type. The error is want of memory.
+pub fn close_unless_clash(
+    alloc: Global,
+    s: &Signature,
+    five: Five,
+) -> Result<Option<Derived>, AllocError>
+    requires few { length s.now.objects ≤ 65536 }
+    requires values { HasValues (signature_of s.now) }
+    ensures { IfOk result (λ o. EndsWith (Closes (signature_of s.now) (five_of five)) o) }
+{
+    let _start = five.kf.len();
+    let Some(last) = worked(alloc, s, five)? else {
+        return Ok(None);
+    };
+    let _known = last.five().kf.len();
+    if first_clash(s, &last).is_some() {
+        return Ok(None);
+    }
+    let d = tidied(alloc, last)?;
+    Ok(Some(d))
 }

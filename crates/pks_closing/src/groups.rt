@@ -93,9 +93,9 @@ fn put_by_member(
     Ok(())
 }
 
-/// Puts what the rules give of a group after the others.
+/// Puts what the rules give of a group after the others. The one error is want of memory.
 #[tactic(auto, unfolding(pks_terms::specs::Closure::by_group))]
-fn put_by_group(
+pub(crate) fn put_by_group(
     to: &mut Vec<Literal>,
     s: &Signature,
     d: &Derived,

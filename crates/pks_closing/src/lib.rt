@@ -1,10 +1,14 @@
-//! Closing of databases by rounds.
+//! Closing of databases by rounds, and between these by a work list.
 #![tactic(auto)]
 
+mod clashing;
 pub mod closing;
 pub mod forms;
 pub mod groups;
 pub mod ranges;
 pub mod rounds;
+mod spreading;
 pub mod steps;
 pub mod tidied;
+mod uses;
+mod working;

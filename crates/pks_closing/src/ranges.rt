@@ -3,14 +3,14 @@ ghost use Rattle.std.specs.Prelude.{◌≡◌, ℕ, ◌<◌, ◌≤◌, ◌+◌,
 ghost use Rattle.std.specs.List.{flat_map, list_all, filter};
 ghost use Rattle.pks_terms.specs.Syntax.{object, place};
 ghost use Rattle.pks_terms.specs.Sets.{set_of};
-ghost use Rattle.pks_terms.specs.Databases.{holds};
+ghost use Rattle.pks_terms.specs.Databases.{normal, holds};
 ghost use Rattle.pks_terms.specs.Orders.{inequation, term_cmp};
 ghost use Rattle.pks_terms.specs.Closure.{is_last_left, by_range, applications_in, is_application};
 ghost use Rattle.pks_terms.specs.Views.{object_of, inner_of, term_of, terms_of, literal_of, sides_of, signature_of};
 ghost use Rattle.pks_kf.specs.Known.{literals_of};
 ghost use Rattle.pks_normal.specs.Fives.{five_of};
 ghost use Rattle.pks_closing.specs.Reading.{value_is, argument_term, occurring};
-ghost use Rattle.pks_closing.specs.Possible.{may_be};
+ghost use Rattle.pks_closing.specs.Possible.{may_be, IsOther};
 
 use pks_derived::derived::Derived;
 use pks_derived::ranges::range_of;
@@ -69,11 +69,40 @@ impl Remaining {
     }
 }
 
+/// Whether the normal form is an object, and another one.
+fn is_other(form: &Term, o: ObjId) -> bool
+    ensures { IsTrue result → IsOther (term_of form.now) o.0 }
+{
+    match form {
+        Term::Obj(d) => *d != o,
+        Term::Param(_) | Term::App { .. } => false,
+    }
+}
+
+/// Whether the object is shut out as the value of `t`, whose normal form is handed in.
+fn is_shut_out(s: &Signature, d: &Derived, t: &Term, form: &Term, o: ObjId) -> bool
+    requires { term_of form.now ≡ normal (literals_of d.now.kf) (term_of t.now) }
+    ensures { result ≡ holds (signature_of s.now) (five_of d.now) (inequation (term_of t.now) (object o.0)) }
+{
+    if is_other(form, o) {
+        return true;
+    }
+    d.holds(s, &equation(t, &Term::Obj(o), false))
+}
+
 /// Which objects are left when one more is looked at: all that were left, and it too unless it is shut out.
-fn left_with(s: &Signature, d: &Derived, t: &Term, left: Remaining, o: ObjId) -> Remaining
+fn left_with(
+    s: &Signature,
+    d: &Derived,
+    t: &Term,
+    form: &Term,
+    left: Remaining,
+    o: ObjId,
+) -> Remaining
+    requires { term_of form.now ≡ normal (literals_of d.now.kf) (term_of t.now) }
     ensures { (e : ℕ) → may_be result e ≡ (((o.0 == e) || holds (signature_of s.now) (five_of d.now) (inequation (term_of t.now) (object o.0))) && may_be left e) }
 {
-    if d.holds(s, &equation(t, &Term::Obj(o), false)) {
+    if is_shut_out(s, d, t, form, o) {
         return left;
     }
     left.with(o)
@@ -83,9 +112,10 @@ fn left_with(s: &Signature, d: &Derived, t: &Term, left: Remaining, o: ObjId) ->
 fn left(s: &Signature, d: &Derived, t: &Term, objects: &[ObjId]) -> Remaining
     ensures { (e : ℕ) → may_be result e ≡ is_last_left (signature_of s.now) (five_of d.now) (term_of t.now) (map object_of objects.now) e }
 {
+    let form = d.normals().normal(t);
     let mut left = Remaining::Nothing;
     for o in objects {
-        left = left_with(s, d, t, left, *o);
+        left = left_with(s, d, t, &form, left, *o);
         if left.is_more() {
             return left;
         }

@@ -54,8 +54,12 @@ fn known_after(alloc: Global, s: &Signature, d: &Derived) -> Result<Kf, AllocErr
     Ok(kf)
 }
 
-/// The five after one more round, or `None` where a round changes nothing.
-fn next_round(alloc: Global, s: &Signature, d: &Derived) -> Result<Option<Five>, AllocError>
+/// The five after one more round, or `None` where a round changes nothing. It asks for at most 65,536 objects.
+pub(crate) fn next_round(
+    alloc: Global,
+    s: &Signature,
+    d: &Derived,
+) -> Result<Option<Five>, AllocError>
     requires { length s.now.objects ≤ 65536 }
     ensures { IfOk result (λ o. IsNextRound (signature_of s.now) d.now o) }
 {

@@ -23,7 +23,7 @@ same_reversed Less = refl
 same_reversed Equal = refl
 same_reversed Greater = refl
 
-eq_turned : (l k : Literal) → is_eq (literal_cmp l k) ≡ literal_eq k l
+pub eq_turned : (l k : Literal) → is_eq (literal_cmp l k) ≡ literal_eq k l
 unfolding literal_eq
 eq_turned l k = ap is_eq (literal_cmp_total.antisymm l k) ∙ same_reversed (literal_cmp k l)
 

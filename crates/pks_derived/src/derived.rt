@@ -1,10 +1,11 @@
 //! Looking up literals. `docs/RULES.md` has the rule.
-ghost use Rattle.std.specs.Prelude.{◌≡◌, ◌||◌, List, [], ◌∷◌, map, Some, None, take, IfOk, IsTrue, false};
+ghost use Rattle.std.specs.Prelude.{◌≡◌, ◌||◌, List, [], ◌∷◌, map, Some, None, is_some, take, IfOk, IsTrue, false};
 ghost use Rattle.std.specs.Option.{option_map};
 ghost use Rattle.std.specs.List.{list_any, list_all};
 ghost use Rattle.pks_terms.specs.Syntax.{Equality, negated};
-ghost use Rattle.pks_terms.specs.Databases.{normal, is_known, is_evident, is_plain, differ, some_differ, fits, is_shut_out, is_closed_off, holds};
-ghost use Rattle.pks_terms.specs.Orders.{inequation};
+ghost use Rattle.pks_terms.specs.Databases.{told, normal, is_known, is_evident, is_plain, differ, some_differ, fits, is_shut_out, is_closed_off, holds};
+ghost use Rattle.pks_terms.specs.Orders.{inequation, literal_cmp};
+ghost use Rattle.pks_terms.specs.Sets.{insert_in};
 ghost use Rattle.pks_terms.specs.Views.{object_of, term_of, terms_of, literal_of, literals_in, atom_of, arguments_in, places_of, relation_of, signature_of};
 ghost use Rattle.pks_kf.specs.Known.{literals_of};
 ghost use Rattle.pks_lcw.specs.Entries.{atoms_of, entry_of, entries_of};
@@ -17,6 +18,7 @@ use crate::ranges::is_foreign;
 use pks_kf::Kf;
 use pks_lcw::{AtomSet, Entry};
 use pks_normal::five::Five;
+use pks_normal::literals::gives_value;
 use pks_normal::normals::Normals;
 use pks_terms::literal::{Arguments, Atom, Literal, PredAtom, equation};
 use pks_terms::problem::Signature;
@@ -43,17 +45,8 @@ impl Model for Derived {
     ghost invariant = { λ d. AreForms (literals_of d.normals.kf) (literals_of d.forms) };
 }
 
-/// Of the normal forms of the terms of an atom: the same on both sides of an equation; or, on those of a negated one, two
-/// different objects, or an application and an object that is not one of its result type.
-fn is_evident(s: &Signature, atom: &Atom, terms: &[Term], positive: bool) -> bool
-    ensures { result ≡ is_evident (signature_of s.now) (relation_of atom.now) (terms_of terms.now) positive }
-{
-    match atom {
-        Atom::Pred(_) => false,
-        Atom::Eq { .. } => are_evident(s, terms, positive),
-    }
-}
-
+/// Of the normal forms of the terms of an equation: the same on both sides; or, on those of a negated one, two different
+/// objects, or an application and an object that is not one of its result type.
 fn are_evident(s: &Signature, terms: &[Term], positive: bool) -> bool
     ensures { result ≡ is_evident (signature_of s.now) Equality (terms_of terms.now) positive }
 {
@@ -127,6 +120,41 @@ impl Derived {
         Ok(Derived { normals, forms })
     }
 
+    /// The databases with one more known literal.
+    fn five_with(&self, alloc: Global, l: &Literal) -> Result<Five, AllocError>
+        ensures { IfOk result (λ five. five_of five ≡ record (five_of self.now) { kf = insert_in literal_cmp (literal_of l.now) (literals_of self.now.kf) }) }
+    {
+        let five = self.five();
+        let kf = five.kf.add(alloc, *l)?;
+        let next = five.with_known(kf)?;
+        Ok(next)
+    }
+
+    /// Reads the databases with one more known literal, which gives no value at a place. What was read of these is shared.
+    fn with_plain(&self, alloc: Global, l: &Literal, five: Five) -> Result<Derived, AllocError>
+        requires none { is_some (told (literal_of l.now).relation (literal_of l.now).arguments (literal_of l.now).positive) ≡ false }
+        requires five { five_of five ≡ record (five_of self.now) { kf = insert_in literal_cmp (literal_of l.now) (literals_of self.now.kf) } }
+        ensures { IfOk result (λ d. d ≡ five) }
+    {
+        let forms = self.forms.add(alloc, self.normals.normal_literal(l))?;
+        let normals = self.normals.beside(five)?;
+        Ok(Derived { normals, forms })
+    }
+
+    /// Reads the databases with one more known literal. Where this gives no value at a place, what was read of these is
+    /// shared, and it takes no longer than to put two literals in; else all are read again. The error is want of memory.
+    pub fn with(&self, alloc: Global, l: &Literal) -> Result<Derived, AllocError>
+        ensures { IfOk result (λ d. five_of d ≡ record (five_of self.now) { kf = insert_in literal_cmp (literal_of l.now) (literals_of self.now.kf) }) }
+    {
+        let five = self.five_with(alloc, l)?;
+        if gives_value(l) {
+            let next = Derived::of(alloc, five)?;
+            return Ok(next);
+        }
+        let next = self.with_plain(alloc, l, five)?;
+        Ok(next)
+    }
+
     /// Lends the databases. It takes no memory.
     pub fn five(&self) -> &Five
         ensures { result.now ≡ self.now }
@@ -161,8 +189,13 @@ impl Derived {
     fn is_evident(&self, s: &Signature, l: &Literal) -> bool
         ensures { result ≡ is_evident (signature_of s.now) (literal_of l.now).relation (map (normal (literals_of self.now.kf)) (literal_of l.now).arguments) (literal_of l.now).positive }
     {
-        let arguments = self.normals.normal_arguments(&l.atom.arguments());
-        is_evident(s, &l.atom, arguments.terms(), l.positive)
+        match &l.atom {
+            Atom::Pred(_) => false,
+            Atom::Eq { .. } => {
+                let arguments = self.normals.normal_arguments(&l.atom.arguments());
+                are_evident(s, arguments.terms(), l.positive)
+            }
+        }
     }
 
     /// Whether the literal is known up to normal form, or evident from the normal forms of its terms. It takes no memory.
@@ -170,7 +203,7 @@ impl Derived {
     pub fn is_plain(&self, s: &Signature, l: &Literal) -> bool
         ensures { result ≡ is_plain (signature_of s.now) (literals_of self.now.kf) (literal_of l.now) }
     {
-        self.is_known(l) || self.is_evident(s, l)
+        self.is_evident(s, l) || self.is_known(l)
     }
 
     /// Whether the two terms are different: whether their inequation holds. It takes no memory.

@@ -224,17 +224,35 @@ fn regions(alloc: Global, kf: &Kf, init: &[InitItem]) -> Result<Lcw, AllocError>
     Ok(set)
 }
 
+/// The known literals, and the regions with those atoms listed.
+fn known_and_regions(alloc: Global, init: &[InitItem]) -> Result<(Kf, Lcw), AllocError>
+    ensures known { IfOk result (λ sets. literals_of sets.0 ≡ set_of literal_cmp (filter_map known_start (starts_of init.now))) }
+    ensures regions { IfOk result (λ sets. entries_of sets.1 ≡ set_of entry_cmp (map (initial_entry (set_of literal_cmp (filter_map known_start (starts_of init.now)))) (filter_map region_start (starts_of init.now)))) }
+{
+    let kf = known(alloc, init)?;
+    let lcw = regions(alloc, &kf, init)?;
+    Ok((kf, lcw))
+}
+
+/// The formulas that are known to be true or false, and the terms whose values are known.
+fn whether_and_values(alloc: Global, init: &[InitItem]) -> Result<(Kw, Kv), AllocError>
+    ensures whether { IfOk result (λ sets. formulas_of sets.0 ≡ set_of conj_cmp (filter_map whether_start (starts_of init.now))) }
+    ensures values { IfOk result (λ sets. terms_of sets.1 ≡ set_of term_cmp (filter_map value_start (starts_of init.now))) }
+{
+    let kw = whether(alloc, init)?;
+    let kv = values(alloc, init)?;
+    Ok((kw, kv))
+}
+
 /// The databases of the problem's initial items, not closed. The error is want of memory.
 #[tactic(auto, unfolding(pks_terms::specs::Problems::initial))]
 pub fn initial(alloc: Global, p: &Problem) -> Result<Five, AllocError>
     ensures { IfOk result (λ d. five_of d ≡ initial (problem_of p.now)) }
 {
     let init = p.init.as_slice();
-    let kf = known(alloc, init)?;
-    let kw = whether(alloc, init)?;
-    let kv = values(alloc, init)?;
+    let (kf, lcw) = known_and_regions(alloc, init)?;
+    let (kw, kv) = whether_and_values(alloc, init)?;
     let kx = groups(alloc, init)?;
-    let lcw = regions(alloc, &kf, init)?;
     Ok(Five {
         kf,
         kw,

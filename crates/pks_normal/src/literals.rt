@@ -1,12 +1,22 @@
-//! Normal forms of literals, formulas and groups.
-ghost use Rattle.std.specs.Prelude.{◌≡◌, List, [], ◌∷◌, ◌++◌, map, IfOk};
-ghost use Rattle.pks_terms.specs.Databases.{normal_literal};
-ghost use Rattle.pks_terms.specs.Closure.{normal_conj, normal_group};
-ghost use Rattle.pks_terms.specs.Views.{literal_of, literals_in, conj_of};
+//! Normal forms of literals, and those that give values. `docs/RULES.md` has the rule.
+ghost use Rattle.std.specs.Prelude.{◌≡◌, is_some};
+ghost use Rattle.pks_terms.specs.Databases.{told, normal_literal};
+ghost use Rattle.pks_terms.specs.Views.{literal_of};
 ghost use Rattle.pks_kf.specs.Known.{literals_of};
 
 use crate::normals::Normals;
+use crate::table::told;
 use pks_terms::literal::Literal;
+
+/// Whether the literal gives the value at a place. It takes no memory.
+pub fn gives_value(l: &Literal) -> bool
+    ensures { result ≡ is_some (told (literal_of l.now).relation (literal_of l.now).arguments (literal_of l.now).positive) }
+{
+    match told(l) {
+        Some(_) => true,
+        None => false,
+    }
+}
 
 impl Normals {
     /// The normal form of a literal, the sides of an equation in order. It takes no memory.

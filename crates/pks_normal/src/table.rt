@@ -33,7 +33,7 @@ fn key(fun: FnId, n: u8, args: &[ObjId; 2]) -> Inner
 
 /// The place and the value of a literal that gives one.
 #[tactic(auto, unfolding(pks_terms::specs::Databases::told))]
-fn told(l: &Literal) -> Option<(Inner, ObjId)>
+pub(crate) fn told(l: &Literal) -> Option<(Inner, ObjId)>
     ensures told { option_map told_of result ≡ told (literal_of l.now).relation (literal_of l.now).arguments (literal_of l.now).positive }
     ensures key { IfSome result (λ p. IsKey p.0) }
 {

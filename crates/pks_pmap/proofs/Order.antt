@@ -41,6 +41,13 @@ module _ {K V : Type 0} (R : K → K → Ordering) where
   pub regroup : (x : List (K × V)) (j : K × V) (y : List (K × V)) (k : K × V) (z : List (K × V)) → (x ++ j ∷ y) ++ k ∷ z ≡ x ++ j ∷ (y ++ k ∷ z)
   regroup x j y k z = append_assoc x (j ∷ y) (k ∷ z)
 
+  -- those below a rotation of the middle to the top: of the left side's right one, and of the right side's left one
+  pub regroup_left : (x : List (K × V)) (j : K × V) (y : List (K × V)) (k : K × V) (z : List (K × V)) (l : K × V) (u : List (K × V)) → (x ++ j ∷ (y ++ k ∷ z)) ++ l ∷ u ≡ (x ++ j ∷ y) ++ k ∷ (z ++ l ∷ u)
+  regroup_left x j y k z l u = ap (λ v. v ++ l ∷ u) (sym (regroup x j y k z)) ∙ regroup (x ++ j ∷ y) k z l u
+
+  pub regroup_right : (x : List (K × V)) (j : K × V) (y : List (K × V)) (k : K × V) (z : List (K × V)) (l : K × V) (u : List (K × V)) → x ++ j ∷ ((y ++ k ∷ z) ++ l ∷ u) ≡ (x ++ j ∷ y) ++ k ∷ (z ++ l ∷ u)
+  regroup_right x j y k z l u = ap (λ v. x ++ j ∷ v) (regroup y k z l u) ∙ sym (regroup x j y k (z ++ l ∷ u))
+
   pub ascending_inner_right : (x : List (K × V)) (j : K × V) (y : List (K × V)) (k : K × V) (z : List (K × V)) → IsAscending R ((x ++ j ∷ y) ++ k ∷ z) → IsAscending R (y ++ k ∷ z)
   ascending_inner_right x j y k z a = (ascending_back x (j ∷ (y ++ k ∷ z)) (subst (IsAscending R) (regroup x j y k z) a)).1
 

@@ -180,6 +180,43 @@ impl<K: Ord + Drop, V: Drop> Tree<K, V> {
         })
     }
 
+    // The pair after a left side that is shared.
+    fn make_after(
+        alloc: Global,
+        left: &Tree<K, V>,
+        pair: Rc<(K, V)>,
+        right: Tree<K, V>,
+        steps: &mut Steps,
+    ) -> Result<Tree<K, V>, AllocError>
+        requires ascending { IsAscending K.cmp (left.now.0 ++ pair.value ∷ right.0) }
+        requires balanced { DifferByAtMost 1 left.now.1 right.1 }
+        ensures made { IfOk result (λ t. t ≡ (left.now.0 ++ pair.value ∷ right.0, max left.now.1 right.1 + 1)) }
+        ensures at_most { steps.new.made ≤ steps.old.made + (if is_ok result then 1 else 0) }
+        ensures later { steps.old.made ≤ steps.new.made }
+    {
+        let left = left.share()?;
+        Tree::make(alloc, left, pair, right, steps)
+    }
+
+    // The pair before a right side that is shared.
+    fn make_before(
+        alloc: Global,
+        left: Tree<K, V>,
+        pair: Rc<(K, V)>,
+        right: &Tree<K, V>,
+        steps: &mut Steps,
+    ) -> Result<Tree<K, V>, AllocError>
+        requires ascending { IsAscending K.cmp (left.0 ++ pair.value ∷ right.now.0) }
+        requires balanced { DifferByAtMost 1 left.1 right.now.1 }
+        ensures made { IfOk result (λ t. t ≡ (left.0 ++ pair.value ∷ right.now.0, max left.1 right.now.1 + 1)) }
+        ensures raised { OnOk result (steps.new.made ≡ raised steps.old.made) }
+        ensures at_most { steps.new.made ≤ steps.old.made + (if is_ok result then 1 else 0) }
+        ensures later { steps.old.made ≤ steps.new.made }
+    {
+        let right = right.share()?;
+        Tree::make(alloc, left, pair, right, steps)
+    }
+
     // A tree of two sides whose heights differ by at most two.
     fn balance(
         alloc: Global,
@@ -220,25 +257,10 @@ impl<K: Ord + Drop, V: Drop> Tree<K, V> {
         let Link::Fork(top) = &left.link else {
             unreachable!()
         };
-        let (low, high) = (&top.left, &top.right);
-        if low.height() >= high.height() {
-            let inner = high.share()?;
-            let inner = Tree::make(alloc, inner, pair, right, steps)?;
-            let outer = low.share()?;
-            let middle = top.pair.clone()?;
-            return Tree::make(alloc, outer, middle, inner, steps);
+        if top.left.height() >= top.right.height() {
+            return top.rotate_right(alloc, pair, right, steps);
         }
-        let Link::Fork(middle) = &high.link else {
-            unreachable!()
-        };
-        let outer = low.share()?;
-        let first = top.pair.clone()?;
-        let before = middle.left.share()?;
-        let before = Tree::make(alloc, outer, first, before, steps)?;
-        let after = middle.right.share()?;
-        let after = Tree::make(alloc, after, pair, right, steps)?;
-        let middle = middle.pair.clone()?;
-        Tree::make(alloc, before, middle, after, steps)
+        top.rotate_left_right(alloc, pair, right, steps)
     }
 
     fn lean_right(
@@ -257,25 +279,10 @@ impl<K: Ord + Drop, V: Drop> Tree<K, V> {
         let Link::Fork(top) = &right.link else {
             unreachable!()
         };
-        let (low, high) = (&top.left, &top.right);
-        if high.height() >= low.height() {
-            let inner = low.share()?;
-            let inner = Tree::make(alloc, left, pair, inner, steps)?;
-            let outer = high.share()?;
-            let middle = top.pair.clone()?;
-            return Tree::make(alloc, inner, middle, outer, steps);
+        if top.right.height() >= top.left.height() {
+            return top.rotate_left(alloc, left, pair, steps);
         }
-        let Link::Fork(middle) = &low.link else {
-            unreachable!()
-        };
-        let before = middle.left.share()?;
-        let before = Tree::make(alloc, left, pair, before, steps)?;
-        let after = middle.right.share()?;
-        let last = top.pair.clone()?;
-        let outer = high.share()?;
-        let after = Tree::make(alloc, after, last, outer, steps)?;
-        let middle = middle.pair.clone()?;
-        Tree::make(alloc, before, middle, after, steps)
+        top.rotate_right_left(alloc, left, pair, steps)
     }
 
     pub(crate) fn insert(
@@ -297,20 +304,12 @@ impl<K: Ord + Drop, V: Drop> Tree<K, V> {
         match pair.0.cmp(&node.pair.0) {
             Ordering::Less => {
                 let left = node.left.insert(alloc, pair, steps)?;
-                let middle = node.pair.clone()?;
-                let right = node.right.share()?;
-                Tree::balance(alloc, left, middle, right, steps)
+                node.balance_with_left(alloc, left, steps)
             }
-            Ordering::Equal => {
-                let left = node.left.share()?;
-                let right = node.right.share()?;
-                Tree::make(alloc, left, pair, right, steps)
-            }
+            Ordering::Equal => node.make_with_pair(alloc, pair, steps),
             Ordering::Greater => {
                 let right = node.right.insert(alloc, pair, steps)?;
-                let middle = node.pair.clone()?;
-                let left = node.left.share()?;
-                Tree::balance(alloc, left, middle, right, steps)
+                node.balance_with_right(alloc, right, steps)
             }
         }
     }
@@ -359,9 +358,7 @@ impl<K: Ord + Drop, V: Drop> Tree<K, V> {
             };
             let inner = top.right.share()?;
             let inner = Tree::join(alloc, inner, pair, right, steps)?;
-            let outer = top.left.share()?;
-            let middle = top.pair.clone()?;
-            return Tree::balance(alloc, outer, middle, inner, steps);
+            return top.balance_with_right(alloc, inner, steps);
         }
         if r.saturating_sub(l) > 2 {
             let Link::Fork(top) = &right.link else {
@@ -369,9 +366,7 @@ impl<K: Ord + Drop, V: Drop> Tree<K, V> {
             };
             let inner = top.left.share()?;
             let inner = Tree::join(alloc, left, pair, inner, steps)?;
-            let outer = top.right.share()?;
-            let middle = top.pair.clone()?;
-            return Tree::balance(alloc, inner, middle, outer, steps);
+            return top.balance_with_left(alloc, inner, steps);
         }
         Tree::balance(alloc, left, pair, right, steps)
     }
@@ -439,16 +434,12 @@ impl<K: Ord + Drop, V: Drop> Tree<K, V> {
         match key.cmp(&node.pair.0) {
             Ordering::Less => {
                 let left = node.left.remove(alloc, key, steps)?;
-                let middle = node.pair.clone()?;
-                let right = node.right.share()?;
-                Tree::balance(alloc, left, middle, right, steps)
+                node.balance_with_left(alloc, left, steps)
             }
             Ordering::Equal => Tree::glue(alloc, &node.left, &node.right, steps),
             Ordering::Greater => {
                 let right = node.right.remove(alloc, key, steps)?;
-                let middle = node.pair.clone()?;
-                let left = node.left.share()?;
-                Tree::balance(alloc, left, middle, right, steps)
+                node.balance_with_right(alloc, right, steps)
             }
         }
     }
@@ -475,5 +466,203 @@ impl<K: Ord + Drop, V: Drop> Tree<K, V> {
         let pair = Rc::new(alloc, entry)?;
         let tree = Tree::make(alloc, left, pair, right, steps)?;
         Ok(tree)
+    }
+}
+
+impl<K: Ord + Drop, V: Drop> Node<K, V> {
+    // The node's pair between two other sides.
+    fn make_around(
+        &self,
+        alloc: Global,
+        left: Tree<K, V>,
+        right: Tree<K, V>,
+        steps: &mut Steps,
+    ) -> Result<Tree<K, V>, AllocError>
+        requires ascending { IsAscending K.cmp (left.0 ++ self.now.pair.value ∷ right.0) }
+        requires balanced { DifferByAtMost 1 left.1 right.1 }
+        ensures made { IfOk result (λ t. t ≡ (left.0 ++ self.now.pair.value ∷ right.0, max left.1 right.1 + 1)) }
+        ensures at_most { steps.new.made ≤ steps.old.made + (if is_ok result then 1 else 0) }
+        ensures later { steps.old.made ≤ steps.new.made }
+    {
+        let pair = self.pair.clone()?;
+        Tree::make(alloc, left, pair, right, steps)
+    }
+
+    // The node with another pair.
+    fn make_with_pair(
+        &self,
+        alloc: Global,
+        pair: Rc<(K, V)>,
+        steps: &mut Steps,
+    ) -> Result<Tree<K, V>, AllocError>
+        requires ascending { IsAscending K.cmp (self.now.left.0 ++ pair.value ∷ self.now.right.0) }
+        requires balanced { DifferByAtMost 1 self.now.left.1 self.now.right.1 }
+        ensures made { IfOk result (λ t. t ≡ (self.now.left.0 ++ pair.value ∷ self.now.right.0, max self.now.left.1 self.now.right.1 + 1)) }
+        ensures raised { OnOk result (steps.new.made ≡ raised steps.old.made) }
+        ensures at_most { steps.new.made ≤ steps.old.made + (if is_ok result then 1 else 0) }
+        ensures later { steps.old.made ≤ steps.new.made }
+    {
+        let left = self.left.share()?;
+        Tree::make_before(alloc, left, pair, &self.right, steps)
+    }
+
+    // The node with another left side, which is shared.
+    fn make_with_left(
+        &self,
+        alloc: Global,
+        left: &Tree<K, V>,
+        steps: &mut Steps,
+    ) -> Result<Tree<K, V>, AllocError>
+        requires ascending { IsAscending K.cmp (left.now.0 ++ self.now.pair.value ∷ self.now.right.0) }
+        requires balanced { DifferByAtMost 1 left.now.1 self.now.right.1 }
+        ensures made { IfOk result (λ t. t ≡ (left.now.0 ++ self.now.pair.value ∷ self.now.right.0, max left.now.1 self.now.right.1 + 1)) }
+        ensures at_most { steps.new.made ≤ steps.old.made + (if is_ok result then 1 else 0) }
+        ensures later { steps.old.made ≤ steps.new.made }
+    {
+        let left = left.share()?;
+        let right = self.right.share()?;
+        self.make_around(alloc, left, right, steps)
+    }
+
+    // The node with another right side, which is shared.
+    fn make_with_right(
+        &self,
+        alloc: Global,
+        right: &Tree<K, V>,
+        steps: &mut Steps,
+    ) -> Result<Tree<K, V>, AllocError>
+        requires ascending { IsAscending K.cmp (self.now.left.0 ++ self.now.pair.value ∷ right.now.0) }
+        requires balanced { DifferByAtMost 1 self.now.left.1 right.now.1 }
+        ensures made { IfOk result (λ t. t ≡ (self.now.left.0 ++ self.now.pair.value ∷ right.now.0, max self.now.left.1 right.now.1 + 1)) }
+        ensures at_most { steps.new.made ≤ steps.old.made + (if is_ok result then 1 else 0) }
+        ensures later { steps.old.made ≤ steps.new.made }
+    {
+        let left = self.left.share()?;
+        let right = right.share()?;
+        self.make_around(alloc, left, right, steps)
+    }
+
+    // The node with another left side, whose height differs from the right one's by at most two.
+    fn balance_with_left(
+        &self,
+        alloc: Global,
+        left: Tree<K, V>,
+        steps: &mut Steps,
+    ) -> Result<Tree<K, V>, AllocError>
+        requires ascending { IsAscending K.cmp (left.0 ++ self.now.pair.value ∷ self.now.right.0) }
+        requires near { DifferByAtMost 2 left.1 self.now.right.1 }
+        ensures balancing { IfOk result (IsBalancing left self.now.pair.value self.now.right steps.old.made steps.new.made) }
+        ensures at_most { steps.new.made ≤ steps.old.made + (if is_ok result then 3 else 2) }
+        ensures later { steps.old.made ≤ steps.new.made }
+    {
+        let middle = self.pair.clone()?;
+        let right = self.right.share()?;
+        Tree::balance(alloc, left, middle, right, steps)
+    }
+
+    // The node with another right side, whose height differs from the left one's by at most two.
+    fn balance_with_right(
+        &self,
+        alloc: Global,
+        right: Tree<K, V>,
+        steps: &mut Steps,
+    ) -> Result<Tree<K, V>, AllocError>
+        requires ascending { IsAscending K.cmp (self.now.left.0 ++ self.now.pair.value ∷ right.0) }
+        requires near { DifferByAtMost 2 self.now.left.1 right.1 }
+        ensures balancing { IfOk result (IsBalancing self.now.left self.now.pair.value right steps.old.made steps.new.made) }
+        ensures at_most { steps.new.made ≤ steps.old.made + (if is_ok result then 3 else 2) }
+        ensures later { steps.old.made ≤ steps.new.made }
+    {
+        let middle = self.pair.clone()?;
+        let left = self.left.share()?;
+        Tree::balance(alloc, left, middle, right, steps)
+    }
+
+    // The node as the left side of the pair, turned so that it is at the top.
+    fn rotate_right(
+        &self,
+        alloc: Global,
+        pair: Rc<(K, V)>,
+        right: Tree<K, V>,
+        steps: &mut Steps,
+    ) -> Result<Tree<K, V>, AllocError>
+        requires ascending { IsAscending K.cmp ((self.now.left.0 ++ self.now.pair.value ∷ self.now.right.0) ++ pair.value ∷ right.0) }
+        requires inner { DifferByAtMost 1 self.now.right.1 right.1 }
+        requires outer { DifferByAtMost 1 self.now.left.1 (max self.now.right.1 right.1 + 1) }
+        ensures made { IfOk result (λ t. t ≡ ((self.now.left.0 ++ self.now.pair.value ∷ self.now.right.0) ++ pair.value ∷ right.0, max self.now.left.1 (max self.now.right.1 right.1 + 1) + 1)) }
+        ensures at_most { steps.new.made ≤ steps.old.made + (if is_ok result then 2 else 1) }
+        ensures later { steps.old.made ≤ steps.new.made }
+    {
+        let inner = Tree::make_after(alloc, &self.right, pair, right, steps)?;
+        let outer = self.left.share()?;
+        self.make_around(alloc, outer, inner, steps)
+    }
+
+    // The node as the left side of the pair, turned so that its right side is at the top.
+    fn rotate_left_right(
+        &self,
+        alloc: Global,
+        pair: Rc<(K, V)>,
+        right: Tree<K, V>,
+        steps: &mut Steps,
+    ) -> Result<Tree<K, V>, AllocError>
+        requires ascending { IsAscending K.cmp ((self.now.left.0 ++ self.now.pair.value ∷ self.now.right.0) ++ pair.value ∷ right.0) }
+        requires low { self.now.left.1 ≡ right.1 }
+        requires high { self.now.right.1 ≡ right.1 + 1 }
+        ensures made { IfOk result (λ t. t ≡ ((self.now.left.0 ++ self.now.pair.value ∷ self.now.right.0) ++ pair.value ∷ right.0, right.1 + 2)) }
+        ensures at_most { steps.new.made ≤ steps.old.made + (if is_ok result then 3 else 2) }
+        ensures later { steps.old.made ≤ steps.new.made }
+    {
+        let high = &self.right;
+        let Link::Fork(middle) = &high.link else {
+            unreachable!()
+        };
+        let before = self.make_with_right(alloc, &middle.left, steps)?;
+        let after = Tree::make_after(alloc, &middle.right, pair, right, steps)?;
+        middle.make_around(alloc, before, after, steps)
+    }
+
+    // The node as the right side of the pair, turned so that it is at the top.
+    fn rotate_left(
+        &self,
+        alloc: Global,
+        left: Tree<K, V>,
+        pair: Rc<(K, V)>,
+        steps: &mut Steps,
+    ) -> Result<Tree<K, V>, AllocError>
+        requires ascending { IsAscending K.cmp (left.0 ++ pair.value ∷ (self.now.left.0 ++ self.now.pair.value ∷ self.now.right.0)) }
+        requires inner { DifferByAtMost 1 left.1 self.now.left.1 }
+        requires outer { DifferByAtMost 1 (max left.1 self.now.left.1 + 1) self.now.right.1 }
+        ensures made { IfOk result (λ t. t ≡ (left.0 ++ pair.value ∷ (self.now.left.0 ++ self.now.pair.value ∷ self.now.right.0), max (max left.1 self.now.left.1 + 1) self.now.right.1 + 1)) }
+        ensures at_most { steps.new.made ≤ steps.old.made + (if is_ok result then 2 else 1) }
+        ensures later { steps.old.made ≤ steps.new.made }
+    {
+        let inner = Tree::make_before(alloc, left, pair, &self.left, steps)?;
+        let outer = self.right.share()?;
+        self.make_around(alloc, inner, outer, steps)
+    }
+
+    // The node as the right side of the pair, turned so that its left side is at the top.
+    fn rotate_right_left(
+        &self,
+        alloc: Global,
+        left: Tree<K, V>,
+        pair: Rc<(K, V)>,
+        steps: &mut Steps,
+    ) -> Result<Tree<K, V>, AllocError>
+        requires ascending { IsAscending K.cmp (left.0 ++ pair.value ∷ (self.now.left.0 ++ self.now.pair.value ∷ self.now.right.0)) }
+        requires high { self.now.left.1 ≡ left.1 + 1 }
+        requires low { self.now.right.1 ≡ left.1 }
+        ensures made { IfOk result (λ t. t ≡ (left.0 ++ pair.value ∷ (self.now.left.0 ++ self.now.pair.value ∷ self.now.right.0), left.1 + 2)) }
+        ensures at_most { steps.new.made ≤ steps.old.made + (if is_ok result then 3 else 2) }
+        ensures later { steps.old.made ≤ steps.new.made }
+    {
+        let high = &self.left;
+        let Link::Fork(middle) = &high.link else {
+            unreachable!()
+        };
+        let before = Tree::make_before(alloc, left, pair, &middle.left, steps)?;
+        let after = self.make_with_left(alloc, &middle.right, steps)?;
+        middle.make_around(alloc, before, after, steps)
     }
 }

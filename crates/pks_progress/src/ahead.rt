@@ -1,7 +1,10 @@
 //! The databases after an action, before they are closed, and whether closing is at its end there. `docs/RULES.md`,
 //! "Progression".
-ghost use Rattle.std.specs.Prelude.{◌≡◌, true, length, IsTrue, IfOk};
+ghost use Rattle.std.specs.Prelude.{◌≡◌, true, false, length, IsTrue, IfOk};
+ghost use Rattle.std.specs.List.{list_any};
 ghost use Rattle.pks_terms.specs.Sets.{Each, IsOrdered};
+ghost use Rattle.pks_terms.specs.Syntax.{negated};
+ghost use Rattle.pks_terms.specs.Databases.{holds};
 ghost use Rattle.pks_terms.specs.Orders.{literal_cmp};
 ghost use Rattle.pks_terms.specs.Signatures.{HasValues};
 ghost use Rattle.pks_terms.specs.Closure.{IsClosed};
@@ -12,7 +15,7 @@ ghost use Rattle.pks_normal.specs.Fives.{five_of};
 ghost use Rattle.pks_normal.specs.Tables.{GiveAlike};
 ghost use Rattle.pks_derived.specs.Forms.{HasItsForms};
 ghost use Rattle.pks_spoiling.specs.EffectViews.{effects_in};
-ghost use Rattle.pks_progress.specs.Ahead.{assign_nothing, PutsIn, BringsNothing, five_ahead, IsAhead};
+ghost use Rattle.pks_progress.specs.Ahead.{assign_nothing, PutsIn, BringsNothing, IsStill, five_ahead, IsAhead};
 
 use crate::loose::{assign_nothing, bring_nothing};
 use pks_derived::derived::Derived;
@@ -62,6 +65,29 @@ fn read(alloc: Global, d: &Derived, es: Effects<'_>, five: Five) -> Result<Deriv
     Ok(next)
 }
 
+/// Whether closing is at its end at these databases, to which the rules add nothing: it is where they deny none of the
+/// literals.
+fn still_or_denied(
+    alloc: Global,
+    s: &Signature,
+    d: &Derived,
+    es: Effects<'_>,
+    literals: &[Literal],
+    five: Five,
+) -> Result<Ahead, AllocError>
+    requires forms { HasItsForms (literals_of five.kf) }
+    requires values { assign_nothing (effects_in es) ≡ true → GiveAlike (literals_of five.kf) (literals_of d.now.kf) }
+    requires still { list_any (λ l. holds (signature_of s.now) (five_of five) (negated l)) (literals_of literals.now) ≡ false → IsStill (signature_of s.now) (five_of five) }
+    ensures five { IfOk result (λ a. five_ahead a ≡ five_of five) }
+    ensures still { IfOk result (λ a. IsAhead (signature_of s.now) a) }
+{
+    let next = read(alloc, d, es, five)?;
+    if next.some_denied(s, literals) {
+        return Ok(Ahead::Grown(next.into_five()));
+    }
+    Ok(Ahead::Still(next))
+}
+
 /// Whether closing is at its end where the literals are put into what these effects leave of closed databases.
 pub(crate) fn grown_or_still(
     alloc: Global,
@@ -85,9 +111,5 @@ pub(crate) fn grown_or_still(
     if !brings_nothing(&kept, literals.as_slice(), &five) {
         return Ok(Ahead::Grown(five));
     }
-    let next = read(alloc, d, es, five)?;
-    if next.some_denied(s, literals.as_slice()) {
-        return Ok(Ahead::Grown(next.into_five()));
-    }
-    Ok(Ahead::Still(next))
+    still_or_denied(alloc, s, d, es, literals.as_slice(), five)
 }

@@ -91,6 +91,36 @@ fn kept_groups(alloc: Global, s: &Signature, d: &Derived, es: Effects<'_>) -> Re
     Ok(kept)
 }
 
+/// What of the known literals and of the formulas lasts.
+fn kept_sentences(
+    alloc: Global,
+    s: &Signature,
+    d: &Derived,
+    es: Effects<'_>,
+) -> Result<(Kf, Kw), AllocError>
+    ensures literals { IfOk result (λ kept. literals_of kept.0 ≡ (kept_after (signature_of s.now) (five_of d.now) (effects_in es.entry)).kf) }
+    ensures formulas { IfOk result (λ kept. formulas_of kept.1 ≡ (kept_after (signature_of s.now) (five_of d.now) (effects_in es.entry)).kw) }
+{
+    let kf = kept_literals(alloc, s, d, es)?;
+    let kw = kept_formulas(alloc, s, d, es)?;
+    Ok((kf, kw))
+}
+
+/// What of the terms and of the groups lasts.
+fn kept_sides(
+    alloc: Global,
+    s: &Signature,
+    d: &Derived,
+    es: Effects<'_>,
+) -> Result<(Kv, Kx), AllocError>
+    ensures terms { IfOk result (λ kept. terms_of kept.0 ≡ (kept_after (signature_of s.now) (five_of d.now) (effects_in es.entry)).kv) }
+    ensures groups { IfOk result (λ kept. groups_of kept.1 ≡ (kept_after (signature_of s.now) (five_of d.now) (effects_in es.entry)).kx) }
+{
+    let kv = kept_terms(alloc, s, d, es)?;
+    let kx = kept_groups(alloc, s, d, es)?;
+    Ok((kv, kx))
+}
+
 /// What of the five lasts.
 pub(crate) fn kept_after(
     alloc: Global,
@@ -100,10 +130,8 @@ pub(crate) fn kept_after(
 ) -> Result<Five, AllocError>
     ensures { IfOk result (λ five. five_of five ≡ kept_after (signature_of s.now) (five_of d.now) (effects_in es.entry)) }
 {
-    let kf = kept_literals(alloc, s, d, es)?;
-    let kw = kept_formulas(alloc, s, d, es)?;
-    let kv = kept_terms(alloc, s, d, es)?;
-    let kx = kept_groups(alloc, s, d, es)?;
+    let (kf, kw) = kept_sentences(alloc, s, d, es)?;
+    let (kv, kx) = kept_sides(alloc, s, d, es)?;
     let lcw = kept_regions(alloc, s, d, es)?;
     Ok(Five {
         kf,

@@ -1,5 +1,5 @@
 //! Closed databases. `docs/RULES.md` has the rule on closing.
-ghost use Rattle.std.specs.Prelude.{◌≡◌, ◌≤◌, length, None, IfOk, IfErr};
+ghost use Rattle.std.specs.Prelude.{◌≡◌, ◌≤◌, length, None, IfOk, IfErr, IfSome, IsSomeAnd};
 ghost use Rattle.pks_terms.specs.Signatures.{HasValues};
 ghost use Rattle.pks_terms.specs.Worlds.{World};
 ghost use Rattle.pks_terms.specs.Meaning.{IsTrueOf};
@@ -12,9 +12,10 @@ ghost use Rattle.pks_terms.specs.Views.{literal_of, signature_of, problem_of};
 ghost use Rattle.pks_terms.specs.Moments.{AreInOrder, IsMomentOf};
 ghost use Rattle.pks_normal.specs.Fives.{five_of};
 ghost use Rattle.pks_closing.specs.Closing.{IfClash};
+ghost use Rattle.pks_closing.specs.Working.{EndsWith};
 ghost use Rattle.pks_query.specs.Closed.{AreClosed};
 
-use pks_closing::closing::{CloseEnd, close};
+use pks_closing::closing::{CloseEnd, close, close_unless_clash};
 use pks_closing::tidied::tidied;
 use pks_derived::derived::Derived;
 use pks_initial::initial::initial;
@@ -75,6 +76,23 @@ impl Db {
         ensures keeps_truth { (w w' : World) → IsTrueOf (signature_of s.now) w w' (five_of five) → IfOk result (λ db. IsTrueOf (signature_of s.now) w w' (five_of db)) }
         ensures no_clash { (w w' : World) → IsTrueOf (signature_of s.now) w w' (five_of five) → IfErr result (IfClash (λ l. ⊥)) }
     {
+        let same = five.share()?;
+        if let Some(db) = Db::close_unless_clash(alloc, s, same)? {
+            return Ok(db);
+        }
+        Db::close_by_rounds(alloc, s, five)
+    }
+
+    // The same by plain rounds, which name a clash.
+    fn close_by_rounds(alloc: Global, s: &Signature, five: Five) -> Result<Db, CloseEnd>
+        requires few { length s.now.objects ≤ 65536 }
+        requires values { HasValues (signature_of s.now) }
+        ensures closes { IfOk result (λ db. Closes (signature_of s.now) (five_of five) (Next (five_of db))) }
+        ensures clashes { IfErr result (IfClash (λ l. Closes (signature_of s.now) (five_of five) (Clash (literal_of l)))) }
+        ensures moment { AreOf (signature_of s.now) (five_of five) → AreInOrder (five_of five) → IfOk result (λ db. IsMomentOf (signature_of s.now) (five_of db)) }
+        ensures keeps_truth { (w w' : World) → IsTrueOf (signature_of s.now) w w' (five_of five) → IfOk result (λ db. IsTrueOf (signature_of s.now) w w' (five_of db)) }
+        ensures no_clash { (w w' : World) → IsTrueOf (signature_of s.now) w w' (five_of five) → IfErr result (IfClash (λ l. ⊥)) }
+    {
         match close(alloc, s, five) {
             Ok(derived) => {
                 let derived = shared(alloc, derived)?;
@@ -82,6 +100,29 @@ impl Db {
                 Ok(Db { derived, mark })
             }
             Err(end) => Err(end),
+        }
+    }
+
+    /// The same where a clash needn't be named: the databases that the five become by closing, or `None` where there is a
+    /// clash, which is seen as soon as two values of one place, or a value and its denial, come to be known. The error is
+    /// want of memory.
+    pub fn close_unless_clash(
+        alloc: Global,
+        s: &Signature,
+        five: Five,
+    ) -> Result<Option<Db>, AllocError>
+        requires few { length s.now.objects ≤ 65536 }
+        requires values { HasValues (signature_of s.now) }
+        ensures ends { IfOk result (λ o. EndsWith (Closes (signature_of s.now) (five_of five)) o) }
+        ensures moment { AreOf (signature_of s.now) (five_of five) → AreInOrder (five_of five) → IfOk result (λ o. IfSome o (λ db. IsMomentOf (signature_of s.now) (five_of db))) }
+        ensures keeps_truth { (w w' : World) → IsTrueOf (signature_of s.now) w w' (five_of five) → IfOk result (λ o. IsSomeAnd o (λ db. IsTrueOf (signature_of s.now) w w' (five_of db))) }
+    {
+        match close_unless_clash(alloc, s, five)? {
+            None => Ok(None),
+            Some(derived) => {
+                let db = Db::of_closed(alloc, s, derived)?;
+                Ok(Some(db))
+            }
         }
     }
 
@@ -111,6 +152,17 @@ impl Db {
     {
         let five = initial(alloc, p)?;
         Db::close(alloc, &p.signature, five)
+    }
+
+    /// The same where a clash needn't be named: the databases that the problem's initial items become by closing, or `None`
+    /// where there is a clash. It asks for a valid problem. The error is want of memory.
+    pub fn first_unless_clash(alloc: Global, p: &Problem) -> Result<Option<Db>, AllocError>
+        requires { IsValidProblem p.now }
+        ensures { IfOk result (λ o. EndsWith (Closes (problem_of p.now).signature (initial (problem_of p.now))) o) }
+    {
+        let five = initial(alloc, p)?;
+        let first = Db::close_unless_clash(alloc, &p.signature, five)?;
+        Ok(first)
     }
 
     /// The databases that were closed otherwise, as the moments of a settled history are. It asks that they are closed by the

@@ -9,8 +9,10 @@ ghost use Rattle.pks_text.specs.Forms.{Spells};
 ghost use Rattle.pks_text.specs.FormViews.{form_view, forms_view};
 ghost use Rattle.pks_grammar.specs.Files as shaping;
 ghost use Rattle.pks_grammar.specs.Files.{number_of};
+ghost use Rattle.pks_meaning.specs.Meaning.{scope_of};
 ghost use Rattle.pks_meaning.specs.Parts.{behind_head};
 ghost use Rattle.pks_domain.specs.FirstFault.{meaning_fault};
+ghost use Rattle.pks_domain.specs.Views.{declared_view};
 ghost use Rattle.pks_stated.specs.Sizes.{AreCounted};
 ghost use Rattle.pks_stated.specs.Spans.{named_of};
 ghost use Rattle.pks_stated.specs.Stated.{Named, problem_in, named_in};
@@ -25,10 +27,30 @@ use pks_grammar::grammar::Version;
 use pks_grammar::report::Turned;
 use pks_grammar::shape::{shape_fault, version_of};
 use pks_meaning::parts::behind_head;
+use pks_meaning::scope::Declared;
 use pks_stated::problem;
 use pks_terms::problem::Problem;
 use pks_text::{Form, Forms, forms};
 use std::alloc::Global;
+
+// What the domain declares, or the first fault of meaning.
+#[tactic(auto, using(pks_facts::proofs::Refused::this_found, pks_facts::proofs::Refused::this_plain, pks_grammar::proofs::Refusing::none_refused))]
+fn faultless<'s>(
+    alloc: Global,
+    number: u8,
+    domain: &[Form<'s>],
+    problem: &[Form<'s>],
+) -> Result<Declared<'s>, Turned>
+    ensures faultless { OnOk result (meaning_fault number (forms_view domain.now) (forms_view problem.now) ≡ None) }
+    ensures declared { IfOk result (λ d. declared_view d ≡ scope_of number (forms_view domain.now)) }
+    ensures refused { IfErr result (Turns (λ f. meaning_fault number (forms_view domain.now) (forms_view problem.now) ≡ Some f)) }
+{
+    let read = meaning(alloc, number, domain, problem)?;
+    match read.refusal {
+        Some(refusal) => Err(Turned::Refused(refusal)),
+        None => Ok(read.declared),
+    }
+}
 
 // The problem that a domain and a problem of the grammar state, or their first fault of meaning.
 #[tactic(auto, using(pks_facts::proofs::Refused::this_found, pks_facts::proofs::Refused::this_plain, pks_grammar::proofs::Refusing::none_refused))]
@@ -47,14 +69,9 @@ fn meant<'s>(
     ensures refused { IfErr result (Turns (λ f. meaning_fault (number_of version) (behind_head (form_view domain.now)) (behind_head (form_view form.now)) ≡ Some f)) }
 {
     let number = version.number();
-    let read = meaning(alloc, number, behind_head(domain), behind_head(form))?;
-    match read.refusal {
-        Some(refusal) => Err(Turned::Refused(refusal)),
-        None => {
-            let stated = problem(alloc, number, &read.declared, behind_head(domain), form)?;
-            Ok(stated)
-        }
-    }
+    let declared = faultless(alloc, number, behind_head(domain), behind_head(form))?;
+    let stated = problem(alloc, number, &declared, behind_head(domain), form)?;
+    Ok(stated)
 }
 
 // One of the top forms.

@@ -146,10 +146,12 @@ fn slots_are_objects(slots: &[Option<Term>]) -> bool
 fn atoms_are_of_objects(atoms: &[PredAtom]) -> bool
     ensures { result ≡ are_objects (flat_map (λ a. a.arguments) (atoms_of atoms.now)) }
 {
-    match atoms {
-        [] => true,
-        [a, rest @ ..] => are_objects(front(&a.args, a.n)) && atoms_are_of_objects(rest),
+    for a in atoms {
+        if !are_objects(front(&a.args, a.n)) {
+            return false;
+        }
     }
+    true
 }
 
 /// Whether the region speaks of objects alone.

@@ -5,9 +5,6 @@ use Rattle.pks_terms.specs.Sets.{insert_in}
 use Rattle.pks_terms.specs.Views.{literal_of, term_of, signature_of}
 use Rattle.pks_terms.proofs.SetLaws.{map-insert_in}
 use Rattle.pks_kf.specs.Known.{literals_of}
-use Rattle.pks_kw.specs.Formulas.{formulas_of}
-use Rattle.pks_kx.specs.Groups.{groups_of}
-use Rattle.pks_lcw.specs.Entries.{entries_of}
 use Rattle.pks_normal.specs.Fives.{five_of}
 use Rattle.pks_branch.proofs.assuming.with_value.Goals as goal
 
@@ -16,5 +13,6 @@ unfolding assumed
 returns c =
     let five = c.parts-five.result.now in
     let known = ap (map literal_of) c.in_ok-kf.ensures ∙ map-insert_in literal_of literal_cmp c.equation.result five.kf ∙ ap (λ l. insert_in literal_cmp l (literals_of five.kf)) c.equation.ensures.says in
-    (λ i. record { kf = known i; kw = formulas_of (c.in_ok-kw.ensures i); kv = c.in_ok-kv.ensures i; kx = groups_of (c.in_ok-kx.ensures i); lcw = entries_of (c.in_ok-lcw.ensures i) })
+    let beside = c.in_ok-kw.ensures in
+    (λ i. record { kf = known i; kw = beside.formulas i; kv = c.in_ok-kv.ensures i; kx = beside.groups i; lcw = beside.regions i })
     ∙ ap (λ d. assumed (signature_of c.args.s.now) (five_of d) (CasesOn (term_of c.args.t.now)) (Is c.args.e.0)) c.parts-five.ensures.lent

@@ -1,0 +1,114 @@
+//! What follows by groups, put in one after another by a work list: each group is looked at again when one of its atoms
+//! is settled. `docs/RULES.md` has the rule on groups.
+ghost use Rattle.std.specs.Prelude.{◌≡◌, List, [], ◌∷◌, map, IfOk};
+ghost use Rattle.pks_terms.specs.Signatures.{HasValues};
+ghost use Rattle.pks_terms.specs.Views.{literal_of, signature_of};
+ghost use Rattle.pks_normal.specs.Fives.{five_of};
+ghost use Rattle.pks_closing.specs.Working.{GrowsTo, GrowsBy, GrowsByGroups};
+
+use crate::groups::put_by_group;
+use crate::uses::Uses;
+use pks_derived::derived::Derived;
+use pks_normal::five::Five;
+use pks_normal::literals::gives_value;
+use pks_terms::literal::Literal;
+use pks_terms::problem::Signature;
+use std::alloc::{AllocError, Global};
+
+/// Puts the literal in, and the groups that have its atom on the work list, unless it is known or gives a value: values
+/// are left to the rounds.
+fn put_in(
+    alloc: Global,
+    s: &Signature,
+    d: Derived,
+    uses: &Uses,
+    l: &Literal,
+    to: &mut Vec<usize>,
+) -> Result<Derived, AllocError>
+    ensures { IfOk result (λ e. GrowsBy (signature_of s.now) (literal_of l.now ∷ []) (five_of d) (five_of e)) }
+{
+    let _s = s;
+    if gives_value(l) || d.five().kf.has(l) {
+        return Ok(d);
+    }
+    uses.put_touched(&d, l, to)?;
+    let next = d.with(alloc, l)?;
+    Ok(next)
+}
+
+/// Puts the literals of a group's rules in.
+fn put_all_in(
+    alloc: Global,
+    s: &Signature,
+    d: Derived,
+    uses: &Uses,
+    ls: &[Literal],
+    to: &mut Vec<usize>,
+) -> Result<Derived, AllocError>
+    ensures { IfOk result (λ e. GrowsBy (signature_of s.now) (map literal_of ls.now) (five_of d) (five_of e)) }
+{
+    match ls {
+        [] => Ok(d),
+        [l, ls @ ..] => {
+            let next = put_in(alloc, s, d, uses, l, to)?;
+            let all = put_all_in(alloc, s, next, uses, ls, to)?;
+            Ok(all)
+        }
+    }
+}
+
+/// Puts in what the rules give of the group of this number.
+fn put_group_in(
+    alloc: Global,
+    s: &Signature,
+    d: Derived,
+    uses: &Uses,
+    k: usize,
+    to: &mut Vec<usize>,
+) -> Result<Derived, AllocError>
+    requires { HasValues (signature_of s.now) }
+    ensures { IfOk result (λ e. GrowsByGroups (signature_of s.now) uses.now.groups.items (five_of d) (five_of e)) }
+{
+    let Some(group) = uses.groups.as_slice().get(k) else {
+        return Ok(d);
+    };
+    let mut more = Vec::new(alloc);
+    put_by_group(&mut more, s, &d, group.as_slice())?;
+    let next = put_all_in(alloc, s, d, uses, more.as_slice(), to)?;
+    Ok(next)
+}
+
+/// Puts in what the rules give of the groups on the work list, and of those that are put on it then. Each atom is
+/// settled once, so the turns are enough; what they leave is left to the rounds.
+fn put_groups_in(
+    alloc: Global,
+    s: &Signature,
+    d: Derived,
+    uses: &Uses,
+    work: Vec<usize>,
+) -> Result<Derived, AllocError>
+    requires { HasValues (signature_of s.now) }
+    ensures { IfOk result (λ e. GrowsByGroups (signature_of s.now) uses.now.groups.items (five_of d) (five_of e)) }
+{
+    let mut d = d;
+    let mut work = work;
+    for _ in 0..uses.groups.len().saturating_mul(33) {
+        let Some(k) = work.pop() else {
+            return Ok(d);
+        };
+        d = put_group_in(alloc, s, d, uses, k, &mut work)?;
+    }
+    Ok(d)
+}
+
+/// The databases with what follows from them by their groups. The error is want of memory.
+pub(crate) fn spread(alloc: Global, s: &Signature, five: Five) -> Result<Derived, AllocError>
+    requires { HasValues (signature_of s.now) }
+    ensures { IfOk result (λ e. GrowsTo (signature_of s.now) (five_of five) (five_of e)) }
+{
+    let d = Derived::of(alloc, five)?;
+    let uses = Uses::of(alloc, &d)?;
+    let work = uses.all(alloc)?;
+    let spread = put_groups_in(alloc, s, d, &uses, work)?;
+    Ok(spread)
+}

@@ -1,0 +1,38 @@
+//! Rounds between which a work list puts in what follows by groups, and that end where a clash is seen.
+ghost use Rattle.std.specs.Prelude.{◌≡◌, ◌≤◌, length, IfOk};
+ghost use Rattle.pks_terms.specs.Signatures.{HasValues};
+ghost use Rattle.pks_terms.specs.Views.{signature_of};
+ghost use Rattle.pks_normal.specs.Fives.{five_of};
+ghost use Rattle.pks_closing.specs.Working.{IsWorked};
+
+use crate::clashing::values_clash;
+use crate::rounds::next_round;
+use crate::spreading::spread;
+use pks_derived::derived::Derived;
+use pks_normal::five::Five;
+use pks_terms::problem::Signature;
+use std::alloc::{AllocError, Global};
+
+/// All that follows by the rules, or `None` where a clash of values is seen on the way. It asks for at most 65,536 objects,
+/// and for an object of each function's result type. The error is want of memory.
+pub(crate) fn worked(
+    alloc: Global,
+    s: &Signature,
+    five: Five,
+) -> Result<Option<Derived>, AllocError>
+    requires few { length s.now.objects ≤ 65536 }
+    requires values { HasValues (signature_of s.now) }
+    ensures { IfOk result (λ o. IsWorked (signature_of s.now) (five_of five) o) }
+{
+    let _known = five.kf.len();
+    let mut d = Derived::of(alloc, five)?;
+    'rounds: loop {
+        if values_clash(s, &d) {
+            return Ok(None);
+        }
+        match next_round(alloc, s, &d)? {
+            None => return Ok(Some(d)),
+            Some(next) => d = spread(alloc, s, next)?,
+        }
+    }
+}

@@ -1,0 +1,5 @@
+pub mod Lists
+pub mod Sound
+pub mod Growing
+pub mod Bounded
+pub mod Grounding

@@ -1,0 +1,14 @@
+//! A lower bound on the actions that a world is away from the goal: levels of a relaxed world, in which what may be true, what may be
+//! false and what values a place may have only grow. `docs/DECISIONS.md` says what it is for.
+#![tactic(auto)]
+
+pub mod deeds;
+mod gains;
+mod may;
+mod needing;
+mod news;
+mod objects;
+mod taking;
+mod values;
+
+pub use deeds::Deeds;
