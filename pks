@@ -26,7 +26,7 @@ need_rt() {
 
 tell_of_input() {
     case $1 in
-        check | plan | exec | recall | derive | shared) [ -t 0 ] && say "the file is read from standard input: ./pks $* < FILE" ;;
+        check | plan | exec | recall | explain | derive | shared) [ -t 0 ] && say "the file is read from standard input: ./pks $* < FILE" ;;
     esac
 }
 

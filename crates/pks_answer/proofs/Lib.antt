@@ -1,4 +1,5 @@
 pub mod Accepting
+pub mod Explaining
 pub mod Lasting
 pub mod OneReply
 pub mod Planning

@@ -1,5 +1,5 @@
 -- A job about a file has one reply, and what is done is good.
-use Rattle.std.proofs.Common.{◌≡◌, ◌≤◌, ℕ, true, false, List, [], ◌∷◌, ◌++◌, Option, Some, None, inl, inr, ◌⊎◌, refl, sym, ◌∙◌, ap, subst, codes, decimal}
+use Rattle.std.proofs.Common.{◌≡◌, ◌≤◌, ℕ, List, [], ◌∷◌, ◌++◌, Option, Some, None, inl, inr, ◌⊎◌, refl, sym, ◌∙◌, ap, subst, codes, decimal}
 use Rattle.std.proofs.lemmas.Option.{none-some, same_Some}
 use Rattle.pks_terms.specs.Worlds.{World}
 use Rattle.pks_terms.specs.Problems.{Problem}
@@ -11,7 +11,7 @@ use Rattle.pks_terms.specs.Printed.{Text, Refusal, name_in, none_text, refusal_t
 use Rattle.pks_terms.specs.Settling.{State}
 use Rattle.pks_terms.specs.Recalled.{IsRecalled, recall_text}
 use Rattle.pks_terms.specs.Nodes.{Node, IsShared, shared_text}
-use Rattle.pks_terms.specs.Answers.{Stated, NoWorld, BadWorld, GivenWorld, File, refusal, unjustified, RefusesAdd, RefusesStart, RefusesWorld, RefusesRun, RefusesFor, NoneApplies, RefusesFile, IsDone, IsUnplanned, talk_in}
+use Rattle.pks_terms.specs.Answers.{Stated, NoWorld, BadWorld, GivenWorld, File, refusal, unjustified, RefusesAdd, RefusesStart, RefusesWorld, RefusesRun, RefusesFor, NoneApplies, RefusesFile, PrintsExplained, IsDone, IsUnplanned, talk_in}
 use Rattle.pks_terms.specs.Talk.{talked_text}
 use Rattle.pks_laws.proofs.Accepting as accepting
 use Rattle.pks_laws.proofs.BestTree.{best_one}
@@ -19,11 +19,11 @@ use Rattle.pks_laws.proofs.Validity.{valid_typed}
 use Rattle.pks_recall.proofs.LeafLaws.{one_recalled, recalled_true}
 use Rattle.pks_dag.proofs.SharedOnce.{shared_one}
 use Rattle.pks_exec.proofs.Breaking.{one_broken}
-use Rattle.pks_words.specs.JobViews.{IsBuilt}
 use Rattle.pks_answer.specs.declared.reply.Verdict.{Verdict}
 use Rattle.pks_answer.specs.declared.reply.Verdict.TheVariants.{Done, NoPlan, Refused}
 use Rattle.pks_answer.specs.Goodness.{HasGoodPlan, TellsTruth}
-use Rattle.pks_answer.specs.Replies.{IsReply}
+use Rattle.pks_answer.specs.Replies.{IsReply, AreAlike}
+use Rattle.pks_answer.proofs.Explaining.{explained_so}
 use Rattle.pks_answer.proofs.Lasting.{best_is_good}
 
 -- ---- one refusal
@@ -115,26 +115,24 @@ one_recall f t u xs ys e a b = one_recalled f.problem u xs ys (subst (λ v. IsRe
 one_nodes : (t u : Tree) (xs ys : List Node) → t ≡ u → IsShared t xs → IsShared u ys → xs ≡ ys
 one_nodes t u xs ys e a b = shared_one u xs ys (subst (λ v. IsShared v xs) e a) b
 
--- a mode that the program doesn't have
-unbuilt : {A : Type 0} → false ≡ true → A
-unbuilt e = absurd cc
-
-one_done : (j : Job) (f : File) (i x y : Text) → IsBuilt j → IsDone j i f x → IsDone j i f y → x ≡ y
-one_done Check f i x y built a b = a ∙ sym b
-one_done (Plan n) f i x y built a b = a.2 ∙ ap (tree_text f.names) (one_tree f.problem n a.0 b.0 a.1 b.1) ∙ sym b.2
-one_done (Exec n) f i x y built a b =
+one_done : (j : Job) (f : File) (i x y : Text) → IsDone j i f x → IsDone j i f y → AreAlike j f Done x y
+one_done Check f i x y a b = a ∙ sym b
+one_done (Plan n) f i x y a b = a.2 ∙ ap (tree_text f.names) (one_tree f.problem n a.0 b.0 a.1 b.1) ∙ sym b.2
+one_done (Exec n) f i x y a b =
     let trees : a.0 ≡ b.0 = one_tree f.problem n a.0 b.0 a.1 b.1 in
     let worlds : a.2.0 ≡ b.2.0 = same_world a.2.0 b.2.0 (sym a.2.1 ∙ b.2.1) in
     a.2.2 ∙ (λ i. run_text f.names (run_of f.problem (trees i) (worlds i))) ∙ sym b.2.2
-one_done (Bench n) f i x y built a b = a.2 ∙ ap (bench_text n) (one_tree f.problem 2 a.0 b.0 a.1 b.1) ∙ sym b.2
-one_done (Recall n) f i x y built a b =
+one_done (Bench n) f i x y a b = a.2 ∙ ap (bench_text n) (one_tree f.problem 2 a.0 b.0 a.1 b.1) ∙ sym b.2
+one_done (Recall n) f i x y a b =
     let trees : a.0 ≡ b.0 = one_tree f.problem n a.0 b.0 a.1 b.1 in
     let leaves : a.2.0 ≡ b.2.0 = one_recall f a.0 b.0 a.2.0 b.2.0 trees a.2.1 b.2.1 in
     a.2.2 ∙ (λ i. tree_text f.names (trees i) ++ recall_text f.names (leaves i)) ∙ sym b.2.2
-one_done (Agent n) f i x y built a b = a.2.1 ∙ ap (λ t. talked_text (talk_in f i t)) (one_tree f.problem n a.0 b.0 a.1 b.1) ∙ sym b.2.1
-one_done (Explain n) f i x y built a b = unbuilt built
-one_done Derive f i x y built a b = a ∙ sym b
-one_done (Shared n) f i x y built a b =
+one_done (Agent n) f i x y a b = a.2.1 ∙ ap (λ t. talked_text (talk_in f i t)) (one_tree f.problem n a.0 b.0 a.1 b.1) ∙ sym b.2.1
+one_done (Explain n) f i x y a b =
+    let trees : b.0 ≡ a.0 = one_tree f.problem n b.0 a.0 b.1 a.1 in
+    (a.0, a.1, (a.2, subst (λ t. PrintsExplained f y t) trees b.2))
+one_done Derive f i x y a b = a ∙ sym b
+one_done (Shared n) f i x y a b =
     let trees : a.0 ≡ b.0 = one_tree f.problem n a.0 b.0 a.1 b.1 in
     let nodes : a.2.0 ≡ b.2.0 = one_nodes a.0 b.0 a.2.0 b.2.0 trees a.2.1 b.2.1 in
     a.2.2 ∙ ap (shared_text f.names) nodes ∙ sym b.2.2
@@ -142,16 +140,45 @@ one_done (Shared n) f i x y built a b =
 pub one_unplanned : (j : Job) (f : File) (x y : Text) → IsUnplanned j f x → IsUnplanned j f y → x ≡ y
 one_unplanned j f x y a b = a.3 ∙ ap none_text (same_Some a.0 b.0 (sym a.1 ∙ b.1)) ∙ sym b.3
 
-pub one_reply : (j : Job) (f : File) (v u : Verdict) (x y : Text) → IsBuilt j → IsReply j f v x → IsReply j f u y → (v ≡ u) × (x ≡ y)
-one_reply j f Refused Refused x y built a b = (refl, a.2 ∙ ap refusal_text (one_refusal j f a.0 b.0 a.1 b.1) ∙ sym b.2)
-one_reply j f Refused NoPlan x y built a b = absurd (b.0 a.0 a.1)
-one_reply j f Refused Done x y built a b = absurd (b.0 a.0 a.1)
-one_reply j f NoPlan Refused x y built a b = absurd (a.0 b.0 b.1)
-one_reply j f NoPlan NoPlan x y built a b = (refl, one_unplanned j f x y a.1 b.1)
-one_reply j f NoPlan Done x y built a b = absurd (none_or_done j f a.1.0 [] y a.1.1 a.1.2 (b.1 []))
-one_reply j f Done Refused x y built a b = absurd (a.0 b.0 b.1)
-one_reply j f Done NoPlan x y built a b = absurd (none_or_done j f b.1.0 [] x b.1.1 b.1.2 (a.1 []))
-one_reply j f Done Done x y built a b = (refl, one_done j f [] x y built (a.1 []) (b.1 []))
+-- where there is no plan, or the file is refused, alike texts are the same
+none_alike : (j : Job) (f : File) (x y : Text) → x ≡ y → AreAlike j f NoPlan x y
+none_alike Check f x y e = e
+none_alike (Plan n) f x y e = e
+none_alike (Exec n) f x y e = e
+none_alike (Bench n) f x y e = e
+none_alike (Recall n) f x y e = e
+none_alike (Agent n) f x y e = e
+none_alike (Explain n) f x y e = e
+none_alike Derive f x y e = e
+none_alike (Shared n) f x y e = e
+
+refused_alike : (j : Job) (f : File) (x y : Text) → x ≡ y → AreAlike j f Refused x y
+refused_alike Check f x y e = e
+refused_alike (Plan n) f x y e = e
+refused_alike (Exec n) f x y e = e
+refused_alike (Bench n) f x y e = e
+refused_alike (Recall n) f x y e = e
+refused_alike (Agent n) f x y e = e
+refused_alike (Explain n) f x y e = e
+refused_alike Derive f x y e = e
+refused_alike (Shared n) f x y e = e
+
+pub one_reply : (j : Job) (f : File) (v u : Verdict) (x y : Text) → IsReply j f v x → IsReply j f u y → (v ≡ u) × AreAlike j f v x y
+one_reply j f Refused Refused x y a b = (refl, refused_alike j f x y (a.2 ∙ ap refusal_text (one_refusal j f a.0 b.0 a.1 b.1) ∙ sym b.2))
+one_reply j f Refused NoPlan x y a b = absurd (b.0 a.0 a.1)
+one_reply j f Refused Done x y a b = absurd (b.0 a.0 a.1)
+one_reply j f NoPlan Refused x y a b = absurd (a.0 b.0 b.1)
+one_reply j f NoPlan NoPlan x y a b = (refl, none_alike j f x y (one_unplanned j f x y a.1 b.1))
+one_reply j f NoPlan Done x y a b = absurd (none_or_done j f a.1.0 [] y a.1.1 a.1.2 (b.1 []))
+one_reply j f Done Refused x y a b = absurd (a.0 b.0 b.1)
+one_reply j f Done NoPlan x y a b = absurd (none_or_done j f b.1.0 [] x b.1.1 b.1.2 (a.1 []))
+one_reply j f Done Done x y a b = (refl, one_done j f [] x y (a.1 []) (b.1 []))
+
+-- so another reply is like this one
+pub other_reply : (j : Job) (f : File) (v u : Verdict) (x y : Text) → IsReply j f v x → IsReply j f u y → (u ≡ v) × AreAlike j f v y x
+other_reply j f v u x y a b =
+    let one = one_reply j f u v y x b a in
+    (one.0, subst (λ w. AreAlike j f w y x) one.0 one.1)
 
 -- ---- good plans
 
@@ -165,7 +192,7 @@ all_justified j f none = no_first (unjustified f.problem) (λ x rest e. none (ad
 pub good_reply : (j : Job) (f : File) (x : Text) → IsValid f.problem → IsReply j f Done x → HasGoodPlan j f
 good_reply j f x valid a = λ n t depth best. best_is_good f.problem n t (all_justified j f a.0) valid best
 
--- ---- what is told of the past
+-- ---- what is told of the past, and what is shown
 
 pub told_reply : (j : Job) (f : File) (x : Text) → IsValid f.problem → IsReply j f Done x → TellsTruth j f x
 told_reply Check f x valid a = tt
@@ -183,6 +210,15 @@ told_reply (Recall n) f x valid a =
       so = recalled_true f.problem done.0 done.2.0 (accepting.all_justified f.problem (all_justified (Recall n) f a.0)) (valid_typed f.problem valid) done.1.0.0 done.2.1;
     }
 told_reply (Agent n) f x valid a = tt
-told_reply (Explain n) f x valid a = tt
+told_reply (Explain n) f x valid a =
+    let done = a.1 [] in
+    record {
+      plan = done.0;
+      entries = done.2.0;
+      best = done.1;
+      explained = done.2.1;
+      says = done.2.2;
+      so = explained_so f.problem done.0 done.2.0 valid done.1.0.0 done.2.1;
+    }
 told_reply Derive f x valid a = tt
 told_reply (Shared n) f x valid a = tt

@@ -4,8 +4,9 @@ use Rattle.pks_terms.specs.Worlds as worlds
 use Rattle.pks_terms.specs.Problems.{Problem}
 use Rattle.pks_terms.specs.Trees.{Tree, depth, start_state, IsBest}
 use Rattle.pks_terms.specs.Knowledge.{run_of}
-use Rattle.pks_terms.specs.Jobs.{Plan, Exec, Bench, Recall, Derive, Shared}
+use Rattle.pks_terms.specs.Jobs.{Plan, Exec, Bench, Recall, Explain, Derive, Shared}
 use Rattle.pks_terms.specs.Printed.{Text, Names, nodes_of, tree_text, run_text, bench_text}
+use Rattle.pks_terms.specs.Explained.{Entry, IsExplained, explained_text}
 use Rattle.pks_terms.specs.Nodes.{Node, IsShared, shared_text}
 use Rattle.pks_terms.specs.Shapes.{derive_text}
 use Rattle.pks_terms.specs.Answers.{Stated, GivenWorld, File, RefusesFile, NoneApplies}
@@ -16,7 +17,7 @@ use Rattle.pks_recall.specs.Walking.{Recalls}
 use Rattle.pks_answer.specs.declared.reply.Verdict.{Verdict}
 use Rattle.pks_answer.specs.declared.reply.Verdict.TheVariants.{Done, NoPlan, Refused}
 use Rattle.pks_answer.specs.Accepting.{IsRunIn}
-use Rattle.pks_answer.specs.Replies.{Plans, Says, SaysRecalled, SaysShared, IsReply}
+use Rattle.pks_answer.specs.Replies.{Plans, Says, SaysRecalled, SaysExplained, SaysShared, IsReply}
 
 pub best_depth : (p : Problem) (n : ℕ) (t : Tree) → IsBest p n (Some t) → depth t ≤ n
 best_depth p n t best = best.0.1
@@ -56,6 +57,11 @@ recall_reply n f Done x none plans = (none, λ input. plans)
 recall_reply n f NoPlan x none plans = (none, (n, refl, plans.0, plans.1))
 recall_reply n f Refused x none plans = absurd plans
 
+pub explain_reply : (n : ℕ) (f : File) (v : Verdict) (x : Text) → NoneApplies (RefusesFile (Explain n) f) → Plans f.problem n (SaysExplained f.problem f.names) v x → IsReply (Explain n) f v x
+explain_reply n f Done x none plans = (none, λ input. plans)
+explain_reply n f NoPlan x none plans = (none, (n, refl, plans.0, plans.1))
+explain_reply n f Refused x none plans = absurd plans
+
 pub derive_reply : (f : File) (x : Text) → NoneApplies (RefusesFile Derive f) → x ≡ derive_text f.names f.parameters f.problem → IsReply Derive f Done x
 derive_reply f x none e = (none, λ input. e)
 
@@ -68,6 +74,9 @@ shared_reply n f Refused x none plans = absurd plans
 
 pub says_recalled : (p : Problem) (names : Names) (t : Tree) (front behind text : Text) → front ≡ tree_text names t → Recalls p names t behind → text ≡ front ++ behind → SaysRecalled p names text t
 says_recalled p names t front behind text e r f = (r.leaves, r.recalled, f ∙ ap₂ (λ x y. x ++ y) e r.says)
+
+pub says_explained : (p : Problem) (names : Names) (t : Tree) (es : List Entry) (front behind text : Text) → front ≡ tree_text names t → IsExplained p t es → behind ≡ explained_text names es → text ≡ front ++ behind → SaysExplained p names text t
+says_explained p names t es front behind text e explained says f = (es, explained, f ∙ ap₂ (λ x y. x ++ y) e says)
 
 pub says_shared : (names : Names) (t : Tree) (nodes : List Node) (text : Text) → IsShared t nodes → text ≡ shared_text names nodes → SaysShared names text t
 says_shared names t nodes text shared e = (nodes, shared, e)

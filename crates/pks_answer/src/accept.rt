@@ -117,8 +117,13 @@ fn world_for(alloc: Global, job: Job, f: &InputFile<'_>) -> Result<Option<World>
     ensures refused { IfErr result (IfRefused f.now (RefusesFor (job_of job) (file_of f.now))) }
 {
     match job {
-        Job::Check | Job::Plan(_) | Job::Recall(_) | Job::Agent(_) | Job::Derive | Job::Shared(_) =>
-            sound_world(alloc, f),
+        Job::Check
+        | Job::Plan(_)
+        | Job::Recall(_)
+        | Job::Agent(_)
+        | Job::Explain(_)
+        | Job::Derive
+        | Job::Shared(_) => sound_world(alloc, f),
         Job::Exec(_) => match run_world(alloc, f) {
             Ok(w) => Ok(Some(w)),
             Err(turned) => Err(turned),

@@ -10,12 +10,13 @@ ghost use Rattle.pks_world.specs.Contents.{world_of};
 ghost use Rattle.pks_normal.specs.Fives.{five_of};
 ghost use Rattle.pks_plan.specs.TreeViews.{tree_of};
 ghost use Rattle.pks_answer.specs.Accepting.{Begins};
-ghost use Rattle.pks_answer.specs.Replies.{Plans, Says, SaysRecalled, SaysShared};
+ghost use Rattle.pks_answer.specs.Replies.{Plans, Says, SaysRecalled, SaysExplained, SaysShared};
 
 use crate::reply::Verdict;
 use pks_bench::bench_line;
 use pks_dag::{print_dag, share};
 use pks_exec::{exec, print_run};
+use pks_explain::{explain, print_explained};
 use pks_plan::{Tree, print_tree};
 use pks_query::databases::Db;
 use pks_recall::recall;
@@ -111,6 +112,40 @@ pub fn plan_and_recall(
 {
     match best_from(alloc, p, first, depth)? {
         Some(tree) => Ok((Verdict::Done, recalled_text(alloc, p, &tree)?)),
+        None => Ok((Verdict::NoPlan, none_text(alloc, depth)?)),
+    }
+}
+
+// The text of a plan, and of a proof of each literal that it rests on.
+#[tactic(auto, using(crate::proofs::Planning::says_explained))]
+fn explained_text(alloc: Global, p: &Problem<'_>, t: &Tree) -> Result<Vec<u8>, AllocError>
+    requires valid { IsValidProblem p.now }
+    requires justified { unjustified (problem_of p.now) ≡ [] }
+    requires derived { IsPlan (problem_of p.now) (tree_of t.now) }
+    requires depth { depth (tree_of t.now) ≤ 16 }
+    ensures { IfOk result (λ text. SaysExplained (problem_of p.now) (names_of p.now) text.items (tree_of t.now)) }
+{
+    let mut text = print_tree(alloc, p, t)?;
+    let entries = explain(alloc, p, t)?;
+    let proofs = print_explained(alloc, p, &entries)?;
+    text.extend_from_slice(&proofs)?;
+    Ok(text)
+}
+
+// The best plan to the depth and a proof of each literal that it rests on, or that there is no plan.
+pub fn plan_and_explain(
+    alloc: Global,
+    p: &Problem<'_>,
+    first: Db,
+    depth: u8,
+) -> Result<(Verdict, Vec<u8>), AllocError>
+    requires valid { IsValidProblem p.now }
+    requires depth { depth ≤ 16 }
+    requires begins { Begins (problem_of p.now) (five_of first) }
+    ensures { IfOk result (λ a. Plans (problem_of p.now) depth (SaysExplained (problem_of p.now) (names_of p.now)) a.0 a.1.items) }
+{
+    match best_from(alloc, p, first, depth)? {
+        Some(tree) => Ok((Verdict::Done, explained_text(alloc, p, &tree)?)),
         None => Ok((Verdict::NoPlan, none_text(alloc, depth)?)),
     }
 }

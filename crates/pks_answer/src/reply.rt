@@ -10,7 +10,7 @@ ghost use Rattle.pks_answer.specs.Replies.{IsReply, IsAbout, RepliesTo};
 
 use crate::accept::{Accepted, accept};
 use crate::line::file_line;
-use crate::plans::{bench, plan, plan_and_recall, plan_and_run, plan_shared};
+use crate::plans::{bench, plan, plan_and_explain, plan_and_recall, plan_and_run, plan_shared};
 use pks_derive::derive;
 use pks_file::InputFile;
 use pks_reader::Turned;
@@ -69,6 +69,7 @@ fn concluded(
         Job::Bench(n) => bench(alloc, &f.problem, f.source.as_bytes(), first, n),
         Job::Recall(depth) => plan_and_recall(alloc, &f.problem, first, depth),
         Job::Agent(_) => unreachable!(),
+        Job::Explain(depth) => plan_and_explain(alloc, &f.problem, first, depth),
         Job::Derive => Ok((Verdict::Done, derive(alloc, &f.problem)?)),
         Job::Shared(depth) => plan_shared(alloc, &f.problem, first, depth),
     }
@@ -89,8 +90,9 @@ fn replied(alloc: Global, job: Job, f: &InputFile<'_>) -> Result<(Verdict, Vec<u
 }
 
 /// The reply to a job about a file as `read_file` gives it: its verdict and its text, as `docs/FORMAT.md` says, and no
-/// other reply fits. A plan that is printed or run is good in every compatible world, and what its histories know of earlier
-/// moments was so then, as is what is told of them. It asks for a job whose number is within its bounds, and, for `bench`, for the generated file;
+/// other reply fits, but that an explanation may have other proofs of the same literals. A plan that is printed or run is good
+/// in every compatible world, and what its histories know of earlier moments was so then, as is what is told of them or shown.
+/// It asks for a job whose number is within its bounds, and, for `bench`, for the generated file;
 /// a dialogue hangs on its answers too, and has [`lead_about`](crate::leads::lead_about). It errs only where memory runs out.
 pub fn reply_about(
     alloc: Global,

@@ -1,5 +1,5 @@
 pub mod Texts
-pub mod Sizes
 pub mod Marking
 pub mod Cut
 pub mod Numbers
+pub mod Accepted

@@ -1,13 +1,16 @@
-//! Of explanations: what one owes, its text, and proofs cut from lines. Nothing here finds the lines.
+//! Explanations: what a tree owes, with a proof of each, and their text.
 #![tactic(auto)]
 
 mod bytes;
 mod cutting;
 pub mod entries;
+pub mod explaining;
 mod owing;
 mod print;
+mod proving;
 
 pub use cutting::proof_of;
 pub use entries::{Entry, Explained, Owed};
+pub use explaining::explain;
 pub use owing::owed;
 pub use print::print_explained;

@@ -42,7 +42,7 @@ fn literal_aimed(aim: &Aim) -> Option<Literal>
 }
 
 /// The literals of these goals, in order.
-fn literals_aimed(alloc: Global, aims: &[Aim]) -> Result<Vec<Literal>, AllocError>
+pub(crate) fn literals_aimed(alloc: Global, aims: &[Aim]) -> Result<Vec<Literal>, AllocError>
     ensures { IfOk result (λ ls. literals_in ls.items ≡ filter_map literal_aimed (map aim_of aims.now)) }
 {
     let mut literals = Vec::new(alloc);
@@ -65,7 +65,11 @@ fn written_before<'a>(p: &'a Problem<'_>, act: ActId) -> &'a [Query]
 }
 
 /// The literals that must be known before the action, in the order of its preconditions.
-fn needed_before(alloc: Global, p: &Problem<'_>, i: &Instance) -> Result<Vec<Literal>, AllocError>
+pub(crate) fn needed_before(
+    alloc: Global,
+    p: &Problem<'_>,
+    i: &Instance,
+) -> Result<Vec<Literal>, AllocError>
     ensures { IfOk result (λ ls. literals_in ls.items ≡ needed_before (problem_of p.now) (instance_of i.now)) }
 {
     let mut literals = Vec::new(alloc);

@@ -1,7 +1,3 @@
-pub mod Lengths
-pub mod Readiness
-pub mod Stepping
-pub mod Sizes
 pub mod Gathering
 pub mod Telling
 pub mod LeafLaws

@@ -6,6 +6,5 @@ pub mod laws;
 mod leaves;
 mod print;
 pub mod recalling;
-mod states;
 
 pub use recalling::recall;

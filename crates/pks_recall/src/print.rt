@@ -8,16 +8,16 @@ ghost use Rattle.pks_terms.specs.Recalled.{moment_text, state_text, leaf_text, r
 ghost use Rattle.pks_terms.specs.Views.{names_of, literal_of};
 ghost use Rattle.pks_kf.specs.Known.{literals_of};
 ghost use Rattle.pks_normal.specs.Fives.{five_of};
-ghost use Rattle.pks_recall.specs.Walking.{state_of};
+ghost use Rattle.pks_walk.specs.Walking.{state_of};
 
 use crate::bytes::{put, put_number};
-use crate::states::State;
 use pks_history::histories::History;
 use pks_kf::Kf;
 use pks_plan::print_literal;
 use pks_query::databases::Db;
 use pks_terms::literal::Literal;
 use pks_terms::problem::Problem;
+use pks_walk::State;
 use std::alloc::{AllocError, Global};
 
 /// Appends a literal on a line.

@@ -1,34 +1,18 @@
 //! What each leaf of a plan knows of every moment. `docs/RULES.md` says what histories are, `docs/FORMAT.md` has the text.
 ghost use Rattle.std.specs.Prelude.{◌≡◌, ◌≤◌, [], IfOk};
 ghost use Rattle.pks_terms.specs.Answers.{unjustified};
-ghost use Rattle.pks_terms.specs.Problems.{initial};
 ghost use Rattle.pks_terms.specs.Trees.{IsPlan, depth};
 ghost use Rattle.pks_terms.specs.ValidProblems.{IsValidProblem};
 ghost use Rattle.pks_terms.specs.Views.{problem_of, names_of};
 ghost use Rattle.pks_plan.specs.TreeViews.{tree_of};
-ghost use Rattle.pks_recall.specs.Walking.{state_of, IsStart, Recalls};
+ghost use Rattle.pks_recall.specs.Walking.{Recalls};
 
 use crate::leaves::add_leaves;
 use crate::print::print_leaves;
-use crate::states::State;
-use pks_closing::closing::CloseEnd;
-use pks_history::histories::History;
 use pks_plan::Tree;
-use pks_query::databases::Db;
 use pks_terms::problem::Problem;
+use pks_walk::start;
 use std::alloc::{AllocError, Global};
-
-/// Where a plan begins: at the history of one moment, or at the clash of the initial databases.
-fn start(alloc: Global, p: &Problem<'_>) -> Result<State, AllocError>
-    requires { IsValidProblem p.now }
-    ensures { IfOk result (λ x. IsStart (problem_of p.now) (state_of x)) }
-{
-    match Db::first(alloc, p) {
-        Ok(d) => Ok(State::At(History::start(alloc, d)?)),
-        Err(CloseEnd::Clash(_)) => Ok(State::Stopped),
-        Err(CloseEnd::Memory) => Err(AllocError),
-    }
-}
 
 /// The text of what each leaf of the tree knows, from left to right and counted from 1: each moment of its history with the
 /// literals that are known of it, or `impossible` where it has none (`docs/FORMAT.md`, "Texts"). Each literal was true at its

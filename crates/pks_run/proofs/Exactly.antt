@@ -22,10 +22,10 @@ refusal_answers words input (j, asks, inr (f, accepted, (text, refused))) = (tex
 -- a status is this one exactly where P, if an answer with it is
 module _ (words : List Text) (input : Text) (this : Status) (P : Type 0) (cut_isnt : (s : Status) → s ≡ this → IsAnswered s) (comes : (text : Text) → IsAnswer words input this text → P) (answers : P → (text : Text) × IsAnswer words input this text) where
   -- the answer is one alone, and what ended the call is its status or a fault of writing
-  exactly_sent : (status : Status) (text : Text) → IsAnswer words input status text → ((s : Status) (t : Text) → IsAnswer words input s t → (s ≡ status) × (t ≡ text))
+  exactly_sent : (status : Status) (text : Text) → IsAnswer words input status text → ((s : Status) (t : Text) → IsAnswer words input s t → s ≡ status)
       → (result : Status) → (result ≡ status) ⊎ (result ≡ WriteFault) → IsExactly result this P
   exactly_sent status text answer only result (inl e) =
-      (λ is. comes text (subst (λ s. IsAnswer words input s text) (sym e ∙ is) answer), λ p. let a = answers p in inl (e ∙ sym (only this a.0 a.1).0))
+      (λ is. comes text (subst (λ s. IsAnswer words input s text) (sym e ∙ is) answer), λ p. let a = answers p in inl (e ∙ sym (only this a.0 a.1)))
   exactly_sent status text answer only result (inr e) =
       (λ is. absurd (subst IsAnswered e (cut_isnt result is)), λ p. inr (λ whole. subst IsAnswered e whole))
 
@@ -33,11 +33,11 @@ module _ (words : List Text) (input : Text) (this : Status) (P : Type 0) (cut_is
   exactly_cut result cut = (λ is. absurd (cut (cut_isnt result is)), λ p. inr cut)
 
 module _ (words : List Text) (input : Text) where
-  pub no_plan_sent : (status : Status) (text : Text) → IsAnswer words input status text → ((s : Status) (t : Text) → IsAnswer words input s t → (s ≡ status) × (t ≡ text))
+  pub no_plan_sent : (status : Status) (text : Text) → IsAnswer words input status text → ((s : Status) (t : Text) → IsAnswer words input s t → s ≡ status)
       → (result : Status) → (result ≡ status) ⊎ (result ≡ WriteFault) → IsExactly result NoPlan (HasNoPlan words input)
   no_plan_sent = exactly_sent words input NoPlan (HasNoPlan words input) (λ s e. subst IsAnswered (sym e) tt) (has_no_plan words input) (none_answers words input)
 
-  pub refused_sent : (status : Status) (text : Text) → IsAnswer words input status text → ((s : Status) (t : Text) → IsAnswer words input s t → (s ≡ status) × (t ≡ text))
+  pub refused_sent : (status : Status) (text : Text) → IsAnswer words input status text → ((s : Status) (t : Text) → IsAnswer words input s t → s ≡ status)
       → (result : Status) → (result ≡ status) ⊎ (result ≡ WriteFault) → IsExactly result Refused (IsRefused words input)
   refused_sent = exactly_sent words input Refused (IsRefused words input) (λ s e. subst IsAnswered (sym e) tt) (is_refused words input) (refusal_answers words input)
 

@@ -2,10 +2,10 @@
 use Rattle.std.proofs.Common.{◌≡◌, ◌⊎◌, ℕ, List, Option, inl, inr, refl, sym, subst}
 use Rattle.std.specs.Io.KnownBytes.{Appends}
 use Rattle.pks_io.specs.Causes.{Rose}
-use Rattle.pks_terms.specs.Jobs.{Agent}
+use Rattle.pks_terms.specs.Jobs.{Agent, Explain}
 use Rattle.pks_terms.specs.Printed.{Text}
 use Rattle.pks_words.specs.JobViews.{AskForOne}
-use Rattle.pks_run.specs.Answer.{IsAnswered, IsAnswer, IsExactly, HasNoPlan, IsRefused, PrintsGood, LeadsFront, WritesFront}
+use Rattle.pks_run.specs.Answer.{IsAnswered, IsAnswer, AskNoExplanation, IsExactly, HasNoPlan, IsRefused, PrintsGood, LeadsFront, WritesFront}
 use Rattle.pks_run.specs.Leads.{HasCauses, Leads}
 use Rattle.pks_run.specs.declared.status.Status.{Status}
 use Rattle.pks_run.specs.declared.status.Status.TheVariants.{Done, NoPlan, Words, Refused, ReadFault, WriteFault, Memory}
@@ -15,6 +15,10 @@ use Rattle.pks_run.proofs.Replying.{job_answered, answered_job}
 -- a dialogue has one depth
 pub same_depth : (m n : ℕ) → Agent m ≡ Agent n → m ≡ n
 same_depth m n e = cc
+
+-- and is no explanation
+pub dialogue_or_explanation : (n m : ℕ) → Explain m ≡ Agent n → ⊥
+dialogue_or_explanation n m e = cc
 
 -- a front of what answers the dialogue is one of what answers the words
 pub front_written : (words : List Text) (n : ℕ) → AskForOne words (Agent n) → (input : Text) (old new : Option Text) → LeadsFront n input old new → WritesFront words input old new
@@ -27,10 +31,10 @@ module _ (words : List Text) (n : ℕ) (asks : AskForOne words (Agent n)) (input
   only_answer : (whole : IsAnswered s) (status : Status) (text : Text) → IsAnswer words input status text → (status ≡ s) × (text ≡ (leads.answered whole).0)
   only_answer whole status text other = (leads.answered whole).1.only status text (answered_job words (Agent n) input status text asks other)
 
-  pub dialogue_only : IsAnswered s → (status : Status) (text : Text) → IsAnswer words input status text → (s ≡ status) × Appends old new text
+  pub dialogue_only : IsAnswered s → (status : Status) (text : Text) → IsAnswer words input status text → (s ≡ status) × ((s ≡ Done → AskNoExplanation words) → Appends old new text)
   dialogue_only whole status text other =
       let one = only_answer whole status text other in
-      (sym one.0, subst (λ (t : Text). Appends old new t) (sym one.1) (leads.answered whole).2)
+      (sym one.0, λ unexplained. subst (λ (t : Text). Appends old new t) (sym one.1) (leads.answered whole).2)
 
   pub dialogue_good : s ≡ Done → PrintsGood words input old new
   dialogue_good done = let r = leads.answered (subst IsAnswered (sym done) tt) in (r.0, (Agent n, asks.0, r.1.good done), r.2)
@@ -47,14 +51,14 @@ module _ (words : List Text) (n : ℕ) (asks : AskForOne words (Agent n)) (input
   pub dialogue_no_plan : IsExactly s NoPlan (HasNoPlan words input)
   unfolding dialogue_answers
   dialogue_no_plan = elim (whole_or_cut s) [
-    | inl whole ↦ (let a = dialogue_answers whole in no_plan_sent words input s a.0 a.1 (λ t y other. only_answer whole t y other) s (inl refl))
+    | inl whole ↦ (let a = dialogue_answers whole in no_plan_sent words input s a.0 a.1 (λ t y other. (only_answer whole t y other).0) s (inl refl))
     | inr cut ↦ no_plan_cut words input s cut
   ]
 
   pub dialogue_refused : IsExactly s Refused (IsRefused words input)
   unfolding dialogue_answers
   dialogue_refused = elim (whole_or_cut s) [
-    | inl whole ↦ (let a = dialogue_answers whole in refused_sent words input s a.0 a.1 (λ t y other. only_answer whole t y other) s (inl refl))
+    | inl whole ↦ (let a = dialogue_answers whole in refused_sent words input s a.0 a.1 (λ t y other. (only_answer whole t y other).0) s (inl refl))
     | inr cut ↦ refused_cut words input s cut
   ]
 

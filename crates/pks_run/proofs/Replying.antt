@@ -4,12 +4,12 @@ use Rattle.pks_terms.specs.Jobs.{Job, Check, Plan, Exec, Bench, Recall, Agent, E
 use Rattle.pks_terms.specs.Printed.{Text, refusal_text}
 use Rattle.pks_terms.specs.Answers as answers
 use Rattle.pks_terms.specs.Answers.{Place, Reading, ReadAs, Faulty, File, IsAccepted, IsDone, IsTalkRefused, IsUnplanned, refusal, text_for}
-use Rattle.pks_words.specs.JobViews.{modes, IsBuilt, AskFor, AskForOne, AskNoJob}
+use Rattle.pks_words.specs.JobViews.{modes, AskFor, AskForOne, AskNoJob}
 use Rattle.pks_file.specs.Inputs.{Reads, IsRead}
-use Rattle.pks_answer.specs.Replies.{IsReply, IsAbout, RepliesTo}
+use Rattle.pks_answer.specs.Replies.{IsReply, IsAbout, AreAlike as AlikeReplies, RepliesTo}
 use Rattle.pks_answer.specs.declared.reply.Verdict.{Verdict}
 use Rattle.pks_answer.specs.declared.reply.Verdict.TheVariants as verdict_is
-use Rattle.pks_run.specs.Answer.{IsBench, IsDialogue, AnswersJob, IsReplied, IsReplyTo, Replies, IsAnswered, IsAnswer, IsAnswerTo, Responds}
+use Rattle.pks_run.specs.Answer.{IsBench, IsDialogue, AnswersJob, AreAlike, IsReplied, IsReplyTo, Replies, IsAnswered, IsAnswer, AskNoExplanation, IsAnswerTo, Responds}
 use Rattle.pks_run.specs.Replied.{status_for}
 use Rattle.pks_run.specs.declared.status.Status.{Status}
 use Rattle.pks_run.specs.declared.status.Status.TheVariants.{Done, NoPlan, Words, Refused, ReadFault, WriteFault, Memory}
@@ -17,16 +17,16 @@ use Rattle.pks_run.specs.declared.status.Status.TheVariants.{Done, NoPlan, Words
 -- ---- the text that a job is about
 
 -- a job that isn't about the generated file, and is no dialogue, is about the input
-pub text_is : (j : Job) (input : Text) → IsBuilt j → (IsBench j → ⊥) → (IsDialogue j → ⊥) → text_for j input ≡ input
-text_is Check input built b single = refl
-text_is (Plan n) input built b single = refl
-text_is (Exec n) input built b single = refl
-text_is (Bench n) input built b single = absurd (b tt)
-text_is (Recall n) input built b single = refl
-text_is (Agent n) input built b single = absurd (single tt)
-text_is (Explain n) input built b single = refl
-text_is Derive input built b single = refl
-text_is (Shared n) input built b single = refl
+pub text_is : (j : Job) (input : Text) → (IsBench j → ⊥) → (IsDialogue j → ⊥) → text_for j input ≡ input
+text_is Check input b single = refl
+text_is (Plan n) input b single = refl
+text_is (Exec n) input b single = refl
+text_is (Bench n) input b single = absurd (b tt)
+text_is (Recall n) input b single = refl
+text_is (Agent n) input b single = absurd (single tt)
+text_is (Explain n) input b single = refl
+text_is Derive input b single = refl
+text_is (Shared n) input b single = refl
 
 -- a job about this text alone is no dialogue
 pub about_single : (j : Job) (text : Text) → IsAbout j text → IsDialogue j → ⊥
@@ -64,6 +64,52 @@ done_alike (Explain n) f x y t single a = a
 done_alike Derive f x y t single a = a
 done_alike (Shared n) f x y t single a = a
 
+-- ---- texts that are alike
+
+-- two replies about a file that is accepted where they are done
+alike_there : (j : Job) (input : Text) (f : File) (v : Verdict) (t u : Text) → (v ≡ verdict_is.Done → IsAccepted Reads j input f) → AlikeReplies j f v t u → AreAlike j input (status_for v) t u
+alike_there Check input f v t u accepted e = e
+alike_there (Plan n) input f v t u accepted e = e
+alike_there (Exec n) input f v t u accepted e = e
+alike_there (Bench n) input f v t u accepted e = e
+alike_there (Recall n) input f v t u accepted e = e
+alike_there (Agent n) input f v t u accepted e = e
+alike_there (Explain n) input f verdict_is.Done t u accepted e = (f, accepted refl, e)
+alike_there (Explain n) input f verdict_is.NoPlan t u accepted e = e
+alike_there (Explain n) input f verdict_is.Refused t u accepted e = e
+alike_there Derive input f v t u accepted e = e
+alike_there (Shared n) input f v t u accepted e = e
+
+-- two refusals
+refused_alike : (j : Job) (input t u : Text) → t ≡ u → AreAlike j input Refused t u
+refused_alike Check input t u e = e
+refused_alike (Plan n) input t u e = e
+refused_alike (Exec n) input t u e = e
+refused_alike (Bench n) input t u e = e
+refused_alike (Recall n) input t u e = e
+refused_alike (Agent n) input t u e = e
+refused_alike (Explain n) input t u e = e
+refused_alike Derive input t u e = e
+refused_alike (Shared n) input t u e = e
+
+-- they are the same, but where the words ask for an explanation and it is done
+alike_same : (words : List Text) (j : Job) (input : Text) (s : Status) (t u : Text) → AskFor words j → (s ≡ Done → AskNoExplanation words) → AreAlike j input s t u → t ≡ u
+alike_same words Check input s t u asks unexplained e = e
+alike_same words (Plan n) input s t u asks unexplained e = e
+alike_same words (Exec n) input s t u asks unexplained e = e
+alike_same words (Bench n) input s t u asks unexplained e = e
+alike_same words (Recall n) input s t u asks unexplained e = e
+alike_same words (Agent n) input s t u asks unexplained e = e
+alike_same words (Explain n) input Done t u asks unexplained e = absurd (unexplained refl n asks)
+alike_same words (Explain n) input NoPlan t u asks unexplained e = e
+alike_same words (Explain n) input Words t u asks unexplained e = e
+alike_same words (Explain n) input Refused t u asks unexplained e = e
+alike_same words (Explain n) input ReadFault t u asks unexplained e = e
+alike_same words (Explain n) input WriteFault t u asks unexplained e = e
+alike_same words (Explain n) input Memory t u asks unexplained e = e
+alike_same words Derive input s t u asks unexplained e = e
+alike_same words (Shared n) input s t u asks unexplained e = e
+
 -- what words ask for is within its bounds
 pub asked_in_bounds : (words : List Text) (j : Job) → AskFor words j → IsInBounds j
 asked_in_bounds [] j asks = absurd asks
@@ -79,7 +125,7 @@ abbrev IsFile : Reading → Type 0
 IsFile (ReadAs f) = Unit {0}
 IsFile (Faulty at code) = ⊥
 
-module _ (j : Job) (built : IsBuilt j) (input text : Text) (about : text_for j input ≡ text) where
+module _ (j : Job) (input text : Text) (about : text_for j input ≡ text) where
   read_here : (x : Reading) → Reads (text_for j input) x → Reads text x
   read_here x r = subst (λ t. Reads t x) about r
 
@@ -116,6 +162,11 @@ module _ (j : Job) (built : IsBuilt j) (input text : Text) (about : text_for j i
     done_only verdict_is.NoPlan e = absurd cc
     done_only verdict_is.Refused e = absurd cc
 
+    accepted_done : (v : Verdict) (t : Text) → IsReply j f v t → v ≡ verdict_is.Done → IsAccepted Reads j input f
+    accepted_done verdict_is.Done t (fine, done) e = record { reads = read_there (ReadAs f) is_read; fine = fine }
+    accepted_done verdict_is.NoPlan t reply e = absurd cc
+    accepted_done verdict_is.Refused t reply e = absurd cc
+
     -- the one reply is the one answer
     pub file_replied : (v : Verdict) (t : Text) → RepliesTo j f v t → IsReplyTo j input (status_for v) t
     file_replied v t replies = record {
@@ -123,7 +174,7 @@ module _ (j : Job) (built : IsBuilt j) (input text : Text) (about : text_for j i
       only = λ status other a.
           let r = answer_replies status other a in
           let same = replies.only r.0 other r.2 in
-          (r.1 ∙ ap status_for same.0, same.1);
+          (r.1 ∙ ap status_for same.0, alike_there j input f v other t (accepted_done v t replies.reply) same.1);
       good = λ done.
           let is : v ≡ verdict_is.Done = done_only v done in
           let reply : IsReply j f verdict_is.Done t = subst (λ u. IsReply j f u t) is replies.reply in
@@ -154,7 +205,7 @@ module _ (j : Job) (built : IsBuilt j) (input text : Text) (about : text_for j i
     pub fault_replied : (t : Text) → t ≡ refusal_text (refusal at code []) → IsReplyTo j input Refused t
     fault_replied t is = record {
       answers = inl (refusal at code [], (Faulty at code, read_there (Faulty at code) is_faulty, refl), is);
-      only = λ status other a. let one = one_fault status other a in (one.0, one.1 ∙ sym is);
+      only = λ status other a. let one = one_fault status other a in (one.0, refused_alike j input other t (one.1 ∙ sym is));
       good = λ done. absurd (isnt_done done);
     }
 
@@ -193,7 +244,12 @@ answered_job words j input Memory t asks (k, asked, a) = absurd a
 reply_answered : (words : List Text) (j : Job) (input : Text) (status : Status) (t : Text) → AskForOne words j → IsReplyTo j input status t → IsAnswerTo words input status t
 reply_answered words j input status t asks reply = record {
   answers = job_answered words j input status t asks.0 reply.answers;
-  only = λ other u a. reply.only other u (answered_job words j input other u asks a);
+  only = λ other u a.
+      let one = reply.only other u (answered_job words j input other u asks a) in
+      (one.0, λ unexplained. alike_same words j input status u t asks.0 unexplained one.1);
+  explained = λ n asked done u a.
+      let one = reply.only Done u (answered_job words j input Done u asks a) in
+      subst (λ (k : Job). AreAlike k input Done u t) (sym (asks.1 (Explain n) asked)) (subst (λ s. AreAlike j input s u t) done one.1);
   good = λ done. (j, asks.0, reply.good done);
 }
 
@@ -236,7 +292,8 @@ module _ (words : List Text) (nothing : AskNoJob words) where
   usage_answers : (t : Text) → t ≡ usage_text modes → (input : Text) → IsAnswerTo words input Words t
   usage_answers t is input = record {
     answers = (nothing, is);
-    only = λ status other a. let one = one_usage input status other a in (one.0, one.1 ∙ sym is);
+    only = λ status other a. let one = one_usage input status other a in (one.0, λ unexplained. one.1 ∙ sym is);
+    explained = λ n asked done. absurd (isnt_words done);
     good = λ done. absurd (isnt_words done);
   }
 

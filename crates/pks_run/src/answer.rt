@@ -43,7 +43,7 @@ pub fn usage(alloc: Global) -> Result<Vec<u8>, AllocError>
     ensures { IfOk result (λ text. text.items ≡ usage_text modes) }
 {
     let text =
-        b"usage: pks check | plan DEPTH | exec DEPTH | bench N | recall DEPTH | agent DEPTH | derive | shared DEPTH\n".to_vec(
+        b"usage: pks check | plan DEPTH | exec DEPTH | bench N | recall DEPTH | agent DEPTH | explain DEPTH | derive | shared DEPTH\n".to_vec(
             alloc,
         )?;
     Ok(text)

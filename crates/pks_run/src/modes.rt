@@ -1,6 +1,6 @@
 // What the modes beside planning and running print, by whole runs.
 use crate::Status;
-use crate::rows::{BOTH, DIG, DOOR, GROUPS, LAWN, LAWN_WORLD_POISON, SAFE, TUBS};
+use crate::rows::{BOTH, DIG, DOOR, GROUPS, LAWN, LAWN_PLAN, LAWN_WORLD_POISON, SAFE, TUBS};
 use crate::tests::{USAGE, answer_row};
 use std::test::Fail;
 
@@ -122,6 +122,106 @@ fn what_each_leaf_recalls(rt: HostRuntime) -> Result<(), Fail> {
     ];
     for (depth, input, status, text) in rows {
         let (got, written) = answer_row(alloc, "recall", depth, input)?;
+        assert_eq!(rt; got, status);
+        assert_eq!(rt; written.as_slice(), text.as_bytes());
+    }
+    Ok(())
+}
+
+const DOOR_EXPLAIN: &str = "plan depth 0
+goal
+known (open)
+1 moment 0 (open) given 1
+";
+
+const GROUPS_EXPLAIN: &str = "plan depth 1
+branch (r)
+true
+  impossible
+false
+  goal
+known (not (r))
+1 moment 0 (not (r)) side 1
+";
+
+const VAULT_EXPLAIN: &str = "plan depth 2
+cases (combo)
+case c1
+  (press c1)
+  goal
+case c2
+  (press c2)
+  goal
+known (= (combo) c1)
+1 moment 0 (= (combo) c1) side 1
+known (key c1)
+1 moment 0 (key c1) given 2
+known (ajar)
+1 moment 1 (ajar) effect
+known (= (combo) c2)
+1 moment 0 (= (combo) c2) side 1
+known (key c2)
+1 moment 0 (key c2) given 3
+known (ajar)
+1 moment 1 (ajar) effect
+";
+
+// The lawn, and seed that may be sown where there is known to be poison.
+const SOWN: &str = "(pks 1)
+(domain
+  (predicates (alive) (poison))
+  (action pour (effects (when ((poison)) (unset (alive)))))
+  (action look (senses (sense (alive))) (knows (kw (alive))))
+  (action sow (pre (k (poison))) (effects (set (alive))) (knows (kf (alive)))))
+(problem (init (kf (alive))) (goal (kw (poison)) (k (alive))))
+";
+
+const SOWN_EXPLAIN: &str = "plan depth 4
+(pour)
+(look)
+branch (alive)
+true
+  goal
+false
+  (sow)
+  goal
+known (alive)
+1 moment 2 (alive) side 1
+known (poison)
+1 moment 0 (alive) given 1
+2 moment 2 (not (alive)) side 1
+3 moment 1 (not (alive)) back by 2
+4 moment 0 (poison) must by 1 3
+5 moment 1 (poison) keep by 4
+6 moment 2 (poison) keep by 5
+known (alive)
+1 moment 3 (alive) effect
+";
+
+#[test]
+fn what_a_plan_rests_on(rt: HostRuntime) -> Result<(), Fail> {
+    let alloc = rt.alloc();
+    let rows = [
+        ("0", DOOR, Status::Done, DOOR_EXPLAIN),
+        ("3", LAWN, Status::Done, LAWN_PLAN),
+        ("3", LAWN_WORLD_POISON, Status::Done, LAWN_PLAN),
+        ("2", LAWN, Status::NoPlan, "none to depth 2\n"),
+        ("1", GROUPS, Status::Done, GROUPS_EXPLAIN),
+        ("2", VAULT, Status::Done, VAULT_EXPLAIN),
+        ("4", SOWN, Status::Done, SOWN_EXPLAIN),
+        ("3", BOTH, Status::Refused, "refused 3:10 270\n"),
+        (
+            "2",
+            DIG,
+            Status::Refused,
+            "refused 6:21 260 action dig effect 2\n",
+        ),
+        ("17", DOOR, Status::Words, USAGE),
+        ("03", DOOR, Status::Words, USAGE),
+        ("", DOOR, Status::Words, USAGE),
+    ];
+    for (depth, input, status, text) in rows {
+        let (got, written) = answer_row(alloc, "explain", depth, input)?;
         assert_eq!(rt; got, status);
         assert_eq!(rt; written.as_slice(), text.as_bytes());
     }

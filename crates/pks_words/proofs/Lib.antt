@@ -1,4 +1,3 @@
-pub mod Built
 pub mod Parsed
 pub mod Spelling
 pub mod Walking

@@ -1,5 +1,5 @@
 -- Modes with numbers: which are the words of no job, and that none are the words of two.
-use Rattle.std.proofs.Common.{◌≡◌, ◌∙◌, ◌<◌, ◌∷◌, [], ℕ, true, false, nat_eq, length, List, Option, Some, None, IfSome, codes, decimal, if◌then◌else◌, refl, sym, ap, ap₂, subst, arith}
+use Rattle.std.proofs.Common.{◌≡◌, ◌∙◌, ◌<◌, ◌∷◌, [], ℕ, nat_eq, length, List, Option, Some, None, IfSome, codes, decimal, if◌then◌else◌, refl, sym, ap, ap₂, subst, arith}
 use Rattle.std.proofs.lemmas.Fmt.{decimal_injective}
 use Rattle.pks_terms.specs.Printed.{Text}
 use Rattle.pks_terms.specs.Jobs.{Mode, Checking, Planning, Running, Benching, Recalling, Leading, Explaining, Deriving, Sharing, Job, Check, Plan, Exec, Bench, Recall, Agent, Explain, Derive, Shared, mode_of, mode_word, number_of_job, number_words, IsInBounds}
@@ -12,21 +12,17 @@ letter (b ∷ word) = b
 
 -- ---- no words of a job
 
--- a mode that isn't built
-unbuilt : {A : Type 0} → false ≡ true → A
-unbuilt e = absurd cc
-
 -- a mode with a number that is none of these
-pub no_mode : (mode : Text) (n : ℕ) → (mode ≡ codes "plan" → ⊥) → (mode ≡ codes "exec" → ⊥) → (mode ≡ codes "bench" → ⊥) → (mode ≡ codes "recall" → ⊥) → (mode ≡ codes "agent" → ⊥) → (mode ≡ codes "shared" → ⊥) → AreNoWords (mode ∷ decimal n ∷ [])
-no_mode mode n plan exec bench recall agent shared Check w = let e = w.spelled in cc
-no_mode mode n plan exec bench recall agent shared (Plan m) w = let e = w.spelled in plan cc
-no_mode mode n plan exec bench recall agent shared (Exec m) w = let e = w.spelled in exec cc
-no_mode mode n plan exec bench recall agent shared (Bench m) w = let e = w.spelled in bench cc
-no_mode mode n plan exec bench recall agent shared (Recall m) w = let e = w.spelled in recall cc
-no_mode mode n plan exec bench recall agent shared (Agent m) w = let e = w.spelled in agent cc
-no_mode mode n plan exec bench recall agent shared (Explain m) w = unbuilt w.built
-no_mode mode n plan exec bench recall agent shared Derive w = let e = w.spelled in cc
-no_mode mode n plan exec bench recall agent shared (Shared m) w = let e = w.spelled in shared cc
+pub no_mode : (mode : Text) (n : ℕ) → (mode ≡ codes "plan" → ⊥) → (mode ≡ codes "exec" → ⊥) → (mode ≡ codes "bench" → ⊥) → (mode ≡ codes "recall" → ⊥) → (mode ≡ codes "agent" → ⊥) → (mode ≡ codes "explain" → ⊥) → (mode ≡ codes "shared" → ⊥) → AreNoWords (mode ∷ decimal n ∷ [])
+no_mode mode n plan exec bench recall agent explain shared Check w = let e = w.spelled in cc
+no_mode mode n plan exec bench recall agent explain shared (Plan m) w = let e = w.spelled in plan cc
+no_mode mode n plan exec bench recall agent explain shared (Exec m) w = let e = w.spelled in exec cc
+no_mode mode n plan exec bench recall agent explain shared (Bench m) w = let e = w.spelled in bench cc
+no_mode mode n plan exec bench recall agent explain shared (Recall m) w = let e = w.spelled in recall cc
+no_mode mode n plan exec bench recall agent explain shared (Agent m) w = let e = w.spelled in agent cc
+no_mode mode n plan exec bench recall agent explain shared (Explain m) w = let e = w.spelled in explain cc
+no_mode mode n plan exec bench recall agent explain shared Derive w = let e = w.spelled in cc
+no_mode mode n plan exec bench recall agent explain shared (Shared m) w = let e = w.spelled in shared cc
 
 -- a mode without a number
 pub no_bare_job : (mode : Text) → (mode ≡ codes "check" → ⊥) → (mode ≡ codes "derive" → ⊥) → AreNoWords (mode ∷ [])
@@ -36,7 +32,7 @@ no_bare_job mode check derive (Exec m) w = let e = w.spelled in cc
 no_bare_job mode check derive (Bench m) w = let e = w.spelled in cc
 no_bare_job mode check derive (Recall m) w = let e = w.spelled in cc
 no_bare_job mode check derive (Agent m) w = let e = w.spelled in cc
-no_bare_job mode check derive (Explain m) w = unbuilt w.built
+no_bare_job mode check derive (Explain m) w = let e = w.spelled in cc
 no_bare_job mode check derive Derive w = let e = w.spelled in derive cc
 no_bare_job mode check derive (Shared m) w = let e = w.spelled in cc
 

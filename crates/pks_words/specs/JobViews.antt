@@ -1,13 +1,13 @@
 -- The program's modes and its jobs, as the definitions have them.
-use Rattle.std.specs.Prelude.{◌≡◌, true, List, [], ◌∷◌}
+use Rattle.std.specs.Prelude.{◌≡◌, true, List, ◌∷◌}
 use Rattle.pks_terms.specs.Printed.{Text}
-use Rattle.pks_terms.specs.Jobs.{Mode, Checking, Planning, Running, Benching, Recalling, Leading, Deriving, Sharing, Job, Check, Plan, Exec, Bench, Recall, Agent, Derive, Shared, mode_of, mode_word, number_of_job, number_words, has_mode, IsCommand, Asks, AskForNone}
+use Rattle.pks_terms.specs.Jobs.{Mode, all_modes, Job, Check, Plan, Exec, Bench, Recall, Agent, Explain, Derive, Shared, mode_of, mode_word, number_of_job, number_words, has_mode, IsCommand, Asks, AskForNone}
 use Rattle.pks_words.specs.declared.job.Job.{Job as DJob}
 use Rattle.pks_words.specs.declared.job.Job.TheVariants as job_is
 
--- the modes that the program has
+-- the modes that the program has: all
 abbrev pub modes : List Mode
-modes = Checking ∷ Planning ∷ Running ∷ Benching ∷ Recalling ∷ Leading ∷ Deriving ∷ Sharing ∷ []
+modes = all_modes
 
 -- the job's mode is one of them
 abbrev pub IsBuilt : Job → Type 0
@@ -21,6 +21,7 @@ job_of (job_is.Exec n) = Exec n
 job_of (job_is.Bench n) = Bench n
 job_of (job_is.Recall n) = Recall n
 job_of (job_is.Agent n) = Agent n
+job_of (job_is.Explain n) = Explain n
 job_of job_is.Derive = Derive
 job_of (job_is.Shared n) = Shared n
 

@@ -15,6 +15,8 @@ pub enum Job {
     Recall(u8),
     /// Plan to this depth, from 0 to 16, and lead a caller through the plan by its answers.
     Agent(u8),
+    /// Plan to this depth, from 0 to 16, and prove what the plan rests on.
+    Explain(u8),
     /// Read a file, and tell the knowledge effects that follow from the text of its actions.
     Derive,
     /// Plan to this depth, from 0 to 16, and list the plan with its equal parts once.

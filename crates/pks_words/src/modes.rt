@@ -21,6 +21,7 @@ fn with_number(mode: &str, number: u8) -> Option<Job>
         "bench" => Some(Job::Bench(number)),
         "recall" => Some(Job::Recall(number)),
         "agent" => Some(Job::Agent(number)),
+        "explain" => Some(Job::Explain(number)),
         "shared" => Some(Job::Shared(number)),
         _ => None,
     }
@@ -32,7 +33,12 @@ fn is_in_bounds(job: Job) -> bool
 {
     match job {
         Job::Check | Job::Derive => true,
-        Job::Plan(n) | Job::Exec(n) | Job::Recall(n) | Job::Agent(n) | Job::Shared(n) => n <= 16,
+        Job::Plan(n)
+        | Job::Exec(n)
+        | Job::Recall(n)
+        | Job::Agent(n)
+        | Job::Explain(n)
+        | Job::Shared(n) => n <= 16,
         Job::Bench(n) => 1 <= n && n <= 64,
     }
 }

@@ -38,7 +38,11 @@ fn jobs_of_words(rt: HostRuntime) -> Result<(), Fail> {
         ("derive 3", Err(WordsEnd::Refused)),
         ("shared 16", Ok(Job::Shared(16))),
         ("shared 17", Err(WordsEnd::Refused)),
-        ("explain 3", Err(WordsEnd::Refused)),
+        ("explain 0", Ok(Job::Explain(0))),
+        ("explain 16", Ok(Job::Explain(16))),
+        ("explain 17", Err(WordsEnd::Refused)),
+        ("explain 03", Err(WordsEnd::Refused)),
+        ("explain", Err(WordsEnd::Refused)),
     ];
     for (text, wanted) in rows {
         assert!(rt; job(alloc, text)? == wanted, "{text}");

@@ -26,7 +26,7 @@ const TURN: &str = "(pks 1)
 ";
 
 const USAGE: &str =
-    "usage: pks check | plan DEPTH | exec DEPTH | bench N | recall DEPTH | agent DEPTH | derive | shared DEPTH\n";
+    "usage: pks check | plan DEPTH | exec DEPTH | bench N | recall DEPTH | agent DEPTH | explain DEPTH | derive | shared DEPTH\n";
 
 /// A mode, its number if there is one, a file, and the whole answer.
 #[derive(Clone, Copy)]
@@ -171,6 +171,18 @@ fn streams_that_fail_at_each_call(rt: HostRuntime) -> Result<(), Fail> {
             13,
             10,
             41,
+        ),
+        (
+            Row::new(
+                "explain",
+                "0",
+                DOOR,
+                Status::Done,
+                "plan depth 0\ngoal\nknown (open)\n1 moment 0 (open) given 1\n",
+            ),
+            13,
+            13,
+            57,
         ),
         (
             Row::new(

@@ -10,7 +10,7 @@ use Rattle.pks_answer.specs.declared.reply.Verdict.TheVariants.{Done}
 use Rattle.pks_answer.specs.Accepting.{IsRunIn}
 use Rattle.pks_answer.specs.Replies.{IsReply}
 use Rattle.pks_answer.proofs.Accepting.{none_applies}
-use Rattle.pks_answer.proofs.Planning.{run_is_given, run_is_stated, plan_reply, run_reply, bench_reply, recall_reply, derive_reply, shared_reply}
+use Rattle.pks_answer.proofs.Planning.{run_is_given, run_is_stated, plan_reply, run_reply, bench_reply, recall_reply, explain_reply, derive_reply, shared_reply}
 use Rattle.pks_answer.proofs.reply.concluded.Goals as goal
 
 pub returns-in_ok-accepted_text-in-Check : goal.returns-in_ok-accepted_text-in-Check
@@ -55,6 +55,13 @@ returns-in-Recall c =
     IfOk-weaker c.plan_and_recall.result _ _ (λ a plans.
     subst (λ (j : Job). NoneApplies (RefusesFile (job_of j) f) → IsReply (job_of j) f a.0 a.1.items) (sym c.in-Recall.is) (λ none. recall_reply c.in-Recall.depth f a.0 a.1.items none plans)
     (none_applies (job_of c.args.job) f (five_of c.args.accepted.first) c.args.accepted.world c.requires.accepts)) c.plan_and_recall.ensures
+
+pub returns-in-Explain : goal.returns-in-Explain
+returns-in-Explain c =
+    let f = file_of c.args.f.now in
+    IfOk-weaker c.plan_and_explain.result _ _ (λ a plans.
+    subst (λ (j : Job). NoneApplies (RefusesFile (job_of j) f) → IsReply (job_of j) f a.0 a.1.items) (sym c.in-Explain.is) (λ none. explain_reply c.in-Explain.depth f a.0 a.1.items none plans)
+    (none_applies (job_of c.args.job) f (five_of c.args.accepted.first) c.args.accepted.world c.requires.accepts)) c.plan_and_explain.ensures
 
 pub returns-in_ok-derive-in-Derive : goal.returns-in_ok-derive-in-Derive
 returns-in_ok-derive-in-Derive c =

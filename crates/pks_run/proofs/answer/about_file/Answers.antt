@@ -1,6 +1,5 @@
 use Rattle.std.proofs.Common.{sym, subst}
 use Rattle.pks_words.specs.JobViews.{job_of}
-use Rattle.pks_words.proofs.Built.{are_built}
 use Rattle.pks_file.specs.Views.{file_of}
 use Rattle.pks_run.specs.Answer.{IsReplyTo}
 use Rattle.pks_run.proofs.Replying.{file_replied, about_single}
@@ -11,4 +10,4 @@ returns c = λ given about.
     let j = job_of c.args.job in
     let text = c.in_ok-verdict.text.items in
     subst (λ s. IsReplyTo j given s text) (sym c.status_for.ensures)
-    (file_replied j (are_built c.args.job) given c.args.input.now about (file_of c.args.file.now) c.requires.read c.requires.one (about_single j c.args.input.now c.requires.about) c.in_ok-verdict.verdict text c.in_ok-verdict.ensures)
+    (file_replied j given c.args.input.now about (file_of c.args.file.now) c.requires.read c.requires.one (about_single j c.args.input.now c.requires.about) c.in_ok-verdict.verdict text c.in_ok-verdict.ensures)

@@ -25,7 +25,7 @@ returns-in-Ok-too_long-clause-told g c =
     let told = subst (λ e. IfSome left (ReadsFront 262144 after (Err e))) c.in-Err-TooLong.field-0-is c.in-Err-TooLong.ensures.told in
     IfSome_then left told (λ input long.
     let text = file_text input in
-    let reply = fault_replied (Agent n) refl input text refl (line_and_column text 0) 100 (0, too_long long, refl) (one_fault text (0, 100) (long_file text long) (long_fault text long)) line
+    let reply = fault_replied (Agent n) input text refl (line_and_column text 0) 100 (0, too_long long, refl) (one_fault text (0, 100) (long_file text long) (long_fault text long)) line
     (c.in-Ok-too_long.ensures ∙ ap (λ a. refusal_text (refusal a 100 [])) (begins_at text)) in
     so_of_any n input old new after c.send.result (reply_sent n input old new after Refused line reply tt refused_done c.send.result
     (λ h. let sent = c.send.ensures.whole h in (sent.0, subst (λ (t : List ℕ). Appends old new t) c.deref-in-Ok-too_long.ensures.value sent.1))

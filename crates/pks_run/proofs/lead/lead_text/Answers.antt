@@ -24,7 +24,7 @@ returns-in-Ok-refusal_of-clause-told g c = λ input has.
     let faulty : IsFaulty text (r.at, r.code) = (subst (λ e. Turns (IsFaulty text) e) c.in-Err-Refused.field-0-is c.in-Err-Refused.ensures.faulty).0 in
     let one = one_fault text (r.at, r.code) (λ f read. isnt_memory r (sym c.in-Err-Refused.field-0-is) (c.in-Err-Refused.ensures.only_read f read).1)
     (λ other is. sym (subst (Turns (λ f. f ≡ other)) c.in-Err-Refused.field-0-is (c.in-Err-Refused.ensures.only_faulty other is).1).0) in
-    let reply = fault_replied (Agent n) refl input text (sym has.file) (line_and_column text r.at) r.code (r.at, faulty, refl) one line (subst (λ (x : Refusal). line ≡ refusal_text (refusal (line_and_column text x.at) x.code [])) c.in-Err-Refused.r-is c.in-Ok-refusal_of.ensures) in
+    let reply = fault_replied (Agent n) input text (sym has.file) (line_and_column text r.at) r.code (r.at, faulty, refl) one line (subst (λ (x : Refusal). line ≡ refusal_text (refusal (line_and_column text x.at) x.code [])) c.in-Err-Refused.r-is c.in-Ok-refusal_of.ensures) in
     reply_sent n input old new (g.S.Source.left c.args.source.now) Refused line reply tt refused_done c.send.result
     (λ h. let sent = c.send.ensures.whole h in (sent.0, subst (λ (t : List ℕ). Appends old new t) c.deref.ensures.value sent.1))
     (λ e. subst (λ (t : List ℕ). AppendsFront old new t) c.deref.ensures.value (c.send.ensures.fault e).1) c.send.ensures.either

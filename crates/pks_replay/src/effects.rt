@@ -1,0 +1,68 @@
+//! The effects of an action that is done at a moment.
+
+use pks_lines::{Lines, lost};
+use pks_spoiling::effects::effects_of;
+use pks_terms::literal::{Conj, Literal};
+use pks_terms::problem::Problem;
+use pks_terms::schema::{Effect, Instance};
+use pks_terms::term::front;
+use std::alloc::{AllocError, Global};
+
+/// An effect with its arguments put in.
+#[derive(Clone, Copy)]
+pub(crate) struct Firing {
+    /// The effect.
+    pub effect: Effect,
+    /// The negation of one of its conditions, which holds at the moment before: it keeps the effect from firing.
+    pub denial: Option<Literal>,
+}
+
+/// The step that an action makes from one moment to the next.
+#[derive(Drop)]
+pub(crate) struct Step {
+    /// The moment before.
+    pub before: usize,
+    /// The moment after.
+    pub after: usize,
+    /// The effects in written order.
+    pub firings: Vec<Firing>,
+}
+
+/// A denied condition that holds at the moment: one with a line, else the first.
+fn denial(lines: &Lines<'_>, m: usize, cond: &Conj) -> Option<Literal> {
+    let mut first = None;
+    for c in front(&cond.literals, cond.n) {
+        let denied = c.negated();
+        if lines.line_of(m, &denied).is_some() {
+            return Some(denied);
+        }
+        if first.is_none() && lines.holds(m, &denied) {
+            first = Some(denied);
+        }
+    }
+    first
+}
+
+/// The step that the action makes from the moment to the next. The error is want of memory.
+pub(crate) fn step_of(
+    alloc: Global,
+    p: &Problem<'_>,
+    lines: &Lines<'_>,
+    before: usize,
+    i: &Instance,
+) -> Result<Step, AllocError> {
+    let Some(after) = before.checked_add(1) else {
+        return Err(lost());
+    };
+    let mut firings = Vec::new(alloc);
+    for e in effects_of(p, i).written {
+        let effect = e.at(i);
+        let denial = denial(lines, before, &effect.cond);
+        firings.push(Firing { effect, denial })?;
+    }
+    Ok(Step {
+        before,
+        after,
+        firings,
+    })
+}

@@ -1,0 +1,4 @@
+pub mod Sizes
+pub mod Lengths
+pub mod Readiness
+pub mod Stepping
