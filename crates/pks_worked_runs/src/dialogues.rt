@@ -5,7 +5,7 @@ use pks_run::{Status, run};
 use std::alloc::{AllocError, Global};
 use std::test::Fail;
 
-const SAFE: &str = "(pks 1)
+pub(crate) const SAFE: &str = "(pks 1)
 (domain (types num) (objects (num c1 c2 c3 c4 c5)) (predicates (open)) (functions (combo num))
   (action read (senses (sense-value (combo))) (knows (kv (combo))))
   (action dial (params (?x num))
@@ -13,7 +13,7 @@ const SAFE: &str = "(pks 1)
 (problem (goal (k (open))))
 ";
 
-const LAWN: &str = "(pks 1)
+pub(crate) const LAWN: &str = "(pks 1)
 (domain
   (predicates (alive) (poison))
   (action pour (effects (when ((poison)) (unset (alive)))))
