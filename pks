@@ -27,6 +27,7 @@ need_rt() {
 tell_of_input() {
     case $1 in
         check | plan | exec | recall | explain | derive | shared) [ -t 0 ] && say "the file is read from standard input: ./pks $* < FILE" ;;
+        agent) [ -t 0 ] && say "the file is read from standard input, up to a line that is a full stop alone, and behind it the answers." ;;
     esac
 }
 

@@ -10,7 +10,7 @@ does in it what it is told to do, answers each question from it, and prints
 each line of the dialogue. Without WORLD each of the example's worlds is tried.
 
 `faults` shows how a dialogue ends that can't go on: an answer that isn't fit,
-one that is missing, and a pipe that is closed.
+one that is missing, one that is too long, and a pipe that is closed.
 
 The status is 0 where each dialogue ends as it should, and 1 else.
 """

@@ -24,9 +24,9 @@ NEEDED = ("free", "in_lanes", "need", "processors", "rtlib", "share_work")
 
 # What the slow crates take, and what each other one is taken for, in processor seconds: for the order alone.
 SECONDS = {
-    "pks_agent": 250, "pks_answer": 200, "pks_branch": 200, "pks_closing": 450, "pks_domain": 240, "pks_lines": 330, "pks_plan": 180,
-    "pks_pmap": 330, "pks_postdict": 160, "pks_progress": 270, "pks_proof": 440, "pks_replay": 300, "pks_run": 200, "pks_stated": 340,
-    "pks_step_rules": 190,
+    "pks_agent": 250, "pks_answer": 200, "pks_branch": 200, "pks_checker": 200, "pks_cited": 210, "pks_closing": 450,
+    "pks_domain": 240, "pks_lines": 330, "pks_plan": 180, "pks_pmap": 330, "pks_postdict": 160, "pks_progress": 270,
+    "pks_replay": 300, "pks_run": 200, "pks_stated": 340, "pks_step_rules": 190,
 }
 SECONDS_OF_OTHERS = 90
 

@@ -134,6 +134,12 @@ module _ {Y : Type 0} (reads : Text → Option Y) (question : Text) (k : ℕ) (m
 
 -- ---- the arguments of an action
 
+-- how many ask for a value
+pub count_more : (t : Inner) (ts : List Inner) → argument_count (t ∷ ts) ≡ argument_count (t ∷ []) + argument_count ts
+count_more (Object d) ts = let e : argument_count ts ≡ 0 + argument_count ts = omega arith in e
+count_more (Parameter i) ts = let e : argument_count ts ≡ 0 + argument_count ts = omega arith in e
+count_more (Apply f ds) ts = let e : 1 + argument_count ts ≡ 1 + 0 + argument_count ts = omega arith in e
+
 module _ (s : Signature) (names : Names) where
   -- none is left
   pub none_left : (before : List Inner) (k : ℕ) (m : Moment) → LeadsOn (each_behind s names before []) k (k + 0) before m m
@@ -153,11 +159,6 @@ module _ (s : Signature) (names : Names) where
       λ go m3 end led. subst (λ (on : GoesOn). IsLed m m3 end (on k)) (one_by_one before t ts go) (first (λ vs. each_behind s names vs ts go) m3 end (rest go m3 end led))
   more_on told before t ts us k n next (Err stop) m m' m'' first rest =
       λ go. subst (λ (on : GoesOn). IsLed m m'' (Err stop) (on k)) (one_by_one before t ts go) (first (λ vs. each_behind s names vs ts go) m'' (Err stop) (rest go))
-
-  count_more : (t : Inner) (ts : List Inner) → argument_count (t ∷ ts) ≡ argument_count (t ∷ []) + argument_count ts
-  count_more (Object d) ts = let e : argument_count ts ≡ 0 + argument_count ts = omega arith in e
-  count_more (Parameter i) ts = let e : argument_count ts ≡ 0 + argument_count ts = omega arith in e
-  count_more (Apply f ds) ts = let e : 1 + argument_count ts ≡ 1 + 0 + argument_count ts = omega arith in e
 
   -- all that are left are one and the others
   pub all_on : {X : Type 0} (told : X → List Inner) (before all : List Inner) (t : Inner) (ts us : List Inner) (k n : ℕ) (result : Result X Stop) (m m' m'' : Moment) → all ≡ t ∷ ts → n ≡ k + argument_count (t ∷ [])

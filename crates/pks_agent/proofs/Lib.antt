@@ -1,6 +1,7 @@
 pub mod AlongRuns
 pub mod Causing
 pub mod Joining
+pub mod Told
 pub mod Fronts
 pub mod Sizes
 pub mod Longest

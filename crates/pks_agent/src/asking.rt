@@ -7,7 +7,7 @@ ghost use Rattle.pks_terms.specs.Printed.{Text};
 ghost use Rattle.pks_terms.specs.Talk.{truth_told, object_named, asking};
 ghost use Rattle.pks_terms.specs.Views.{object_of, inner_of, term_of, signature_of, names_of};
 ghost use Rattle.pks_agent.specs.Answers.{answer_text};
-ghost use Rattle.pks_agent.specs.Asking.{IsAsked};
+ghost use Rattle.pks_agent.specs.Asking.{IsAsked, HasTold};
 ghost use Rattle.pks_agent.specs.Leading.{moment, Leads, each_behind};
 ghost use Rattle.pks_agent.specs.Rooms.{argument_questions, argument_count, texts_in, Opens, IsSpoken};
 
@@ -115,11 +115,7 @@ pub(crate) fn ask_each<P: Peer>(
     requires numbers { k + length arguments.now < 2 ^ 32 }
     ensures leads { Leads (λ next. map inner_of told.new.items) (each_behind (signature_of p.now.signature) (names_of p.now) (map inner_of told.old.items) (map inner_of arguments.now))
         k (k + argument_count (map inner_of arguments.now)) result (moment P.answers P.said P.sends P.receipts P.kept peer.old) (moment P.answers P.said P.sends P.receipts P.kept peer.new) }
-    ensures next { IfOk result (λ next. next ≡ k + argument_count (map inner_of arguments.now)) }
-    ensures few { IfOk result (λ next. next ≤ k + length arguments.now) }
-    ensures spoken { OnOk result (Each IsSpoken (map inner_of told.new.items)) }
-    ensures count { OnOk result (vec_len told.new ≡ vec_len told.old + length arguments.now) }
-    ensures room { OnOk result (vec_capacity told.new ≡ vec_capacity told.old) }
+    ensures told { IfOk result (λ next. HasTold arguments.now k next told.old told.new) }
 {
     if arguments.is_empty() {
         return Ok(k);

@@ -1,5 +1,5 @@
 //! The room for the lines of actions.
-ghost use Rattle.std.specs.Prelude.{◌≡◌, ◌≤◌, ◌+◌, ◌++◌, ◌∷◌, map, length, codes, vec_len, vec_capacity, IfOk, OnOk};
+ghost use Rattle.std.specs.Prelude.{◌≡◌, ◌≤◌, ◌+◌, ◌*◌, ◌++◌, ◌∷◌, map, length, codes, vec_len, vec_capacity, IfOk, OnOk};
 ghost use Rattle.std.specs.List.{flat_map};
 ghost use Rattle.pks_terms.specs.Sets.{Each};
 ghost use Rattle.pks_terms.specs.Printed.{inner_text};
@@ -120,19 +120,43 @@ fn add_part(line: &mut Vec<u8>, bytes: &[u8]) -> Result<(), AllocError>
     Ok(())
 }
 
+/// Appends the bytes twice, each time behind a blank.
+fn add_two(line: &mut Vec<u8>, bytes: &[u8]) -> Result<(), AllocError>
+    ensures { OnOk result (vec_len line.new ≡ vec_len line.old + 2 * (1 + length bytes.now)) }
+{
+    add_part(line, bytes)?;
+    add_part(line, bytes)?;
+    Ok(())
+}
+
+/// Appends the bytes four times, each time behind a blank.
+fn add_four(line: &mut Vec<u8>, bytes: &[u8]) -> Result<(), AllocError>
+    ensures { OnOk result (vec_len line.new ≡ vec_len line.old + 4 * (1 + length bytes.now)) }
+{
+    add_two(line, bytes)?;
+    add_two(line, bytes)?;
+    Ok(())
+}
+
+/// Appends a line of an action with this name and four arguments with this one.
+fn add_line(line: &mut Vec<u8>, action: &[u8], object: &[u8]) -> Result<(), AllocError>
+    ensures { OnOk result (vec_len line.new ≡ vec_len line.old + (length action.now + 4 * (1 + length object.now) + 5)) }
+{
+    line.extend_from_slice(b"do (")?;
+    line.extend_from_slice(action)?;
+    add_four(line, object)?;
+    line.extend_from_slice(b")")?;
+    Ok(())
+}
+
 /// A line with room for that of each action: it is as long as the longest.
 fn longest_line(alloc: Global, p: &Problem<'_>) -> Result<Vec<u8>, AllocError>
     ensures { IfOk result (λ line. FitsActions (names_of p.now) (vec_capacity line)) }
 {
     let object = longest_name(p.names.objects.as_slice()).as_bytes();
+    let action = longest_action(p.schemas.as_slice()).as_bytes();
     let mut line = Vec::new(alloc);
-    line.extend_from_slice(b"do (")?;
-    line.extend_from_slice(longest_action(p.schemas.as_slice()).as_bytes())?;
-    add_part(&mut line, object)?;
-    add_part(&mut line, object)?;
-    add_part(&mut line, object)?;
-    add_part(&mut line, object)?;
-    line.extend_from_slice(b")")?;
+    add_line(&mut line, action, object)?;
     Ok(line)
 }
 

@@ -2,7 +2,7 @@
 use crate::peers::PeerFault;
 
 /// Why a dialogue didn't come to an end of its plan.
-#[derive(Clone, Copy, Debug, PartialEq, Eq)]
+#[derive(Clone, Copy)]
 pub enum TalkEnd {
     /// The answer with this number, counted from 1, isn't fit or is too long.
     Misfit(u32),

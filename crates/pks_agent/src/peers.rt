@@ -10,7 +10,7 @@ ghost use Rattle.pks_agent.specs.Hearing.{Stay, Hears, HasPeerCause};
 use crate::answers::Answer;
 
 /// What failed.
-#[derive(Clone, Copy, Debug, PartialEq, Eq)]
+#[derive(Clone, Copy, PartialEq, Eq)]
 pub enum PeerFault {
     /// A line was not said whole: the count of sending rose.
     Send,
@@ -19,7 +19,7 @@ pub enum PeerFault {
 }
 
 /// What came of a question.
-#[derive(Clone, Copy, Debug, PartialEq, Eq)]
+#[derive(Clone, Copy, PartialEq, Eq)]
 pub enum Heard {
     /// The next answer was taken.
     Line,

@@ -1,5 +1,5 @@
 //! The questions that the dialogues of a plan may ask, each as its line.
-ghost use Rattle.std.specs.Prelude.{◌≡◌, ◌≤◌, ◌++◌, map, drop, length, OnOk, IfOk};
+ghost use Rattle.std.specs.Prelude.{◌≡◌, ◌≤◌, ◌++◌, ◌∷◌, [], map, drop, length, OnOk, IfOk};
 ghost use Rattle.pks_terms.specs.Views.{inner_of, term_of, conj_of, names_of};
 ghost use Rattle.pks_plan.specs.TreeViews.{tree_of, chain_of};
 ghost use Rattle.pks_agent.specs.Rooms.{test_question, value_question, argument_questions, questions_of, case_questions, argument_count, question_count, case_question_count, texts_in};
@@ -14,8 +14,7 @@ use std::alloc::{AllocError, Global};
 fn test_line(alloc: Global, p: &Problem<'_>, test: &Conj) -> Result<Vec<u8>, AllocError>
     ensures { IfOk result (λ line. line.items ≡ test_question (names_of p.now) (conj_of test.now)) }
 {
-    let mut line = Vec::new(alloc);
-    line.extend_from_slice(b"test ")?;
+    let mut line = b"test ".to_vec(alloc)?;
     print_conj(p, test, &mut line)?;
     Ok(line)
 }
@@ -24,10 +23,37 @@ fn test_line(alloc: Global, p: &Problem<'_>, test: &Conj) -> Result<Vec<u8>, All
 fn value_line(alloc: Global, p: &Problem<'_>, t: &Term) -> Result<Vec<u8>, AllocError>
     ensures { IfOk result (λ line. line.items ≡ value_question (names_of p.now) (term_of t.now)) }
 {
-    let mut line = Vec::new(alloc);
-    line.extend_from_slice(b"value ")?;
+    let mut line = b"value ".to_vec(alloc)?;
     print_term(p, t, &mut line)?;
     Ok(line)
+}
+
+/// Adds the question for the truth of a conjunction.
+fn add_test(
+    alloc: Global,
+    p: &Problem<'_>,
+    test: &Conj,
+    lines: &mut Vec<Vec<u8>>,
+) -> Result<(), AllocError>
+    ensures { OnOk result (texts_in lines.new.items ≡ texts_in lines.old.items ++ test_question (names_of p.now) (conj_of test.now) ∷ []) }
+{
+    let line = test_line(alloc, p, test)?;
+    lines.push(line)?;
+    Ok(())
+}
+
+/// Adds the question for the value of a term.
+fn add_value(
+    alloc: Global,
+    p: &Problem<'_>,
+    t: &Term,
+    lines: &mut Vec<Vec<u8>>,
+) -> Result<(), AllocError>
+    ensures { OnOk result (texts_in lines.new.items ≡ texts_in lines.old.items ++ value_question (names_of p.now) (term_of t.now) ∷ []) }
+{
+    let line = value_line(alloc, p, t)?;
+    lines.push(line)?;
+    Ok(())
 }
 
 /// Adds the questions for the arguments that are applications.
@@ -43,7 +69,7 @@ fn add_arguments(
         [] => {}
         [t, rest @ ..] => {
             if matches!(t, Inner::App { .. }) {
-                lines.push(value_line(alloc, p, &t.as_term())?)?;
+                add_value(alloc, p, &t.as_term(), lines)?;
             }
             add_arguments(alloc, p, rest, lines)?;
         }
@@ -53,7 +79,7 @@ fn add_arguments(
 
 /// Adds the questions of a tree.
 #[cycle(asked)]
-pub(crate) fn add_questions(
+fn add_questions(
     alloc: Global,
     p: &Problem<'_>,
     t: &Tree,
@@ -68,12 +94,12 @@ pub(crate) fn add_questions(
             add_questions(alloc, p, next, lines)?;
         }
         Tree::Branch { test, yes, no } => {
-            lines.push(test_line(alloc, p, test)?)?;
+            add_test(alloc, p, test, lines)?;
             add_questions(alloc, p, yes, lines)?;
             add_questions(alloc, p, no, lines)?;
         }
         Tree::Cases { term, cases } => {
-            lines.push(value_line(alloc, p, term)?)?;
+            add_value(alloc, p, term, lines)?;
             add_case_questions(alloc, p, cases, lines)?;
         }
     }
@@ -98,6 +124,19 @@ fn add_case_questions(
         }
     }
     Ok(())
+}
+
+/// The questions of a tree.
+pub(crate) fn all_questions(
+    alloc: Global,
+    p: &Problem<'_>,
+    t: &Tree,
+) -> Result<Vec<Vec<u8>>, AllocError>
+    ensures { IfOk result (λ lines. texts_in lines.items ≡ questions_of (names_of p.now) (tree_of t.now)) }
+{
+    let mut lines = Vec::new(alloc);
+    add_questions(alloc, p, t, &mut lines)?;
+    Ok(lines)
 }
 
 /// The questions behind those for the arguments.

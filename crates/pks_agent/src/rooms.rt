@@ -6,7 +6,7 @@ ghost use Rattle.pks_plan.specs.TreeViews.{tree_of};
 ghost use Rattle.pks_agent.specs.Rooms.{IsRoomOf};
 
 use crate::desks::Desk;
-use crate::questions::add_questions;
+use crate::questions::all_questions;
 use pks_plan::Tree;
 use pks_terms::problem::Problem;
 use std::alloc::{AllocError, Global};
@@ -24,8 +24,7 @@ impl Room {
         requires { depth (tree_of t.now) ≤ 16 }
         ensures { IfOk result (λ room. IsRoomOf (names_of p.now) (tree_of t.now) room) }
     {
-        let mut questions = Vec::new(alloc);
-        add_questions(alloc, p, t, &mut questions)?;
+        let questions = all_questions(alloc, p, t)?;
         let desk = Desk::new(alloc, p)?;
         Ok(Room { questions, desk })
     }

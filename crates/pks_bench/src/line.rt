@@ -10,7 +10,7 @@ use pks_plan::{Tree, depth};
 use std::alloc::{AllocError, Global};
 
 /// The line that tells of a plan over the generated file: the file's number of objects, its bytes, the plan's depth
-/// and how many nodes it has (docs/FORMAT.md, "Texts"). It asks for the file's text, and for a plan of depth at most
+/// and how many nodes it has (docs/FORMAT.md, "Printed texts"). It asks for the file's text, and for a plan of depth at most
 /// 16 whose nodes can be counted, and errs only where memory runs out.
 pub fn bench_line(alloc: Global, n: u8, file: &[u8], t: &Tree) -> Result<Vec<u8>, AllocError>
     requires file { file.now ≡ generated n }

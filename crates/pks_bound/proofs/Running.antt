@@ -175,6 +175,14 @@ module _ (p : Problem) where
         },
       )
 
+  -- without its first moment a history may have come to the same worlds
+  pub later_may : (before : Five) (i : Instance) (h : History) (v : World) → MayBeAt p (record { start = before; steps = (i, h.start) ∷ h.steps }) v → MayBeAt p h v
+  later_may before i h v m = record {
+    first = after_action p m.first (grounded m.first i);
+    both = record { along = m.both.along.1; along' = m.both.along'.1; agree = m.both.agree.1 };
+    leads = m.leads;
+  }
+
   -- ---- runs
 
   -- a choice may be done

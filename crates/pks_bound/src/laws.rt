@@ -1,6 +1,6 @@
 //! The laws, each the clause of a function that does nothing.
 
-ghost use Rattle.std.specs.Prelude.{◌≡◌, ℕ, [], Option};
+ghost use Rattle.std.specs.Prelude.{◌≡◌, ℕ, [], ◌∷◌, Option};
 ghost use Rattle.pks_terms.specs.Sets.{IsIn};
 ghost use Rattle.pks_terms.specs.Worlds.{World};
 ghost use Rattle.pks_terms.specs.Databases.{Five};
@@ -29,6 +29,11 @@ pub fn actions_lead_on()
 /// The side that is so in a world that may be the present one doesn't clash, and the world may be the present one there.
 pub fn sides_keep_the_world()
     ensures { (p : Problem) (h : History) (w : World) (c : Choice) (side : Side) (x : State) → MayBeAt p h w → IsMember (last_moment h) c → IsSo w c side → Takes p h c side x → (g : History) × (x ≡ At g) × MayBeAt p g w }
+{}
+
+/// A world that may be the present one may be it where the first moment of the history is let go of.
+pub fn later_moments_keep_the_world()
+    ensures { (p : Problem) (before : Five) (i : Instance) (h : History) (w : World) → MayBeAt p (record { start = before; steps = (i, h.start) ∷ h.steps }) w → MayBeAt p h w }
 {}
 
 /// A tree that is derived at a history has, from each world that may be the present one there, a run of no more actions than the tree is deep: what

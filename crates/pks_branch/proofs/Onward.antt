@@ -14,7 +14,7 @@ use Rattle.pks_terms.specs.Actions.{Schema, Instance}
 use Rattle.pks_terms.specs.Problems.{Problem}
 use Rattle.pks_terms.specs.Branching.{candidates, numbered, instances, instances_at}
 use Rattle.pks_terms.specs.Views.{instance_of, schema_of}
-use Rattle.pks_branch.specs.ChoiceViews.{beginnings_of}
+use Rattle.pks_branch.specs.WalkViews.{beginnings_of}
 use Rattle.pks_branch.specs.Early.{is_barred}
 use Rattle.pks_branch.specs.Walks.{walked, allowed_at, lists_after, begun, bare, longer, for_each, count_beginnings, steps_from, steps_in, GoesOn}
 use Rattle.pks_branch.proofs.Barring.{walk_barred}

@@ -1,4 +1,4 @@
-pub mod ChoiceViews
+pub mod WalkViews
 pub mod ChoiceOrder
 pub mod Walks
 pub mod Early

@@ -16,9 +16,9 @@ ghost use Rattle.pks_kx.specs.Groups.{groups_of};
 ghost use Rattle.pks_lcw.specs.Entries.{entries_of};
 ghost use Rattle.pks_normal.specs.Fives.{five_of};
 ghost use Rattle.pks_query.specs.Steps.{outcome_of, IfNext, IsNextWith};
-ghost use Rattle.pks_branch.specs.ChoiceViews.{choice_of, side_of};
+ghost use Rattle.pks_choices.specs.ChoiceViews.{choice_of, side_of};
 
-use crate::choosing::Choice;
+use pks_choices::{Choice, Side};
 use pks_closing::closing::CloseEnd;
 use pks_kv::Kv;
 use pks_kw::Kw;
@@ -31,17 +31,6 @@ use pks_terms::literal::{Conj, Literal, equation};
 use pks_terms::problem::{Problem, Signature};
 use pks_terms::term::{Term, front};
 use std::alloc::{AllocError, Global};
-
-/// What is assumed of a choice: of a formula that it is true or false, of a term that it is an object.
-#[derive(Clone, Copy)]
-pub enum Side {
-    /// The formula is true.
-    True,
-    /// The formula is false.
-    False,
-    /// The value is this object.
-    Is(ObjId),
-}
 
 /// Whether the formulas differ.
 fn is_other(b: &Conj, c: &Conj) -> bool

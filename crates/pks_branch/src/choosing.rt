@@ -9,11 +9,12 @@ ghost use Rattle.pks_terms.specs.ValidProblems.{IsValidProblem};
 ghost use Rattle.pks_terms.specs.Views.{literals_in, conj_of, terms_of, signature_of, problem_of};
 ghost use Rattle.pks_kw.specs.Formulas.{formulas_of};
 ghost use Rattle.pks_normal.specs.Fives.{five_of};
-ghost use Rattle.pks_branch.specs.ChoiceViews.{choices_of};
+ghost use Rattle.pks_choices.specs.ChoiceViews.{choices_of};
 ghost use Rattle.pks_branch.specs.ChoiceOrder.{choice_cmp};
 
 use crate::leaving::may_split;
 use crate::taking::Walk;
+use pks_choices::{Choice, ChoiceList};
 use pks_kv::Kv;
 use pks_kw::Kw;
 use pks_query::databases::Db;
@@ -23,20 +24,6 @@ use pks_terms::schema::Instance;
 use pks_terms::sequence::Sequence;
 use pks_terms::term::{Term, front};
 use std::alloc::{AllocError, Global};
-
-/// What a plan may go on with.
-#[derive(Clone, Copy)]
-pub enum Choice {
-    /// An action.
-    Act(Instance),
-    /// A branch on a formula that will be known to be true or false.
-    Branch(Conj),
-    /// Cases on a term whose value will be known.
-    Cases(Term),
-}
-
-/// A list of choices.
-pub type ChoiceList = Sequence<Choice>;
 
 /// Whether each literal is derived.
 fn all_known(s: &Signature, d: &Db, ls: &[Literal]) -> bool
@@ -100,7 +87,7 @@ pub(crate) fn push_cases(
 }
 
 /// All choices at the databases: each instance whose preconditions are answered, each undecided formula, each term with 1 to
-/// 16 objects left; each once, in the order of trees (`docs/RULES.md`, "Choices"). It asks for a valid problem. The error is
+/// 16 objects left; each once, in the order of trees (`docs/RULES.md`, "Instances, choices, assumptions"). It asks for a valid problem. The error is
 /// want of memory.
 pub fn choices(alloc: Global, p: &Problem<'_>, d: &Db) -> Result<ChoiceList, AllocError>
     requires valid { IsValidProblem p.now }

@@ -9,7 +9,7 @@ pub mod leaving;
 pub mod taking;
 mod walking;
 
-pub use assuming::{Side, assume};
-pub use choosing::{Choice, ChoiceList, choices};
+pub use assuming::assume;
+pub use choosing::choices;
 pub use leaving::left;
 pub use taking::Walk;

@@ -5,12 +5,14 @@ ghost use Rattle.pks_terms.specs.Branching.{choices};
 ghost use Rattle.pks_terms.specs.ValidProblems.{IsValidProblem};
 ghost use Rattle.pks_terms.specs.Views.{problem_of};
 ghost use Rattle.pks_normal.specs.Fives.{five_of};
-ghost use Rattle.pks_branch.specs.ChoiceViews.{choice_of, choices_of, left_in};
+ghost use Rattle.pks_choices.specs.ChoiceViews.{choice_of, choices_of};
+ghost use Rattle.pks_branch.specs.WalkViews.{left_in};
 ghost use Rattle.pks_branch.specs.ChoiceOrder.{choice_cmp};
 ghost use Rattle.pks_branch.specs.Walks.{IsNext};
 
-use crate::choosing::{Choice, push_branches, push_cases};
+use crate::choosing::{push_branches, push_cases};
 use crate::walking::{bare_instances, next_instance};
+use pks_choices::{Choice, ChoiceList};
 use pks_query::databases::Db;
 use pks_terms::problem::Problem;
 use pks_terms::schema::Instance;

@@ -1,10 +1,10 @@
 -- A term whose normal form is another object is shut out of an object.
-use Rattle.std.proofs.Common.{◌≡◌, ◌||◌, ℕ, Bool, true, false, not, cond, [], ◌∷◌, map, is_lt, ◌==◌, refl, sym, ap, ◌∙◌}
+use Rattle.std.proofs.Common.{◌≡◌, ℕ, true, false, not, cond, [], ◌∷◌, map, is_lt, ◌==◌, sym, ap, ◌∙◌}
 use Rattle.std.proofs.lemmas.Bool.{or_left, or_right, eqb-false, ne_eqb}
 use Rattle.pks_terms.specs.Syntax.{Object, Term, object, Equality}
 use Rattle.pks_terms.specs.Orders.{term_cmp, in_order, literal, inequation}
 use Rattle.pks_terms.specs.Signatures.{Signature}
-use Rattle.pks_terms.specs.Databases.{Five, normal, is_known, is_evident, is_plain, is_closed_off, holds}
+use Rattle.pks_terms.specs.Databases.{Five, normal, is_known, is_evident, is_plain, holds}
 use Rattle.pks_closing.specs.Possible.{IsOther}
 
 pub other_shut_out : (s : Signature) (d : Five) (t u : Term) (e : ℕ) → u ≡ normal d.kf t → IsOther u e → holds s d (inequation t (object e)) ≡ true

@@ -1,28 +1,27 @@
 -- What is put in follows, and where a literal of it is denied closing clashes.
-use Rattle.std.proofs.Common.{◌≡◌, ◌≤◌, ◌<◌, ℕ, zero, suc, Bool, true, false, cond, List, [], ◌∷◌, ◌++◌, map, flat_map, find, length, get_or, take, drop, nat_lt, ltb-true, is_some, option_map, ◌-◌, Option, Some, None, refl, sym, ap, ◌∙◌, subst, inl, inr, ⊎_elim, true≢false, arith}
+use Rattle.std.proofs.Common.{◌≡◌, ◌≤◌, ◌<◌, ℕ, zero, suc, Bool, true, false, cond, List, [], ◌∷◌, map, flat_map, find, length, get_or, take, drop, nat_lt, ltb-true, is_some, option_map, ◌-◌, Option, Some, None, refl, sym, ap, ◌∙◌, subst, inl, inr, ⊎_elim, true≢false, arith}
 use Rattle.std.specs.Option.{option_map_or}
 use Rattle.std.proofs.lemmas.Option.{none-some, same_Some}
 use Rattle.std.proofs.lemmas.List.{take_all}
-use Rattle.pks_terms.specs.Sets.{Each, IsIn, IsOrdered, insert_in}
+use Rattle.pks_terms.specs.Sets.{IsIn, IsOrdered, insert_in}
 use Rattle.pks_terms.specs.Syntax.{Literal, negated}
 use Rattle.pks_terms.specs.Orders.{literal_cmp}
 use Rattle.pks_terms.specs.Totality.{literal_cmp_total}
 use Rattle.pks_terms.specs.Signatures.{Signature, HasValues}
 use Rattle.pks_terms.specs.Databases.{Five, holds}
-use Rattle.pks_terms.specs.Closure.{by_value, by_group, by_range, applications_in, additions, round, rounds, outcome, tidied, first_clash, Outcome, Next, Clash, Closes}
+use Rattle.pks_terms.specs.Closure.{by_value, by_group, additions, round, rounds, outcome, tidied, first_clash, Outcome, Next, Clash, Closes}
 use Rattle.pks_terms.specs.Saturated.{Within, IsSaturated}
 use Rattle.pks_terms.specs.Views.{literal_of, literals_in}
 use Rattle.pks_terms.specs.declared.literal.Literal.{Literal as DLiteral}
 use Rattle.pks_terms.proofs.ListLaws.{each_of, in_map}
 use Rattle.pks_terms.proofs.OrderLaws.{literal_cmp_tells}
-use Rattle.pks_terms.proofs.SetLaws.{added_longer, insert_in_more, in_added, added_in}
+use Rattle.pks_terms.proofs.SetLaws.{insert_in_more, in_added, added_in}
 use Rattle.pks_laws.proofs.Least.{in_left, in_right, in_flat, holds_grows}
 use Rattle.pks_laws.proofs.Belonging.{saturated_end}
 use Rattle.pks_lasting.specs.Following.{IsImplied, Follows}
 use Rattle.pks_lasting.proofs.Following.{put_implied, addition_implied, closes_alike}
 use Rattle.pks_lasting.proofs.Keeping.{none_found}
 use Rattle.pks_cut.proofs.ClosingEnds.{closing_ends}
-use Rattle.pks_kx.specs.Groups.{groups_of}
 use Rattle.pks_closing.specs.Working.{Clashes, SomeDenied, GrowsTo, GrowsBy, GrowsByGroups}
 
 -- ---- what follows

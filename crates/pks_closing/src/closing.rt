@@ -22,6 +22,7 @@ use pks_normal::five::Five;
 use pks_terms::literal::Literal;
 use pks_terms::problem::Signature;
 use std::alloc::{AllocError, Global};
+use std::mem::drop;
 
 /// Why databases have no closed form.
 #[derive(Drop)]
@@ -66,7 +67,10 @@ pub fn close(alloc: Global, s: &Signature, five: Five) -> Result<Derived, CloseE
 {
     let last = last_round(alloc, s, five)?;
     match first_clash(s, &last) {
-        Some(l) => Err(CloseEnd::Clash(l)),
+        Some(l) => {
+            drop(last);
+            Err(CloseEnd::Clash(l))
+        }
         None => {
             let d = tidied(alloc, last)?;
             Ok(d)
@@ -92,6 +96,7 @@ pub fn close_unless_clash(
     };
     let _known = last.five().kf.len();
     if first_clash(s, &last).is_some() {
+        drop(last);
         return Ok(None);
     }
     let d = tidied(alloc, last)?;

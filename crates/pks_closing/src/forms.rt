@@ -1,34 +1,40 @@
-//! Normal forms of formulas, groups, atoms, patterns and regions. `docs/RULES.md` has the rule.
-ghost use Rattle.std.specs.Prelude.{◌≡◌, ℕ, ◌≤◌, List, [], ◌∷◌, ◌++◌, map, take, IfOk};
+//! Normal forms of formulas, groups, patterns and regions. `docs/RULES.md` has the rule.
+ghost use Rattle.std.specs.Prelude.{◌≡◌, ℕ, ◌≤◌, ◌+◌, List, [], ◌∷◌, ◌++◌, map, take, length, IfOk};
 ghost use Rattle.std.specs.Option.{option_map};
-ghost use Rattle.std.specs.Ordering.{on};
-ghost use Rattle.pks_terms.specs.Sets.{set_of, IsOrdered};
-ghost use Rattle.pks_terms.specs.Databases.{normal};
-ghost use Rattle.pks_terms.specs.Orders.{atom_cmp};
-ghost use Rattle.pks_terms.specs.Closure.{normal_conj, normal_group, normal_atom, normal_pattern, normal_entry};
-ghost use Rattle.pks_terms.specs.Views.{term_of, literals_in, conj_of, atom_of, pattern_of};
+ghost use Rattle.pks_terms.specs.Sets.{added};
+ghost use Rattle.pks_terms.specs.Databases.{normal, normal_literal};
+ghost use Rattle.pks_terms.specs.Orders.{literal_cmp};
+ghost use Rattle.pks_terms.specs.Closure.{normal_conj, normal_group, normal_pattern, normal_entry};
+ghost use Rattle.pks_terms.specs.Views.{term_of, literals_in, conj_of, pattern_of};
 ghost use Rattle.pks_kf.specs.Known.{literals_of};
-ghost use Rattle.pks_lcw.specs.Entries.{atoms_of, entry_of};
+ghost use Rattle.pks_lcw.specs.Entries.{entry_of};
 
-use pks_lcw::{AtomSet, Entry};
+use pks_lcw::Entry;
+use pks_normal::atoms::normal_list;
 use pks_normal::normals::Normals;
-use pks_set::set::SetOf;
 use pks_terms::group::{Group, put_in_order};
-use pks_terms::literal::{Arguments, Conj, Literal, Pattern, PredAtom};
+use pks_terms::literal::{Conj, Literal, Pattern};
 use pks_terms::term::{Term, front};
 use std::alloc::{AllocError, Global};
+
+/// The set with the normal forms of these literals put in: equal ones merge. It asks that there is room.
+fn with_normals(by: &Normals, all: Conj, ls: &[Literal]) -> Conj
+    requires { all.n + length ls.now ≤ 4 }
+    ensures says { conj_of result ≡ added literal_cmp (conj_of all) (map (normal_literal (literals_of by.now.kf)) (literals_in ls.now)) }
+    ensures count { result.n ≤ 4 }
+{
+    match ls {
+        [] => all,
+        [l, ls @ ..] => with_normals(by, all.with(&by.normal_literal(l)), ls),
+    }
+}
 
 /// The set of the normal forms of the literals: equal ones merge. It takes no memory.
 pub fn normal_conj(by: &Normals, c: &Conj) -> Conj
     ensures says { conj_of result ≡ normal_conj (literals_of by.now.kf) (conj_of c.now) }
     ensures count { result.n ≤ 4 }
 {
-    let literals = front(&c.literals, c.n);
-    let mut all = Conj::empty();
-    for k in 0..literals.len() {
-        all = all.with(&by.normal_literal(&literals[k]));
-    }
-    all
+    with_normals(by, Conj::empty(), front(&c.literals, c.n))
 }
 
 /// The normal forms of the literals in order, equal ones as often as they come. The one error is want of memory.
@@ -41,20 +47,6 @@ pub fn normal_group(alloc: Global, by: &Normals, g: &Group) -> Result<Group, All
     }
     let group = Group::of(alloc, all.as_slice())?;
     Ok(group)
-}
-
-/// The atom with its arguments in normal form. It takes no memory.
-pub fn normal_atom(by: &Normals, a: &PredAtom) -> PredAtom
-    ensures { atom_of result ≡ normal_atom (literals_of by.now.kf) (atom_of a.now) }
-{
-    let items = a.args;
-    let given = Arguments { n: a.n, items };
-    let args = by.normal_arguments(&given).items;
-    PredAtom {
-        pred: a.pred,
-        n: a.n,
-        args,
-    }
 }
 
 fn normal_slot(by: &Normals, slot: Option<Term>) -> Option<Term>
@@ -87,50 +79,11 @@ pub fn normal_pattern(by: &Normals, p: &Pattern) -> Pattern
     }
 }
 
-/// The normal forms of the atoms, one for each.
-#[tactic(auto, using(crate::proofs::Lists::read))]
-fn normal_atoms(
-    alloc: Global,
-    by: &Normals,
-    atoms: &[PredAtom],
-) -> Result<Vec<PredAtom>, AllocError>
-    ensures { IfOk result (λ v. atoms_of v.items ≡ map (normal_atom (literals_of by.now.kf)) (atoms_of atoms.now)) }
-{
-    let mut all = Vec::new(alloc);
-    for a in atoms {
-        all.push(normal_atom(by, a))?;
-    }
-    Ok(all)
-}
-
-/// The members of a set of atoms as a list of a region.
-fn listed(alloc: Global, set: &SetOf<PredAtom>) -> Result<AtomSet, AllocError>
-    ensures { IfOk result (λ atoms. atoms ≡ set.now) }
-{
-    let mut all = Vec::new(alloc);
-    for a in set.items() {
-        all.push(*a)?;
-    }
-    let _count = set.len();
-    let atoms = AtomSet::from_ordered(all)?;
-    Ok(atoms)
-}
-
-/// The set of these atoms.
-fn atom_set(alloc: Global, all: Vec<PredAtom>) -> Result<AtomSet, AllocError>
-    ensures { IfOk result (λ atoms. atoms_of atoms ≡ set_of atom_cmp (atoms_of all.items)) }
-{
-    let set = SetOf::empty().added(alloc, all)?;
-    let atoms = listed(alloc, &set)?;
-    Ok(atoms)
-}
-
 /// The region with its fixed terms and its listed atoms in normal form: equal atoms merge. The one error is want of memory.
 pub fn normal_entry(alloc: Global, by: &Normals, e: &Entry) -> Result<Entry, AllocError>
     ensures { IfOk result (λ entry. entry_of entry ≡ normal_entry (literals_of by.now.kf) (entry_of e.now)) }
 {
     let pattern = normal_pattern(by, &e.pattern);
-    let all = normal_atoms(alloc, by, e.list.as_slice())?;
-    let list = atom_set(alloc, all)?;
+    let list = normal_list(alloc, by, &e.list)?;
     Ok(Entry { pattern, list })
 }

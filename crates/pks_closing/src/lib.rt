@@ -10,5 +10,5 @@ pub mod rounds;
 mod spreading;
 pub mod steps;
 pub mod tidied;
-mod uses;
+mod touched;
 mod working;

@@ -18,6 +18,7 @@ use pks_normal::five::Five;
 use pks_terms::literal::Literal;
 use pks_terms::problem::Signature;
 use std::alloc::{AllocError, Global};
+use std::mem::drop;
 
 #[tactic(auto, using(crate::proofs::Members::members))]
 fn added_once(alloc: Global, s: &Signature, d: &Derived) -> Result<Vec<Literal>, AllocError>
@@ -80,9 +81,16 @@ pub fn last_round(alloc: Global, s: &Signature, five: Five) -> Result<Derived, A
 {
     let mut d = Derived::of(alloc, five)?;
     'rounds: loop {
-        match next_round(alloc, s, &d)? {
-            None => return Ok(d),
-            Some(next) => d = Derived::of(alloc, next)?,
+        match next_round(alloc, s, &d) {
+            Err(error) => {
+                drop(d);
+                return Err(error);
+            }
+            Ok(None) => return Ok(d),
+            Ok(Some(next)) => {
+                drop(d);
+                d = Derived::of(alloc, next)?;
+            }
         }
     }
 }

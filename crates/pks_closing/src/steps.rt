@@ -53,7 +53,6 @@ fn put_each(
 }
 
 /// The values that the literals give at an application whose arguments are objects.
-#[tactic(auto, using(crate::proofs::Lists::read), unfolding(pks_terms::specs::Databases::values_at))]
 fn own_values(
     alloc: Global,
     by: &Normals,
@@ -66,7 +65,8 @@ fn own_values(
     let Some(own) = objects(n, args) else {
         return Ok(Vec::new(alloc));
     };
-    by.values_at(alloc, fun, front(&own, n))
+    let values = by.values_at(alloc, fun, front(&own, n))?;
+    Ok(values)
 }
 
 /// Puts the objects as terms after the others.

@@ -23,6 +23,7 @@ use pks_terms::group::Group;
 use pks_terms::literal::Conj;
 use pks_terms::term::Term;
 use std::alloc::{AllocError, Global};
+use std::mem::drop;
 
 #[tactic(auto, using(crate::proofs::Lists::read))]
 fn normal_formulas(alloc: Global, d: &Derived) -> Result<Vec<Conj>, AllocError>
@@ -134,12 +135,21 @@ fn tidied_five(alloc: Global, d: &Derived) -> Result<Five, AllocError>
     })
 }
 
+/// The tidied databases beside these.
+fn tidied_beside(alloc: Global, d: &Derived) -> Result<Derived, AllocError>
+    ensures { IfOk result (λ e. five_of e ≡ tidied (five_of d.now)) }
+{
+    let five = tidied_five(alloc, d)?;
+    let tidied = d.again(five)?;
+    Ok(tidied)
+}
+
 /// The databases with formulas, terms, groups and regions in normal form, and without the terms that come to be objects.
 /// The one error is want of memory.
 pub fn tidied(alloc: Global, d: Derived) -> Result<Derived, AllocError>
     ensures { IfOk result (λ e. five_of e ≡ tidied (five_of d)) }
 {
-    let five = tidied_five(alloc, &d)?;
-    let tidied = d.again(five)?;
-    Ok(tidied)
+    let tidied = tidied_beside(alloc, &d);
+    drop(d);
+    tidied
 }

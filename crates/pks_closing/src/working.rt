@@ -12,6 +12,7 @@ use pks_derived::derived::Derived;
 use pks_normal::five::Five;
 use pks_terms::problem::Signature;
 use std::alloc::{AllocError, Global};
+use std::mem::drop;
 
 /// All that follows by the rules, or `None` where a clash of values is seen on the way. It asks for at most 65,536 objects,
 /// and for an object of each function's result type. The error is want of memory.
@@ -28,11 +29,19 @@ pub(crate) fn worked(
     let mut d = Derived::of(alloc, five)?;
     'rounds: loop {
         if values_clash(s, &d) {
+            drop(d);
             return Ok(None);
         }
-        match next_round(alloc, s, &d)? {
-            None => return Ok(Some(d)),
-            Some(next) => d = spread(alloc, s, next)?,
+        match next_round(alloc, s, &d) {
+            Err(error) => {
+                drop(d);
+                return Err(error);
+            }
+            Ok(None) => return Ok(Some(d)),
+            Ok(Some(next)) => {
+                drop(d);
+                d = spread(alloc, s, next)?;
+            }
         }
     }
 }

@@ -175,7 +175,7 @@ fn print_head(depth: u64, count: usize, out: &mut Vec<u8>) -> Result<(), AllocEr
 }
 
 /// The text of nodes: a line with the depth of the last and how many there are, and then a line for each, behind its number
-/// (`docs/FORMAT.md`, "Texts"). The one error is want of memory.
+/// (`docs/FORMAT.md`, "Printed texts"). The one error is want of memory.
 #[tactic(auto, unfolding(pks_terms::specs::Nodes::shared_text))]
 pub fn print_dag(alloc: Global, p: &Problem<'_>, d: &Dag) -> Result<Vec<u8>, AllocError>
     ensures { IfOk result (λ text. text.items ≡ shared_text (names_of p.now) (nodes_of d.now)) }

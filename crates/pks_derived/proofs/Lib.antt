@@ -1,3 +1,4 @@
+pub mod Apart
 pub mod FormLaws
 pub mod Listed
 pub mod PutIn

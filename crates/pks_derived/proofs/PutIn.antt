@@ -1,5 +1,5 @@
 -- The set of the normal forms, when a literal is put in that gives no value.
-use Rattle.std.proofs.Common.{◌≡◌, ◌||◌, Bool, false, List, [], ◌∷◌, is_some, is_eq, sym, ap, ◌∙◌}
+use Rattle.std.proofs.Common.{◌≡◌, ◌||◌, false, List, [], ◌∷◌, is_some, is_eq, sym, ap, ◌∙◌}
 use Rattle.std.specs.List.{list_any}
 use Rattle.pks_terms.specs.Syntax.{Literal}
 use Rattle.pks_terms.specs.Sets.{insert_in}

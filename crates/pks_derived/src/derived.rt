@@ -2,7 +2,7 @@
 ghost use Rattle.std.specs.Prelude.{◌≡◌, ◌||◌, List, [], ◌∷◌, map, Some, None, is_some, take, IfOk, IsTrue, false};
 ghost use Rattle.std.specs.Option.{option_map};
 ghost use Rattle.std.specs.List.{list_any, list_all};
-ghost use Rattle.pks_terms.specs.Syntax.{Equality, negated};
+ghost use Rattle.pks_terms.specs.Syntax.{Equality, are_two_objects, negated};
 ghost use Rattle.pks_terms.specs.Databases.{told, normal, is_known, is_evident, is_plain, differ, some_differ, fits, is_shut_out, is_closed_off, holds};
 ghost use Rattle.pks_terms.specs.Orders.{inequation, literal_cmp};
 ghost use Rattle.pks_terms.specs.Sets.{insert_in};
@@ -11,6 +11,7 @@ ghost use Rattle.pks_kf.specs.Known.{literals_of};
 ghost use Rattle.pks_lcw.specs.Entries.{atoms_of, entry_of, entries_of};
 ghost use Rattle.pks_normal.specs.Fives.{five_of};
 ghost use Rattle.pks_normal.specs.Tables.{GiveAlike};
+ghost use Rattle.pks_derived.specs.Apart.{are_apart};
 ghost use Rattle.pks_derived.specs.Forms.{HasItsForms};
 
 use crate::forms::forms_of;
@@ -74,6 +75,29 @@ fn is_evident_of(s: &Signature, left: &Term, right: &Term, positive: bool) -> bo
         (Term::Obj(d), Term::App { fun, .. }) => is_foreign(s, *fun, *d),
         (Term::App { fun, .. }, Term::Obj(d)) => is_foreign(s, *fun, *d),
         _ => false,
+    }
+}
+
+/// Whether the terms are two different objects.
+fn are_two_objects(t: &Term, u: &Term) -> bool
+    ensures { result ≡ are_two_objects (term_of t.now) (term_of u.now) }
+{
+    match (t, u) {
+        (Term::Obj(d), Term::Obj(e)) => d.0 != e.0,
+        _ => false,
+    }
+}
+
+/// Whether the terms are two different objects at some position.
+fn are_apart(ts: &[Term], us: &[Term]) -> bool
+    ensures { result ≡ are_apart (terms_of ts.now) (terms_of us.now) }
+{
+    match ts {
+        [] => false,
+        [t, ts @ ..] => match us {
+            [] => false,
+            [u, us @ ..] => are_two_objects(t, u) || are_apart(ts, us),
+        },
     }
 }
 
@@ -218,11 +242,18 @@ impl Derived {
     pub fn some_differ(&self, s: &Signature, ts: &[Term], us: &[Term]) -> bool
         ensures { result ≡ some_differ (signature_of s.now) (literals_of self.now.kf) (terms_of ts.now) (terms_of us.now) }
     {
+        are_apart(ts, us) || self.differ_by_known(s, ts, us)
+    }
+
+    /// Whether the terms differ at some position, each position looked up.
+    fn differ_by_known(&self, s: &Signature, ts: &[Term], us: &[Term]) -> bool
+        ensures { result ≡ some_differ (signature_of s.now) (literals_of self.now.kf) (terms_of ts.now) (terms_of us.now) }
+    {
         match ts {
             [] => false,
             [t, ts @ ..] => match us {
                 [] => false,
-                [u, us @ ..] => self.differ(s, t, u) || self.some_differ(s, ts, us),
+                [u, us @ ..] => self.differ(s, t, u) || self.differ_by_known(s, ts, us),
             },
         }
     }

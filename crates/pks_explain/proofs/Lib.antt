@@ -1,5 +1,2 @@
 pub mod Texts
-pub mod Marking
-pub mod Cut
-pub mod Numbers
 pub mod Accepted

@@ -1,3 +1,2 @@
 pub mod EntryViews
-pub mod Cutting
 pub mod Accepted

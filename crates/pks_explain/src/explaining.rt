@@ -1,7 +1,7 @@
 //! Explanations of trees. `docs/REASONS.md` says which proofs are accepted, `docs/FORMAT.md` has the text.
 ghost use Rattle.std.specs.Prelude.{◌≡◌, ◌≤◌, [], map, length, IfOk};
 ghost use Rattle.pks_terms.specs.Answers.{unjustified};
-ghost use Rattle.pks_terms.specs.Explained.{IsExplained};
+ghost use Rattle.pks_terms.specs.Explained.{owed, IsExplained};
 ghost use Rattle.pks_terms.specs.Trees.{IsPlan, depth};
 ghost use Rattle.pks_terms.specs.ValidProblems.{IsValidProblem};
 ghost use Rattle.pks_terms.specs.Views.{problem_of};
@@ -12,9 +12,10 @@ ghost use Rattle.pks_explain.specs.Accepted.{IsProved, AreProved};
 use crate::entries::{Entry, Explained, Owed};
 use crate::owing::owed;
 use crate::proving::prove_owed;
+use pks_checker::accepts;
 use pks_lines::lost;
 use pks_plan::Tree;
-use pks_proof::{Proof, accepts};
+use pks_proof::Proof;
 use pks_terms::problem::Problem;
 use pks_terms::sequence::Sequence;
 use std::alloc::{AllocError, Global};
@@ -53,6 +54,21 @@ fn all_tested(
     Ok(entries)
 }
 
+/// What the tree owes with these proofs, each of which must be accepted for its literal.
+fn tested_owed(
+    alloc: Global,
+    p: &Problem<'_>,
+    t: &Tree,
+    proofs: Vec<Proof>,
+) -> Result<Vec<Entry>, AllocError>
+    requires { length p.now.signature.objects ≤ 65536 }
+    ensures { IfOk result (λ es. AreProved (problem_of p.now) (owed (problem_of p.now) [] (tree_of t.now)) (entries_of es.items)) }
+{
+    let all = owed(alloc, p, t)?;
+    let entries = all_tested(alloc, p, all, proofs)?;
+    Ok(entries)
+}
+
 /// The explanation of a tree: for each literal that it needs known, before an action or at a goal leaf, the path to it and a
 /// proof that is accepted, in the order in which the tree is printed. It asks for a valid problem whose adds are all
 /// justified, and for a derived tree of depth at most 16. The error is want of memory, and would also come where no proof of a
@@ -65,7 +81,6 @@ pub fn explain(alloc: Global, p: &Problem<'_>, t: &Tree) -> Result<Explained, Al
     ensures { IfOk result (λ es. IsExplained (problem_of p.now) (tree_of t.now) (entries_of es)) }
 {
     let proofs = prove_owed(alloc, p, t)?;
-    let all = owed(alloc, p, t)?;
-    let entries = all_tested(alloc, p, all, proofs)?;
+    let entries = tested_owed(alloc, p, t, proofs)?;
     Ok(Sequence::of(entries))
 }

@@ -2,14 +2,12 @@
 #![tactic(auto)]
 
 mod bytes;
-mod cutting;
 pub mod entries;
 pub mod explaining;
 mod owing;
 mod print;
 mod proving;
 
-pub use cutting::proof_of;
 pub use entries::{Entry, Explained, Owed};
 pub use explaining::explain;
 pub use owing::owed;

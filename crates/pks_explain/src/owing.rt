@@ -10,7 +10,7 @@ ghost use Rattle.pks_proof.specs.ProofViews.{turn_of, path_of};
 ghost use Rattle.pks_explain.specs.EntryViews.{owed_of};
 
 use crate::entries::Owed;
-use pks_branch::{Choice, Side};
+use pks_choices::{Choice, Side};
 use pks_plan::{CaseChain, Tree};
 use pks_proof::{Path, Turn};
 use pks_terms::ids::ActId;

@@ -198,7 +198,7 @@ fn print_entries(p: &Problem<'_>, entries: &[Entry], out: &mut Vec<u8>) -> Resul
 }
 
 /// The text of an explanation: for each entry a line with the literal that is known, and then a line for each of its proof,
-/// behind its number (`docs/FORMAT.md`, "Texts"). The one error is want of memory.
+/// behind its number (`docs/FORMAT.md`, "Printed texts"). The one error is want of memory.
 #[tactic(auto, unfolding(pks_terms::specs::Explained::explained_text))]
 pub fn print_explained(alloc: Global, p: &Problem<'_>, e: &Explained) -> Result<Vec<u8>, AllocError>
     ensures { IfOk result (λ text. text.items ≡ explained_text (names_of p.now) (entries_of e.now)) }

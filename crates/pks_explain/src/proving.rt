@@ -6,11 +6,11 @@ ghost use Rattle.pks_terms.specs.Trees.{Do, IsPlan, depth};
 ghost use Rattle.pks_terms.specs.ValidProblems.{IsValidProblem};
 ghost use Rattle.pks_terms.specs.Views.{problem_of, instance_of, term_of};
 ghost use Rattle.pks_plan.specs.TreeViews.{tree_of, chain_of};
-ghost use Rattle.pks_branch.specs.ChoiceViews.{choice_of, side_of};
+ghost use Rattle.pks_choices.specs.ChoiceViews.{choice_of, side_of};
 ghost use Rattle.pks_walk.specs.Walking.{state_of, IsReady, AreReady, IsSideReady};
 
 use crate::owing::{literals_aimed, needed_before};
-use pks_branch::{Choice, Side};
+use pks_choices::{Choice, Side};
 use pks_history::histories::History;
 use pks_plan::{CaseChain, Tree};
 use pks_proof::Proof;
@@ -147,6 +147,21 @@ impl Prover<'_, '_> {
     }
 }
 
+/// A proof of each literal that the tree owes, in order, where this is the state before its root.
+fn prove_from(alloc: Global, p: &Problem<'_>, x: &State, t: &Tree) -> Result<Vec<Proof>, AllocError>
+    requires { IsReady p.now (state_of x.now) (tree_of t.now) }
+{
+    let replay = Replay::start(alloc, p)?;
+    let proofs = Vec::new(alloc);
+    let mut prover = Prover {
+        alloc,
+        replay,
+        proofs,
+    };
+    prover.prove(p, x, t)?;
+    Ok(prover.proofs)
+}
+
 /// A proof of each literal that the tree owes, in order. Nothing is owed where the initial databases clash.
 pub(crate) fn prove_owed(alloc: Global, p: &Problem<'_>, t: &Tree) -> Result<Vec<Proof>, AllocError>
     requires valid { IsValidProblem p.now }
@@ -157,16 +172,6 @@ pub(crate) fn prove_owed(alloc: Global, p: &Problem<'_>, t: &Tree) -> Result<Vec
     let x = start(alloc, p)?;
     match &x {
         State::Stopped => Ok(Vec::new(alloc)),
-        State::At(_) => {
-            let replay = Replay::start(alloc, p)?;
-            let proofs = Vec::new(alloc);
-            let mut prover = Prover {
-                alloc,
-                replay,
-                proofs,
-            };
-            prover.prove(p, &x, t)?;
-            Ok(prover.proofs)
-        }
+        State::At(_) => prove_from(alloc, p, &x, t),
     }
 }

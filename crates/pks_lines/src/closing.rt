@@ -1,12 +1,12 @@
 //! The closing of a moment by groups and ranges. `docs/RULES.md` has the rules.
 
-use crate::index::Open;
-use crate::placing::{equal, unequal};
-use crate::table::{Lines, lost};
+use crate::table::Table;
+use pks_moment::{Moment, Open, equal, lost, push, unequal};
 use pks_proof::{Fact, Reason};
 use pks_terms::group::Group;
 use pks_terms::ids::ObjId;
 use pks_terms::literal::Literal;
+use pks_terms::problem::Signature;
 use pks_terms::term::Term;
 use std::alloc::{AllocError, Global};
 
@@ -24,137 +24,142 @@ fn other_negations(
     let mut others = Vec::new(alloc);
     for (k, l) in literals.iter().enumerate() {
         if k != place {
-            others.push(l.negated())?;
+            push(&mut others, l.negated())?;
         }
     }
     Ok(others)
 }
 
-impl Lines<'_> {
-    /// The objects of the result type of the term's function.
-    fn range_of(&self, t: &Term) -> &[ObjId] {
-        match t {
-            Term::Obj(_) | Term::Param(_) => &[],
-            Term::App { fun, .. } => match self.ranges.get(usize::from(fun.0)) {
-                Some(objects) => objects.as_slice(),
-                None => &[],
-            },
+/// The differences of the term from the objects but for this one.
+fn other_differences(
+    alloc: Global,
+    t: &Term,
+    objects: &[ObjId],
+    d: ObjId,
+) -> Result<Vec<Literal>, AllocError> {
+    let mut others = Vec::new(alloc);
+    for e in objects {
+        if *e != d {
+            push(&mut others, unequal(t, &Term::Obj(*e)))?;
         }
     }
+    Ok(others)
+}
 
-    /// The one object of its type from which the term isn't known to be different, if there is just one.
-    fn last_left(&self, m: usize, t: &Term) -> Option<ObjId> {
-        let moment = self.moments.get(m)?;
-        let mut left = None;
-        for d in self.range_of(t) {
-            if !moment.are_different(self.signature, t, &Term::Obj(*d)) {
-                if left.is_some() {
-                    return None;
-                }
-                left = Some(*d);
+/// The one of the objects from which the term isn't known to be different, if there is just one.
+fn last_left(at: &Moment, s: &Signature, t: &Term, objects: &[ObjId]) -> Option<ObjId> {
+    let mut left = None;
+    for d in objects {
+        if !at.are_different(s, t, &Term::Obj(*d)) {
+            if left.is_some() {
+                return None;
             }
+            left = Some(*d);
         }
-        left
     }
+    left
+}
 
-    /// The differences of the term from the other objects of its type.
-    fn other_differences(
-        &self,
+/// Which of the literals are denied.
+fn denied(
+    alloc: Global,
+    at: &Moment,
+    s: &Signature,
+    literals: &[Literal],
+) -> Result<Vec<bool>, AllocError> {
+    let mut denied = Vec::new(alloc);
+    for l in literals {
+        push(&mut denied, at.holds(s, &l.negated()))?;
+    }
+    Ok(denied)
+}
+
+/// The first of the literals that holds, and its place.
+fn first_holding(at: &Moment, s: &Signature, literals: &[Literal]) -> Option<(usize, Literal)> {
+    for (k, l) in literals.iter().enumerate() {
+        if at.holds(s, l) {
+            return Some((k, *l));
+        }
+    }
+    None
+}
+
+/// The group that a fact states.
+fn group_in(fact: &Fact) -> Result<Group, AllocError> {
+    match fact {
+        Fact::Kx(group) => group.copied(),
+        Fact::Lit(_) | Fact::Lcw(_) => Err(lost()),
+    }
+}
+
+/// The members of a group, and its line.
+#[derive(Clone, Copy)]
+struct Members<'g> {
+    literals: &'g [Literal],
+    line: u32,
+}
+
+impl Table<'_> {
+    /// The term has this value, since it differs from all others of its type.
+    fn join_last(
+        &mut self,
         alloc: Global,
+        at: &mut Moment,
         t: &Term,
         d: ObjId,
-    ) -> Result<Vec<Literal>, AllocError> {
-        let mut others = Vec::new(alloc);
-        for e in self.range_of(t) {
-            if *e != d {
-                others.push(unequal(t, &Term::Obj(*e)))?;
-            }
-        }
-        Ok(others)
+    ) -> Result<(), AllocError> {
+        let need = other_differences(alloc, t, self.range_of(t), d)?;
+        let l = equal(t, &Term::Obj(d));
+        self.join_by(alloc, at, &l, Reason::Range, &[], need.as_slice())
     }
 
-    /// Whether the value of the term is known by an equation with the term as it is written.
-    fn has_value(&self, m: usize, t: &Term) -> bool {
-        match self.moments.get(m) {
-            Some(moment) => match moment.normal(t) {
-                Term::Obj(d) => moment.known.get(&equal(t, &Term::Obj(d))).is_some(),
-                Term::Param(_) | Term::App { .. } => false,
-            },
-            None => false,
-        }
-    }
-
-    fn close_range(&mut self, alloc: Global, m: usize, t: &Term) -> Result<(), AllocError> {
-        if self.has_value(m, t) {
+    fn close_range(&mut self, alloc: Global, at: &mut Moment, t: &Term) -> Result<(), AllocError> {
+        if at.has_value(t) {
             return Ok(());
         }
-        let Some(d) = self.last_left(m, t) else {
-            return Ok(());
-        };
-        let need = self.other_differences(alloc, t, d)?;
-        self.join_by(
-            alloc,
-            m,
-            &equal(t, &Term::Obj(d)),
-            Reason::Range,
-            &[],
-            need.as_slice(),
-        )
+        match last_left(at, self.signature, t, self.range_of(t)) {
+            Some(d) => self.join_last(alloc, at, t, d),
+            None => Ok(()),
+        }
     }
 
     /// The group that a line states.
     fn group_of(&self, line: u32) -> Result<Group, AllocError> {
         match self.line(line) {
-            Some(line) => match &line.fact {
-                Fact::Kx(group) => group.copied(),
-                Fact::Lit(_) | Fact::Lcw(_) => Err(lost()),
-            },
+            Some(line) => group_in(&line.fact),
             None => Err(lost()),
         }
     }
 
-    /// Which of the literals are denied.
-    fn denied(
-        &self,
+    /// Adds the member, of which all others are denied.
+    fn join_only(
+        &mut self,
         alloc: Global,
-        m: usize,
-        literals: &[Literal],
-    ) -> Result<Vec<bool>, AllocError> {
-        let mut denied = Vec::new(alloc);
-        for l in literals {
-            denied.push(self.holds(m, &l.negated()))?;
-        }
-        Ok(denied)
-    }
-
-    /// The place of the first of the literals that holds.
-    fn first_holding(&self, m: usize, literals: &[Literal]) -> Option<usize> {
-        for (k, l) in literals.iter().enumerate() {
-            if self.holds(m, l) {
-                return Some(k);
-            }
-        }
-        None
+        at: &mut Moment,
+        l: &Literal,
+        of: Members<'_>,
+        place: usize,
+    ) -> Result<(), AllocError> {
+        let need = other_negations(alloc, of.literals, place)?;
+        self.join_by(alloc, at, l, Reason::Only, &[of.line], need.as_slice())
     }
 
     /// Adds each member of which all others are denied.
     fn close_only(
         &mut self,
         alloc: Global,
-        m: usize,
-        line: u32,
-        literals: &[Literal],
+        at: &mut Moment,
+        of: Members<'_>,
         denied: &[bool],
     ) -> Result<(), AllocError> {
         let open = unset(denied);
         if open > 1 {
             return Ok(());
         }
-        for (k, l) in literals.iter().enumerate() {
+        for (k, l) in of.literals.iter().enumerate() {
             let own = matches!(denied.get(k), Some(false));
             if open == usize::from(own) {
-                let need = other_negations(alloc, literals, k)?;
-                self.join_by(alloc, m, l, Reason::Only, &[line], need.as_slice())?;
+                self.join_only(alloc, at, l, of, k)?;
             }
         }
         Ok(())
@@ -164,48 +169,55 @@ impl Lines<'_> {
     fn close_others(
         &mut self,
         alloc: Global,
-        m: usize,
-        line: u32,
-        literals: &[Literal],
+        at: &mut Moment,
+        of: Members<'_>,
         place: usize,
+        one: Literal,
     ) -> Result<(), AllocError> {
-        let Some(one) = literals.get(place) else {
-            return Err(lost());
-        };
-        for (k, l) in literals.iter().enumerate() {
+        for (k, l) in of.literals.iter().enumerate() {
             if k != place {
-                self.join_by(alloc, m, &l.negated(), Reason::Others, &[line], &[*one])?;
+                self.join_by(alloc, at, &l.negated(), Reason::Others, &[of.line], &[one])?;
             }
         }
         Ok(())
     }
 
-    fn close_group(&mut self, alloc: Global, m: usize, line: u32) -> Result<(), AllocError> {
-        let group = self.group_of(line)?;
-        let literals = group.as_slice();
-        let denied = self.denied(alloc, m, literals)?;
-        let holding = self.first_holding(m, literals);
-        self.close_only(alloc, m, line, literals, denied.as_slice())?;
+    fn close_denied(
+        &mut self,
+        alloc: Global,
+        at: &mut Moment,
+        of: Members<'_>,
+    ) -> Result<(), AllocError> {
+        let denied = denied(alloc, at, self.signature, of.literals)?;
+        self.close_only(alloc, at, of, denied.as_slice())
+    }
+
+    fn close_members(
+        &mut self,
+        alloc: Global,
+        at: &mut Moment,
+        of: Members<'_>,
+    ) -> Result<(), AllocError> {
+        let holding = first_holding(at, self.signature, of.literals);
+        self.close_denied(alloc, at, of)?;
         match holding {
-            Some(place) => self.close_others(alloc, m, line, literals, place),
+            Some((place, one)) => self.close_others(alloc, at, of, place, one),
             None => Ok(()),
         }
     }
 
-    fn next_open(&mut self, alloc: Global, m: usize) -> Result<Open, AllocError> {
-        match self.moments.get_mut(m) {
-            Some(moment) => moment.next_open(alloc),
-            None => Err(lost()),
-        }
+    fn close_group(&mut self, alloc: Global, at: &mut Moment, line: u32) -> Result<(), AllocError> {
+        let group = self.group_of(line)?;
+        let literals = group.as_slice();
+        self.close_members(alloc, at, Members { literals, line })
     }
 
-    /// Adds all that groups and ranges tell at the moment. The error is want of memory, or `lost` where there is no such
-    /// moment.
-    pub fn close(&mut self, alloc: Global, m: usize) -> Result<(), AllocError> {
+    /// Adds all that groups and ranges tell at the moment.
+    pub(crate) fn close(&mut self, alloc: Global, at: &mut Moment) -> Result<(), AllocError> {
         for _ in 0..u64::MAX {
-            match self.next_open(alloc, m)? {
-                Open::Term(t) => self.close_range(alloc, m, &t)?,
-                Open::Group(line) => self.close_group(alloc, m, line)?,
+            match at.next_open(alloc)? {
+                Open::Term(t) => self.close_range(alloc, at, &t)?,
+                Open::Group(line) => self.close_group(alloc, at, line)?,
                 Open::Nothing => return Ok(()),
             }
         }

@@ -1,14 +1,22 @@
 //! Keeping what a table of lines is, and going back to it.
 
-use crate::moment::Moment;
-use crate::table::{Kept, Lines};
+use crate::lines::Lines;
+use pks_moment::{Moment, push};
 use std::alloc::{AllocError, Global};
+
+/// What a table of lines was at a time: how many lines it had, and its moments.
+#[derive(Drop)]
+pub struct Kept {
+    lines: usize,
+    moments: Vec<Moment>,
+}
 
 /// The moments again, whose memory is shared.
 fn shared(alloc: Global, moments: &[Moment]) -> Result<Vec<Moment>, AllocError> {
     let mut all = Vec::new(alloc);
     for moment in moments {
-        all.push(moment.share()?)?;
+        let own = moment.share()?;
+        push(&mut all, own)?;
     }
     Ok(all)
 }
@@ -19,7 +27,7 @@ impl Lines<'_> {
     pub fn keep(&self, alloc: Global) -> Result<Kept, AllocError> {
         let moments = shared(alloc, self.moments.as_slice())?;
         Ok(Kept {
-            lines: self.lines.len(),
+            lines: self.table.lines.len(),
             moments,
         })
     }
@@ -29,7 +37,7 @@ impl Lines<'_> {
     pub fn go_back(&mut self, alloc: Global, kept: &Kept) -> Result<(), AllocError> {
         let moments = shared(alloc, kept.moments.as_slice())?;
         self.moments = moments;
-        self.lines.truncate(kept.lines);
+        self.table.lines.truncate(kept.lines);
         Ok(())
     }
 }

@@ -1,14 +1,14 @@
 //! The lines of what is known at the start.
 
-use crate::joins::Joining;
-use crate::moment::Moment;
-use crate::table::{Lines, lost};
+use crate::joining::Joining;
+use crate::table::Table;
 use pks_initial::initial::initial;
 use pks_lcw::{AtomSet, Entry, Lcw};
+use pks_moment::{Moment, lost, push};
 use pks_proof::{Fact, Reason};
 use pks_terms::group::Group;
 use pks_terms::ids::{ItemNo, ObjId};
-use pks_terms::literal::Pattern;
+use pks_terms::literal::{Literal, Pattern};
 use pks_terms::problem::{Init, InitItem, Problem, Signature};
 use std::alloc::{AllocError, Global};
 
@@ -23,7 +23,7 @@ fn ranges_of(alloc: Global, s: &Signature) -> Result<Vec<Vec<ObjId>>, AllocError
     }
     for shape in s.functions.as_slice() {
         let objects = s.objects_of(alloc, shape.result)?;
-        ranges.push(objects)?;
+        push(&mut ranges, objects)?;
     }
     Ok(ranges)
 }
@@ -40,89 +40,155 @@ fn region_of(regions: &Lcw, pattern: &Pattern) -> Result<Entry, AllocError> {
     }
 }
 
-impl<'p> Lines<'p> {
-    fn none(alloc: Global, s: &'p Signature) -> Result<Lines<'p>, AllocError> {
+/// Puts the literal, which rests on no line, behind the others.
+fn put_given_literal(
+    alloc: Global,
+    l: &Literal,
+    reason: Reason,
+    to: &mut Vec<Joining>,
+) -> Result<(), AllocError> {
+    push(
+        to,
+        Joining {
+            literal: *l,
+            reason,
+            cites: Vec::new(alloc),
+        },
+    )
+}
+
+impl<'p> Table<'p> {
+    /// The table that has no lines yet.
+    pub(crate) fn empty(alloc: Global, s: &'p Signature) -> Result<Table<'p>, AllocError> {
         let ranges = ranges_of(alloc, s)?;
-        let mut moments = Vec::new(alloc);
-        moments.push(Moment::empty())?;
-        Ok(Lines {
+        Ok(Table {
             signature: s,
             ranges,
             lines: Vec::new(alloc),
-            moments,
         })
+    }
+}
+
+impl Table<'_> {
+    fn put_group(
+        &mut self,
+        alloc: Global,
+        at: &mut Moment,
+        group: &Group,
+        reason: Reason,
+    ) -> Result<(), AllocError> {
+        let fact = Fact::Kx(group.copied()?);
+        let line = self.add(at.number(), fact, reason, Vec::new(alloc))?;
+        at.add_group(alloc, group.copied()?, line)
+    }
+
+    fn put_region(
+        &mut self,
+        alloc: Global,
+        at: &mut Moment,
+        region: Entry,
+        reason: Reason,
+    ) -> Result<(), AllocError> {
+        let fact = Fact::Lcw(region.share()?);
+        let line = self.add(at.number(), fact, reason, Vec::new(alloc))?;
+        at.add_region(alloc, region, line)
     }
 
     fn put_given_group(
         &mut self,
         alloc: Global,
+        at: &mut Moment,
         group: &Group,
         reason: Reason,
     ) -> Result<(), AllocError> {
-        if self.has_group(0, group) {
+        if at.has_group(group) {
             return Ok(());
         }
-        let fact = Fact::Kx(group.copied()?);
-        let line = self.add_line(alloc, 0, fact, reason, Vec::new(alloc))?;
-        self.add_group(alloc, 0, group.copied()?, line)
+        self.put_group(alloc, at, group, reason)
     }
 
     fn put_given_region(
         &mut self,
         alloc: Global,
-        region: Entry,
+        at: &mut Moment,
+        pattern: &Pattern,
         reason: Reason,
+        regions: &Lcw,
     ) -> Result<(), AllocError> {
-        if self.has_region(0, &region) {
+        let region = region_of(regions, pattern)?;
+        if at.has_region(&region) {
             return Ok(());
         }
-        let fact = Fact::Lcw(region.share()?);
-        let line = self.add_line(alloc, 0, fact, reason, Vec::new(alloc))?;
-        self.add_region(alloc, 0, region, line)
+        self.put_region(alloc, at, region, reason)
     }
 
     /// Puts the line of a group or a region, and the literal behind the others.
     fn put_given(
         &mut self,
         alloc: Global,
-        item: &InitItem,
+        at: &mut Moment,
+        item: &Init,
         reason: Reason,
         regions: &Lcw,
         to: &mut Vec<Joining>,
     ) -> Result<(), AllocError> {
-        match &item.start {
-            Init::Kf(l) => {
-                to.push(Joining {
-                    literal: *l,
-                    reason,
-                    cites: Vec::new(alloc),
-                })?;
-                Ok(())
-            }
+        match item {
+            Init::Kf(l) => put_given_literal(alloc, l, reason, to),
             Init::Kw(_) | Init::Kv(_) => Ok(()),
-            Init::Kx(group) => self.put_given_group(alloc, group, reason),
-            Init::Lcw(pattern) => {
-                let region = region_of(regions, pattern)?;
-                self.put_given_region(alloc, region, reason)
-            }
+            Init::Kx(group) => self.put_given_group(alloc, at, group, reason),
+            Init::Lcw(pattern) => self.put_given_region(alloc, at, pattern, reason, regions),
         }
     }
 
-    /// The lines of the initial items, and what follows from them at the start, closed and in normal form. The error is want
-    /// of memory, or `lost` where the problem has too many objects or items. `docs/REASONS.md` has the reasons.
-    pub fn start(alloc: Global, p: &'p Problem<'_>) -> Result<Lines<'p>, AllocError> {
-        let first = initial(alloc, p)?;
-        let mut lines = Lines::none(alloc, &p.signature)?;
+    /// Puts the lines of groups and regions, and answers the literals.
+    fn put_all_given(
+        &mut self,
+        alloc: Global,
+        at: &mut Moment,
+        items: &[InitItem],
+        regions: &Lcw,
+    ) -> Result<Vec<Joining>, AllocError> {
         let mut literals = Vec::new(alloc);
         let mut number: u32 = 0;
-        for item in p.init.as_slice() {
+        for item in items {
             number = number.saturating_add(1);
             let reason = Reason::Given(ItemNo(number));
-            lines.put_given(alloc, item, reason, &first.lcw, &mut literals)?;
+            self.put_given(alloc, at, &item.start, reason, regions, &mut literals)?;
         }
-        lines.join_all(alloc, 0, literals)?;
-        lines.close(alloc, 0)?;
-        lines.tidy(alloc, 0)?;
-        Ok(lines)
+        Ok(literals)
+    }
+
+    /// The lines of the initial items, whose regions these are, and what the values make of them.
+    fn join_given(
+        &mut self,
+        alloc: Global,
+        at: &mut Moment,
+        items: &[InitItem],
+        regions: &Lcw,
+    ) -> Result<(), AllocError> {
+        let literals = self.put_all_given(alloc, at, items, regions)?;
+        self.join_all(alloc, at, literals.as_slice())
+    }
+
+    fn join_initial(
+        &mut self,
+        alloc: Global,
+        at: &mut Moment,
+        p: &Problem<'_>,
+    ) -> Result<(), AllocError> {
+        let first = initial(alloc, p)?;
+        self.join_given(alloc, at, p.init.as_slice(), &first.lcw)
+    }
+
+    /// The lines of the initial items, and what follows from them, closed and in normal form.
+    pub(crate) fn begin(
+        &mut self,
+        alloc: Global,
+        at: &mut Moment,
+        p: &Problem<'_>,
+    ) -> Result<(), AllocError> {
+        self.join_initial(alloc, at, p)?;
+        self.close(alloc, at)?;
+        self.tidy(alloc, at)
     }
 }

@@ -1,4 +1,5 @@
 pub mod Lists
+pub mod OwnForms
 pub mod TableLaws
 pub mod Values
 pub mod SameValues

@@ -1,5 +1,5 @@
 -- Literals that give the same values at each place make the same normal forms.
-use Rattle.std.proofs.Common.{◌≡◌, ℕ, List, [], ◌∷◌, map, Option, Some, None, option_and_then, is_some, true, false, Less, Equal, Greater, refl, sym, ap, ◌∙◌, true≢false}
+use Rattle.std.proofs.Common.{◌≡◌, ℕ, List, [], ◌∷◌, map, Option, Some, None, option_and_then, is_some, false, Less, Equal, Greater, refl, ap, ◌∙◌, true≢false}
 use Rattle.std.specs.List.{cons_option}
 use Rattle.std.specs.Option.{option_map_or}
 use Rattle.pks_terms.specs.Sets.{all_some, insert_in}

@@ -1,3 +1,4 @@
 pub mod Fives
+pub mod Own
 pub mod Reading
 pub mod Tables

@@ -85,7 +85,7 @@ fn print_cases(
 }
 
 /// The text of a tree: a line with its depth, and a line for each action, branch and leaf, indented by two blanks for
-/// each branch and for cases (docs/FORMAT.md, "Texts"). It asks for a depth of at most 16, and errs only where memory
+/// each branch and for cases (docs/FORMAT.md, "Printed texts"). It asks for a depth of at most 16, and errs only where memory
 /// runs out.
 #[tactic(auto, unfolding(pks_terms::specs::Printed::tree_text))]
 pub fn print_tree(alloc: Global, p: &Problem<'_>, t: &Tree) -> Result<Vec<u8>, AllocError>

@@ -17,7 +17,7 @@ use pks_terms::schema::Instance;
 use pks_terms::term::front;
 use std::cmp::Ordering;
 
-/// What an action costs by itself: what its schema says (docs/RULES.md, "Trees").
+/// What an action costs by itself: what its schema says (docs/RULES.md, "Trees, and which is best").
 pub fn action_cost(p: &Problem<'_>, act: ActId) -> u32
     ensures { result ≡ (schema_of (problem_of p.now) act.0).cost }
 {
@@ -57,7 +57,7 @@ fn chain_total(p: &Problem<'_>, k: &CaseChain) -> u64
 
 /// The cost: an action costs what its schema says, a branch and cases cost one, and of what follows the dearest
 /// counts. It asks for a depth of at most 16 and for actions that cost at most 9,999, as those of a valid problem
-/// (docs/RULES.md, "Trees").
+/// (docs/RULES.md, "Trees, and which is best").
 pub fn cost(p: &Problem<'_>, t: &Tree) -> u32
     requires depth { depth (tree_of t.now) ≤ 16 }
     requires costs { Each (λ schema. schema.cost ≤ 9999) (problem_of p.now).schemas }
@@ -146,7 +146,7 @@ fn root_cmp(p: &Problem<'_>, a: &Tree, b: &Tree) -> Ordering
 /// Which of two trees is better, the better one being less: the cheaper; of equal cost the one whose root comes first
 /// in the order goal, impossible, actions, branches, cases; of one kind by action and arguments, by formula, or by
 /// term and objects; of equal roots the one whose first child that differs is better. It asks for depths of at most
-/// 16 (docs/RULES.md, "Trees").
+/// 16 (docs/RULES.md, "Trees, and which is best").
 #[cycle(betters)]
 pub fn better(p: &Problem<'_>, a: &Tree, b: &Tree) -> Ordering
     requires first { depth (tree_of a.now) ≤ 16 }

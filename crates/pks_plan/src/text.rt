@@ -122,7 +122,7 @@ fn relation_text<'s>(p: &Problem<'s>, atom: &Atom) -> &'s str
     }
 }
 
-/// Appends a term: an object as its name, an application as `(f t u)` (docs/FORMAT.md, "Texts"). A parameter has no
+/// Appends a term: an object as its name, an application as `(f t u)` (docs/FORMAT.md, "Printed texts"). A parameter has no
 /// text. Where memory runs out a beginning of the text was appended.
 pub fn print_term(p: &Problem<'_>, t: &Term, out: &mut Vec<u8>) -> Result<(), AllocError>
     ensures ok { OnOk result (out.new.items ≡ out.old.items ++ term_text (names_of p.now) (term_of t.now)) }
@@ -133,7 +133,7 @@ pub fn print_term(p: &Problem<'_>, t: &Term, out: &mut Vec<u8>) -> Result<(), Al
 }
 
 /// Appends a literal: an atom as `(p t u)`, an equation as `(= t u)` with its sides as they stand, a negation as
-/// `(not ..)` (docs/FORMAT.md, "Texts"). Where memory runs out a beginning of the text was appended.
+/// `(not ..)` (docs/FORMAT.md, "Printed texts"). Where memory runs out a beginning of the text was appended.
 pub fn print_literal(p: &Problem<'_>, l: &Literal, out: &mut Vec<u8>) -> Result<(), AllocError>
     ensures ok { OnOk result (out.new.items ≡ out.old.items ++ literal_text (names_of p.now) (literal_of l.now)) }
     ensures err { OnErr result (AppendsPart out.old.items out.new.items (literal_text (names_of p.now) (literal_of l.now))) }
@@ -142,7 +142,7 @@ pub fn print_literal(p: &Problem<'_>, l: &Literal, out: &mut Vec<u8>) -> Result<
     Ok(())
 }
 
-/// Appends a conjunction: its literals in order, with one blank between (docs/FORMAT.md, "Texts"). Where memory runs
+/// Appends a conjunction: its literals in order, with one blank between (docs/FORMAT.md, "Printed texts"). Where memory runs
 /// out a beginning of the text was appended.
 #[tactic(auto, using(crate::proofs::Appended::appended, crate::proofs::Appended::with_blanks), unfolding(pks_terms::specs::Printed::conj_text))]
 pub fn print_conj(p: &Problem<'_>, c: &Conj, out: &mut Vec<u8>) -> Result<(), AllocError>
@@ -156,7 +156,7 @@ pub fn print_conj(p: &Problem<'_>, c: &Conj, out: &mut Vec<u8>) -> Result<(), Al
     Ok(())
 }
 
-/// Appends a pattern, as an atom with `_` at its wildcards (docs/FORMAT.md, "Texts"). Where memory runs out a
+/// Appends a pattern, as an atom with `_` at its wildcards (docs/FORMAT.md, "Printed texts"). Where memory runs out a
 /// beginning of the text was appended.
 #[tactic(auto, using(crate::proofs::Appended::printed), unfolding(pks_terms::specs::Printed::pattern_text))]
 pub fn print_pattern(p: &Problem<'_>, x: &Pattern, out: &mut Vec<u8>) -> Result<(), AllocError>
@@ -172,7 +172,7 @@ pub fn print_pattern(p: &Problem<'_>, x: &Pattern, out: &mut Vec<u8>) -> Result<
     Ok(())
 }
 
-/// Appends an action with its arguments, as `(name t u)` (docs/FORMAT.md, "Texts"). Where memory runs out a beginning
+/// Appends an action with its arguments, as `(name t u)` (docs/FORMAT.md, "Printed texts"). Where memory runs out a beginning
 /// of the text was appended.
 #[tactic(auto, using(crate::proofs::Appended::printed), unfolding(pks_terms::specs::Printed::instance_text))]
 pub fn print_instance(p: &Problem<'_>, i: &Instance, out: &mut Vec<u8>) -> Result<(), AllocError>

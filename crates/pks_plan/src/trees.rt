@@ -50,7 +50,7 @@ pub enum CaseChain {
 }
 
 /// The depth: that of the goal and of the impossible is 0, and each action, branch and cases are one deeper than the
-/// deepest of what follows. It asks for a depth of at most 16 (docs/RULES.md, "Trees").
+/// deepest of what follows. It asks for a depth of at most 16 (docs/RULES.md, "Trees, and which is best").
 #[cycle(depths)]
 pub fn depth(t: &Tree) -> u32
     requires { depth (tree_of t.now) ≤ 16 }

@@ -15,9 +15,9 @@ ghost use Rattle.pks_normal.specs.Fives.{five_of};
 ghost use Rattle.pks_spoiling.specs.EffectViews.{effects_in};
 ghost use Rattle.pks_progress.specs.Kept.{atom_set, atoms_set, widened_with, kept_with, is_elsewhere, stays, changed_with};
 
-use pks_closing::forms::normal_atom;
 use pks_derived::derived::Derived;
 use pks_lcw::{AtomSet, Entry, Lcw};
+use pks_normal::atoms::normal_atom;
 use pks_spoiling::effects::Effects;
 use pks_spoiling::spoiled::{are_stable, is_stable};
 use pks_spoiling::targets::{may_fire, some_fixed_differ};

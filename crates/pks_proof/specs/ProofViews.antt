@@ -3,7 +3,7 @@ use Rattle.std.specs.Prelude.{List, map}
 use Rattle.pks_terms.specs.Proofs.{Fact, FactLit, FactKx, FactLcw, Turn, Went, Took, Path, Reason, ByGiven, BySide, BySame, BySwap, ByOnly, ByOthers, ByRange, ByClosed, ByKeep, ByBack, ByEffect, ByMust, ByCannot, ByGrow, ByClear, Line, Proof}
 use Rattle.pks_terms.specs.Views.{literal_of, literals_in, instance_of}
 use Rattle.pks_lcw.specs.Entries.{entry_of}
-use Rattle.pks_branch.specs.ChoiceViews.{choice_of, side_of}
+use Rattle.pks_choices.specs.ChoiceViews.{choice_of, side_of}
 use Rattle.pks_proof.specs.declared.lines.Fact as fact
 use Rattle.pks_proof.specs.declared.lines.Fact.TheVariants as fact_is
 use Rattle.pks_proof.specs.declared.lines.Reason as reason

@@ -5,7 +5,7 @@ ghost use Rattle.pks_terms.specs.Orders.{literal_eq};
 ghost use Rattle.pks_terms.specs.Judging.{fact_eq};
 ghost use Rattle.pks_proof.specs.ProofViews.{fact_of};
 
-use pks_branch::{Choice, Side};
+use pks_choices::{Choice, Side};
 use pks_lcw::Entry;
 use pks_terms::group::Group;
 use pks_terms::ids::ItemNo;

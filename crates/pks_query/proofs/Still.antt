@@ -1,5 +1,5 @@
 -- What the rules add nothing to, and where nothing clashes, closes to its own normal form.
-use Rattle.std.proofs.Common.{◌≡◌, None, List, sym, ap, ◌∙◌, subst}
+use Rattle.std.proofs.Common.{◌≡◌, None, sym, ap, ◌∙◌}
 use Rattle.std.specs.Option.{option_map_or}
 use Rattle.pks_terms.specs.Sets.{IsOrdered}
 use Rattle.pks_terms.specs.Orders.{literal_cmp}

@@ -9,3 +9,4 @@ pub mod same;
 pub use databases::{Db, Step};
 pub use pks_closing::closing::CloseEnd;
 pub use pks_normal::five::Five;
+pub use pks_uses::Uses;

@@ -5,8 +5,7 @@ ghost use Rattle.pks_plan.specs.TreeViews.{tree_of, chain_of};
 ghost use Rattle.pks_walk.specs.Walking.{state_of, IsReady, AreReady};
 ghost use Rattle.pks_recall.specs.Walking.{AddsLeaves, AddsLeavesOfEach};
 
-use pks_branch::assuming::Side;
-use pks_branch::choosing::Choice;
+use pks_choices::{Choice, Side};
 use pks_history::histories::History;
 use pks_plan::{CaseChain, Tree};
 use pks_terms::problem::Problem;

@@ -15,7 +15,7 @@ use pks_walk::start;
 use std::alloc::{AllocError, Global};
 
 /// The text of what each leaf of the tree knows, from left to right and counted from 1: each moment of its history with the
-/// literals that are known of it, or `impossible` where it has none (`docs/FORMAT.md`, "Texts"). Each literal was true at its
+/// literals that are known of it, or `impossible` where it has none (`docs/FORMAT.md`, "Printed texts"). Each literal was true at its
 /// moment in every compatible world whose run comes to that leaf. It asks for a valid problem whose adds are all justified,
 /// and for a derived tree of depth at most 16; where the initial databases clash, the only such tree is a leaf, which is
 /// impossible. The histories are made anew from the tree. The error is want of memory.

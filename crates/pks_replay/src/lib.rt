@@ -3,16 +3,13 @@
 
 mod acting;
 mod adding;
-mod barring;
-mod effects;
-mod forms;
-mod lasting;
+mod citing;
+mod keeping;
 mod numbering;
 mod proving;
 mod regions;
 pub mod replaying;
 mod settling;
 mod taking;
-mod targets;
 
 pub use replaying::{Kept, Replay};

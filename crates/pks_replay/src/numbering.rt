@@ -3,6 +3,7 @@
 use pks_lines::{Lines, lost};
 use pks_proof::lines::same_fact;
 use pks_proof::{Fact, Line, Proof};
+use pks_terms::literal::Literal;
 use pks_terms::sequence::Sequence;
 use std::alloc::{AllocError, Global};
 
@@ -94,6 +95,34 @@ fn same_among(lines: &Lines<'_>, numbers: &[u32], line: &Line) -> Option<u32> {
     None
 }
 
+/// The line by which the table knows the literal at the moment, where it is marked and none of the later ones.
+fn known_before(
+    lines: &Lines<'_>,
+    marks: &[bool],
+    number: u32,
+    m: u32,
+    l: &Literal,
+) -> Option<u32> {
+    match lines.line_of(m as usize, l) {
+        Some(own) if own <= number && is_marked(marks, own) => Some(own),
+        Some(_) | None => None,
+    }
+}
+
+/// The first of the lines that were made again with the moment and fact of this one, which joins them where there is none.
+fn first_again(
+    lines: &Lines<'_>,
+    number: u32,
+    line: &Line,
+    again: &mut Vec<u32>,
+) -> Result<u32, AllocError> {
+    if let Some(first) = same_among(lines, again.as_slice(), line) {
+        return Ok(first);
+    }
+    again.push(number)?;
+    Ok(number)
+}
+
 /// The line that stands for the one of this number: of literals the one by which the table knows it, where that is marked
 /// and comes first, else the first of those that were made again.
 fn first_of(
@@ -108,17 +137,23 @@ fn first_of(
     let Fact::Lit(l) = &line.fact else {
         return Ok(number);
     };
-    if let Some(own) = lines.line_of(line.moment as usize, l) {
-        if own <= number && is_marked(marks, own) {
-            return Ok(own);
-        }
+    match known_before(lines, marks, number, line.moment, l) {
+        Some(own) => Ok(own),
+        None => first_again(lines, number, line, again),
     }
-    match same_among(lines, again.as_slice(), line) {
-        Some(first) => Ok(first),
-        None => {
-            again.push(number)?;
-            Ok(number)
-        }
+}
+
+/// The line that stands for the one of this number where it is marked.
+fn first_if_marked(
+    lines: &Lines<'_>,
+    marks: &[bool],
+    number: u32,
+    again: &mut Vec<u32>,
+) -> Result<u32, AllocError> {
+    if is_marked(marks, number) {
+        first_of(lines, marks, number, again)
+    } else {
+        Ok(number)
     }
 }
 
@@ -132,12 +167,7 @@ fn firsts_of(
     let mut firsts = Vec::new(alloc);
     let mut again = Vec::new(alloc);
     for before in 0..last {
-        let number = before + 1;
-        let first = if is_marked(marks, number) {
-            first_of(lines, marks, number, &mut again)?
-        } else {
-            number
-        };
+        let first = first_if_marked(lines, marks, before + 1, &mut again)?;
         firsts.push(first)?;
     }
     Ok(firsts)
@@ -204,11 +234,10 @@ impl Rests {
 
     /// The line, what it cites numbered anew.
     fn renumbered(&self, alloc: Global, ranks: &[u32], line: &Line) -> Result<Line, AllocError> {
-        let fact = copied(&line.fact)?;
         let cites = self.new_cites(alloc, ranks, line.cites.as_slice())?;
         Ok(Line {
             moment: line.moment,
-            fact,
+            fact: copied(&line.fact)?,
             reason: line.reason,
             cites: Sequence::of(cites),
         })

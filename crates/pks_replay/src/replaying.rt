@@ -1,9 +1,7 @@
 //! A path, with the lines of what is known along it.
 
-use crate::effects::{Step, step_of};
 use pks_lines::{Kept as KeptLines, Lines, lost};
 use pks_proof::Turn;
-use pks_terms::literal::Literal;
 use pks_terms::problem::Problem;
 use pks_terms::schema::Instance;
 use std::alloc::{AllocError, Global};
@@ -72,29 +70,5 @@ impl<'p, 's> Replay<'p, 's> {
             }
         }
         Ok(deeds)
-    }
-
-    /// The step that the action makes from the moment to the next.
-    pub(crate) fn step(
-        &self,
-        alloc: Global,
-        before: usize,
-        i: &Instance,
-    ) -> Result<Step, AllocError> {
-        let step = step_of(alloc, self.problem, &self.lines, before, i)?;
-        Ok(step)
-    }
-
-    /// The lines of these literals, which hold at the moment, and those beside them.
-    pub(crate) fn cite(
-        &mut self,
-        alloc: Global,
-        m: usize,
-        by: &[Literal],
-        rest: &[u32],
-    ) -> Result<Vec<u32>, AllocError> {
-        let mut cites = self.lines.show_all(alloc, m, by)?;
-        cites.extend_from_slice(rest)?;
-        Ok(cites)
     }
 }

@@ -1,306 +1,321 @@
 //! Settling: what two neighbouring moments tell each other. `docs/RULES.md`, "Settling", has the rules.
 
-use crate::effects::{Firing, Step};
-use crate::forms::TargetForm;
-use crate::replaying::Replay;
-use pks_lines::{Joining, lost};
+use crate::citing::{cite, join_made};
+use crate::keeping::{bring_back, keep_literals};
+use pks_effects::{Firing, Step, TargetForm, Tests, step_of};
+use pks_lines::{Lines, lost};
 use pks_proof::Reason;
 use pks_terms::literal::Literal;
+use pks_terms::problem::Problem;
 use pks_terms::schema::Instance;
-use pks_terms::term::front;
 use std::alloc::{AllocError, Global};
 
-/// A condition of an effect.
+/// The conditions of an effect that don't hold: how many there are, and the place of the last.
 #[derive(Clone, Copy)]
-struct Condition {
-    /// The condition.
-    literal: Literal,
-    /// Whether it doesn't hold.
-    is_open: bool,
+struct Open {
+    count: usize,
+    last: usize,
+}
+
+/// An effect of a step, in one of its forms.
+#[derive(Clone, Copy)]
+struct Told<'a> {
+    /// The step.
+    step: &'a Step,
+    /// Its place among the effects of the step.
+    k: usize,
+    /// Its conditions.
+    conditions: &'a [Literal],
+    /// Those that don't hold.
+    open: Open,
+    /// The form.
+    form: &'a TargetForm,
+}
+
+/// The conditions that don't hold at the moment.
+fn open_at(lines: &Lines<'_>, m: usize, conditions: &[Literal]) -> Open {
+    let mut count: usize = 0;
+    let mut last = 0;
+    for (n, c) in conditions.iter().enumerate() {
+        if !lines.holds(m, c) {
+            count = count.saturating_add(1);
+            last = n;
+        }
+    }
+    Open { count, last }
 }
 
 /// Whether no condition but the n-th is open.
-fn no_other_open(conditions: &[Condition], n: usize) -> bool {
+fn no_other(open: &Open, n: usize) -> bool {
+    open.count == 0 || (open.count == 1 && open.last == n)
+}
+
+/// Adds the conditions but for the n-th.
+fn add_others(conditions: &[Literal], n: usize, to: &mut Vec<Literal>) -> Result<(), AllocError> {
     for (k, c) in conditions.iter().enumerate() {
-        if k != n && c.is_open {
-            return false;
+        if k != n {
+            to.push(*c)?;
         }
     }
-    true
+    Ok(())
 }
 
-/// Whether no condition is open.
-fn none_open(conditions: &[Condition]) -> bool {
+/// The literals, and the conditions but for the n-th.
+fn with_others(
+    alloc: Global,
+    by: &[Literal],
+    conditions: &[Literal],
+    n: usize,
+) -> Result<Vec<Literal>, AllocError> {
+    let mut all = Vec::from_slice(alloc, by)?;
+    add_others(conditions, n, &mut all)?;
+    Ok(all)
+}
+
+/// Whether one of the conditions isn't known at the moment.
+fn some_unknown(lines: &Lines<'_>, m: usize, conditions: &[Literal]) -> bool {
     for c in conditions {
-        if c.is_open {
-            return false;
-        }
-    }
-    true
-}
-
-/// Whether no condition is open, or one alone.
-fn few_open(conditions: &[Condition]) -> bool {
-    for n in 0..conditions.len() {
-        if no_other_open(conditions, n) {
+        if !lines.knows(m, c) {
             return true;
         }
     }
     false
 }
 
-/// Adds the conditions but for the n-th.
-fn add_others(conditions: &[Condition], n: usize, to: &mut Vec<Literal>) -> Result<(), AllocError> {
-    for (k, c) in conditions.iter().enumerate() {
-        if k != n {
-            to.push(c.literal)?;
+/// All moments are settled, which these actions lead along, and their groups and regions in normal form.
+pub(crate) fn settle(
+    alloc: Global,
+    p: &Problem<'_>,
+    lines: &mut Lines<'_>,
+    deeds: &[Instance],
+) -> Result<(), AllocError> {
+    settle_rounds(alloc, p, lines, deeds)?;
+    for m in 0..lines.moments() {
+        lines.tidy(alloc, m)?;
+    }
+    Ok(())
+}
+
+/// Rounds until one brings nothing.
+fn settle_rounds(
+    alloc: Global,
+    p: &Problem<'_>,
+    lines: &mut Lines<'_>,
+    deeds: &[Instance],
+) -> Result<(), AllocError> {
+    for _ in 0..u64::MAX {
+        let before = lines.count();
+        settle_round(alloc, p, lines, deeds)?;
+        if lines.count() == before {
+            break;
         }
     }
     Ok(())
 }
 
-impl Replay<'_, '_> {
-    /// All moments are settled, and their groups and regions in normal form.
-    pub(crate) fn settle(&mut self, alloc: Global) -> Result<(), AllocError> {
-        let deeds = self.deeds(alloc)?;
-        for _ in 0..u64::MAX {
-            let before = self.lines.count();
-            self.settle_round(alloc, deeds.as_slice())?;
-            if self.lines.count() == before {
-                break;
-            }
-        }
-        for m in 0..self.lines.moments() {
-            self.lines.tidy(alloc, m)?;
-        }
-        Ok(())
+/// Each step, from the last back and then forward.
+fn settle_round(
+    alloc: Global,
+    p: &Problem<'_>,
+    lines: &mut Lines<'_>,
+    deeds: &[Instance],
+) -> Result<(), AllocError> {
+    let count = deeds.len();
+    for k in 0..count {
+        settle_at(alloc, p, lines, deeds, count - 1 - k)?;
     }
-
-    /// Each step, from the last back and then forward.
-    fn settle_round(&mut self, alloc: Global, deeds: &[Instance]) -> Result<(), AllocError> {
-        let count = deeds.len();
-        for k in 0..count {
-            self.settle_at(alloc, deeds, count - 1 - k)?;
-        }
-        for m in 0..count {
-            self.settle_at(alloc, deeds, m)?;
-        }
-        Ok(())
+    for m in 0..count {
+        settle_at(alloc, p, lines, deeds, m)?;
     }
+    Ok(())
+}
 
-    /// The step from the moment to the next, both of which are closed again.
-    fn settle_at(&mut self, alloc: Global, deeds: &[Instance], m: usize) -> Result<(), AllocError> {
-        let Some(i) = deeds.get(m) else {
-            return Err(lost());
+/// The step from the moment to the next, both of which are closed again.
+fn settle_at(
+    alloc: Global,
+    p: &Problem<'_>,
+    lines: &mut Lines<'_>,
+    deeds: &[Instance],
+    m: usize,
+) -> Result<(), AllocError> {
+    let Some(i) = deeds.get(m) else {
+        return Err(lost());
+    };
+    let step = step_of(alloc, p, lines, m, i)?;
+    settle_closed(alloc, lines, &step)
+}
+
+/// The two moments of the step, which are closed again.
+fn settle_closed(alloc: Global, lines: &mut Lines<'_>, step: &Step) -> Result<(), AllocError> {
+    settle_step(alloc, lines, step)?;
+    lines.close(alloc, step.before)?;
+    lines.close(alloc, step.after)
+}
+
+/// What the two moments of the step tell each other.
+fn settle_step(alloc: Global, lines: &mut Lines<'_>, step: &Step) -> Result<(), AllocError> {
+    keep_literals(alloc, lines, step)?;
+    bring_back(alloc, lines, step)?;
+    for (k, firing) in step.firings.as_slice().iter().enumerate() {
+        settle_effect(alloc, lines, step, k, firing)?;
+    }
+    Ok(())
+}
+
+/// What the k-th effect tells, in each of its forms.
+fn settle_effect(
+    alloc: Global,
+    lines: &mut Lines<'_>,
+    step: &Step,
+    k: usize,
+    firing: &Firing,
+) -> Result<(), AllocError> {
+    let conditions = firing.conditions();
+    let open = open_at(lines, step.before, conditions);
+    let forms = Tests::of(lines, step).target_forms(alloc, &firing.effect.target)?;
+    for form in forms.as_slice() {
+        let told = Told {
+            step,
+            k,
+            conditions,
+            open,
+            form,
         };
-        let step = self.step(alloc, m, i)?;
-        self.settle_step(alloc, &step)?;
-        self.lines.close(alloc, step.before)?;
-        self.lines.close(alloc, step.after)
+        settle_form(alloc, lines, &told)?;
     }
+    Ok(())
+}
 
-    /// What the two moments of the step tell each other.
-    fn settle_step(&mut self, alloc: Global, step: &Step) -> Result<(), AllocError> {
-        self.keep_literals(alloc, step)?;
-        self.bring_back(alloc, step)?;
-        for (k, firing) in step.firings.as_slice().iter().enumerate() {
-            self.settle_effect(alloc, step, k, firing)?;
-        }
-        Ok(())
-    }
+/// What the effect tells in this form.
+fn settle_form(alloc: Global, lines: &mut Lines<'_>, told: &Told<'_>) -> Result<(), AllocError> {
+    settle_fired(alloc, lines, told)?;
+    settle_needed(alloc, lines, told)?;
+    settle_failed(alloc, lines, told)
+}
 
-    /// Puts the literal, which has this line after the action, where the action doesn't spoil its negation.
-    fn put_back(
-        &mut self,
-        alloc: Global,
-        step: &Step,
-        l: &Literal,
-        line: u32,
-        to: &mut Vec<Joining>,
-    ) -> Result<(), AllocError> {
-        let mut by = Vec::new(alloc);
-        if !self.tests(step).is_unspoiled(&l.negated(), &mut by)? {
-            return Ok(());
-        }
-        let cites = self.cite(alloc, step.before, by.as_slice(), &[line])?;
-        to.push(Joining {
-            literal: *l,
-            reason: Reason::Back,
-            cites,
-        })?;
-        Ok(())
+/// The effect fires: what it writes is so after the action.
+fn settle_fired(alloc: Global, lines: &mut Lines<'_>, told: &Told<'_>) -> Result<(), AllocError> {
+    let literal = &told.form.literal;
+    if told.open.count != 0 || lines.knows(told.step.after, literal) {
+        return Ok(());
     }
+    let tests = Tests::of(lines, told.step);
+    let Some(by) = tests.made_in(alloc, told.k, told.conditions, told.form)? else {
+        return Ok(());
+    };
+    join_made(alloc, lines, told.step, literal, by.as_slice())
+}
 
-    /// The literals known after the action that it doesn't make so were so before it.
-    fn bring_back(&mut self, alloc: Global, step: &Step) -> Result<(), AllocError> {
-        let mut back = Vec::new(alloc);
-        for (l, line) in self.lines.known(alloc, step.after)? {
-            if !self.lines.knows(step.before, &l) {
-                self.put_back(alloc, step, &l, line, &mut back)?;
-            }
-        }
-        self.lines.join_all(alloc, step.before, back)
-    }
+/// Whether a condition isn't known before the action, and what the effect writes is so after it and wasn't before.
+fn is_needed(lines: &Lines<'_>, told: &Told<'_>, denied: &Literal) -> bool {
+    some_unknown(lines, told.step.before, told.conditions)
+        && lines.holds(told.step.before, denied)
+        && lines.holds(told.step.after, &told.form.literal)
+}
 
-    /// The conditions of the effect.
-    fn conditions(
-        &self,
-        alloc: Global,
-        step: &Step,
-        firing: &Firing,
-    ) -> Result<Vec<Condition>, AllocError> {
-        let cond = &firing.effect.cond;
-        let mut conditions = Vec::new(alloc);
-        for c in front(&cond.literals, cond.n) {
-            conditions.push(Condition {
-                literal: *c,
-                is_open: !self.lines.holds(step.before, c),
-            })?;
-        }
-        Ok(conditions)
-    }
+/// What it rests on that no other effect makes so what the effect writes, which wasn't so before.
+fn sole(
+    alloc: Global,
+    lines: &Lines<'_>,
+    told: &Told<'_>,
+    denied: &Literal,
+) -> Result<Option<Vec<Literal>>, AllocError> {
+    let form = told.form;
+    let tests = Tests::of(lines, told.step);
+    let Some(mut by) = tests.sole(alloc, told.k, &form.target, form.by.as_slice())? else {
+        return Ok(None);
+    };
+    by.push(*denied)?;
+    Ok(Some(by))
+}
 
-    /// What the k-th effect tells, in each of its forms.
-    fn settle_effect(
-        &mut self,
-        alloc: Global,
-        step: &Step,
-        k: usize,
-        firing: &Firing,
-    ) -> Result<(), AllocError> {
-        let conditions = self.conditions(alloc, step, firing)?;
-        let forms = self.tests(step).target_forms(alloc, &firing.effect.target)?;
-        for form in forms.as_slice() {
-            self.settle_fired(alloc, step, k, form, conditions.as_slice())?;
-            self.settle_needed(alloc, step, k, form, conditions.as_slice())?;
-            self.settle_failed(alloc, step, k, form, conditions.as_slice())?;
-        }
-        Ok(())
+/// The effect must have fired: it alone makes so what is so after the action and wasn't before. Then its conditions were
+/// true.
+fn settle_needed(alloc: Global, lines: &mut Lines<'_>, told: &Told<'_>) -> Result<(), AllocError> {
+    let denied = told.form.literal.negated();
+    if !is_needed(lines, told, &denied) {
+        return Ok(());
     }
+    let Some(by) = sole(alloc, lines, told, &denied)? else {
+        return Ok(());
+    };
+    join_needed(alloc, lines, told, by.as_slice())
+}
 
-    /// The effect fires: what it writes is so after the action.
-    fn settle_fired(
-        &mut self,
-        alloc: Global,
-        step: &Step,
-        k: usize,
-        form: &TargetForm,
-        conditions: &[Condition],
-    ) -> Result<(), AllocError> {
-        if !none_open(conditions) || self.lines.knows(step.after, &form.literal) {
-            return Ok(());
-        }
-        let mut by = Vec::from_slice(alloc, form.by.as_slice())?;
-        if !self.tests(step).is_lasting(k, &form.target, &mut by)? {
-            return Ok(());
-        }
-        add_others(conditions, conditions.len(), &mut by)?;
-        self.join_made(alloc, step, &form.literal, by.as_slice())
-    }
+/// The conditions come in before the action, since the effect must have fired, which rests on these.
+fn join_needed(
+    alloc: Global,
+    lines: &mut Lines<'_>,
+    told: &Told<'_>,
+    by: &[Literal],
+) -> Result<(), AllocError> {
+    let step = told.step;
+    let after = lines.show(alloc, step.after, &told.form.literal)?;
+    let rest = cite(alloc, lines, step.before, by, &[after])?;
+    join_conditions(alloc, lines, step.before, told.conditions, rest.as_slice())
+}
 
-    /// Whether one of the conditions isn't known before the action.
-    fn some_unknown(&self, step: &Step, conditions: &[Condition]) -> bool {
-        for c in conditions {
-            if !self.lines.knows(step.before, &c.literal) {
-                return true;
-            }
-        }
-        false
+/// The conditions come in at the moment, by these lines.
+fn join_conditions(
+    alloc: Global,
+    lines: &mut Lines<'_>,
+    m: usize,
+    conditions: &[Literal],
+    rest: &[u32],
+) -> Result<(), AllocError> {
+    for c in conditions {
+        lines.join_by(alloc, m, c, Reason::Must, rest, &[])?;
     }
+    Ok(())
+}
 
-    /// The effect must have fired: it alone makes so what is so after the action and wasn't before. Then its conditions were
-    /// true.
-    fn settle_needed(
-        &mut self,
-        alloc: Global,
-        step: &Step,
-        k: usize,
-        form: &TargetForm,
-        conditions: &[Condition],
-    ) -> Result<(), AllocError> {
-        let denied = form.literal.negated();
-        if !self.some_unknown(step, conditions)
-            || !self.lines.holds(step.before, &denied)
-            || !self.lines.holds(step.after, &form.literal)
-        {
-            return Ok(());
-        }
-        let mut by = Vec::from_slice(alloc, form.by.as_slice())?;
-        if !self.tests(step).is_sole(k, &form.target, &mut by)? {
-            return Ok(());
-        }
-        by.push(denied)?;
-        let after = self.lines.show(alloc, step.after, &form.literal)?;
-        let rest = self.cite(alloc, step.before, by.as_slice(), &[after])?;
-        self.join_conditions(alloc, step, conditions, rest.as_slice())
-    }
+/// Whether one condition alone, or none, is open, and what the effect makes so isn't so after the action.
+fn is_failed(lines: &Lines<'_>, told: &Told<'_>, denied: &Literal) -> bool {
+    0 < told.conditions.len() && told.open.count <= 1 && lines.holds(told.step.after, denied)
+}
 
-    /// The conditions come in before the action, since the effect must have fired.
-    fn join_conditions(
-        &mut self,
-        alloc: Global,
-        step: &Step,
-        conditions: &[Condition],
-        rest: &[u32],
-    ) -> Result<(), AllocError> {
-        for c in conditions {
-            self.lines
-                .join_by(alloc, step.before, &c.literal, Reason::Must, rest, &[])?;
-        }
-        Ok(())
+/// The effect cannot have fired: what it makes so isn't so after the action. Then, where all conditions but one hold, that
+/// one is false.
+fn settle_failed(alloc: Global, lines: &mut Lines<'_>, told: &Told<'_>) -> Result<(), AllocError> {
+    let form = told.form;
+    let denied = form.literal.negated();
+    if !is_failed(lines, told, &denied) {
+        return Ok(());
     }
+    let tests = Tests::of(lines, told.step);
+    let Some(by) = tests.lasting(alloc, told.k, &form.target, form.by.as_slice())? else {
+        return Ok(());
+    };
+    join_all_denied(alloc, lines, told, &denied, by.as_slice())
+}
 
-    /// The effect cannot have fired: what it makes so isn't so after the action. Then, where all conditions but one hold, that
-    /// one is false.
-    fn settle_failed(
-        &mut self,
-        alloc: Global,
-        step: &Step,
-        k: usize,
-        form: &TargetForm,
-        conditions: &[Condition],
-    ) -> Result<(), AllocError> {
-        let denied = form.literal.negated();
-        if !few_open(conditions) || !self.lines.holds(step.after, &denied) {
-            return Ok(());
+/// Each condition was false, where all others held, since the effect cannot have fired.
+fn join_all_denied(
+    alloc: Global,
+    lines: &mut Lines<'_>,
+    told: &Told<'_>,
+    denied: &Literal,
+    by: &[Literal],
+) -> Result<(), AllocError> {
+    for (n, c) in told.conditions.iter().enumerate() {
+        let l = c.negated();
+        if no_other(&told.open, n) && !lines.knows(told.step.before, &l) {
+            let need = with_others(alloc, by, told.conditions, n)?;
+            join_denied(alloc, lines, told.step, denied, &l, need.as_slice())?;
         }
-        let mut by = Vec::from_slice(alloc, form.by.as_slice())?;
-        if !self.tests(step).is_lasting(k, &form.target, &mut by)? {
-            return Ok(());
-        }
-        for n in 0..conditions.len() {
-            self.join_denied(alloc, step, &denied, by.as_slice(), conditions, n)?;
-        }
-        Ok(())
     }
+    Ok(())
+}
 
-    /// The n-th condition was false, where all others held, since the effect cannot have fired.
-    fn join_denied(
-        &mut self,
-        alloc: Global,
-        step: &Step,
-        denied: &Literal,
-        by: &[Literal],
-        conditions: &[Condition],
-        n: usize,
-    ) -> Result<(), AllocError> {
-        let Some(c) = conditions.get(n) else {
-            return Err(lost());
-        };
-        let l = c.literal.negated();
-        if !no_other_open(conditions, n) || self.lines.knows(step.before, &l) {
-            return Ok(());
-        }
-        let mut need = Vec::from_slice(alloc, by)?;
-        add_others(conditions, n, &mut need)?;
-        let after = self.lines.show(alloc, step.after, denied)?;
-        self.lines.join_by(
-            alloc,
-            step.before,
-            &l,
-            Reason::Cannot,
-            &[after],
-            need.as_slice(),
-        )
-    }
+/// The literal was so before the action, since the effect cannot have fired: what it makes so is denied after it.
+fn join_denied(
+    alloc: Global,
+    lines: &mut Lines<'_>,
+    step: &Step,
+    denied: &Literal,
+    l: &Literal,
+    need: &[Literal],
+) -> Result<(), AllocError> {
+    let after = lines.show(alloc, step.after, denied)?;
+    lines.join_by(alloc, step.before, l, Reason::Cannot, &[after], need)
 }

@@ -1,8 +1,10 @@
-//! A side that is taken. `docs/RULES.md`, "Assuming", has the rules.
+//! A side that is taken. `docs/RULES.md`, "Instances, choices, assumptions", has the rules.
 
+use crate::citing::put;
 use crate::replaying::Replay;
-use pks_branch::{Choice, Side};
-use pks_lines::{Joining, equal, lost};
+use crate::settling::settle;
+use pks_choices::{Choice, Side};
+use pks_lines::{Lines, equal, lost};
 use pks_proof::{Reason, Turn};
 use pks_query::databases::Db;
 use pks_terms::literal::{Conj, Literal};
@@ -46,6 +48,46 @@ fn others(alloc: Global, literals: &[Literal], l: &Literal) -> Result<Vec<Litera
     Ok(rest)
 }
 
+/// The formula is true at the moment.
+fn assume_true(
+    alloc: Global,
+    lines: &mut Lines<'_>,
+    m: usize,
+    c: &Conj,
+    reason: Reason,
+) -> Result<(), AllocError> {
+    let mut all = Vec::new(alloc);
+    for l in front(&c.literals, c.n) {
+        put(l, reason, Vec::new(alloc), &mut all)?;
+    }
+    lines.join_all(alloc, m, all)
+}
+
+/// The literal is false at the moment, since the others are true and not all of them are.
+fn assume_denied(
+    alloc: Global,
+    lines: &mut Lines<'_>,
+    m: usize,
+    literals: &[Literal],
+    l: &Literal,
+    reason: Reason,
+) -> Result<(), AllocError> {
+    let rest = others(alloc, literals, l)?;
+    let cites = lines.show_all(alloc, m, rest.as_slice())?;
+    lines.join(alloc, m, &l.negated(), reason, cites)
+}
+
+/// The term is the object at the moment.
+fn assume_value(
+    alloc: Global,
+    lines: &mut Lines<'_>,
+    m: usize,
+    l: &Literal,
+    reason: Reason,
+) -> Result<(), AllocError> {
+    lines.join(alloc, m, l, reason, Vec::new(alloc))
+}
+
 impl Replay<'_, '_> {
     /// The side of the choice is taken: a line for each literal that it gives, and at all moments for those that settling
     /// gives. It asks for the databases before the side, which tell what is open. The error is want of memory, or a line that
@@ -59,38 +101,36 @@ impl Replay<'_, '_> {
     ) -> Result<(), AllocError> {
         let m = self.last_moment()?;
         self.path.push(Turn::Took(*c, side))?;
-        let reason = Reason::Side(sides(self.path.as_slice()));
-        match (c, side) {
-            (Choice::Branch(c), Side::True) => self.assume_true(alloc, m, c, reason)?,
-            (Choice::Branch(c), Side::False) => self.assume_false(alloc, m, d, c, reason)?,
-            (Choice::Cases(t), Side::Is(e)) => {
-                let l = equal(t, &Term::Obj(e));
-                self.lines.join(alloc, m, &l, reason, Vec::new(alloc))?;
-            }
-            _ => return Err(lost()),
-        }
+        self.assume(alloc, m, d, c, side)?;
         self.lines.close(alloc, m)?;
         self.lines.tidy(alloc, m)?;
-        self.settle(alloc)
+        self.settle_all(alloc)
     }
 
-    /// The formula is true at the moment.
-    fn assume_true(
+    /// All moments are settled.
+    fn settle_all(&mut self, alloc: Global) -> Result<(), AllocError> {
+        let deeds = self.deeds(alloc)?;
+        settle(alloc, self.problem, &mut self.lines, deeds.as_slice())
+    }
+
+    /// The side of the choice is so at the moment.
+    fn assume(
         &mut self,
         alloc: Global,
         m: usize,
-        c: &Conj,
-        reason: Reason,
+        d: &Db,
+        c: &Choice,
+        side: Side,
     ) -> Result<(), AllocError> {
-        let mut all = Vec::new(alloc);
-        for l in front(&c.literals, c.n) {
-            all.push(Joining {
-                literal: *l,
-                reason,
-                cites: Vec::new(alloc),
-            })?;
+        let reason = Reason::Side(sides(self.path.as_slice()));
+        match (c, side) {
+            (Choice::Branch(c), Side::True) => assume_true(alloc, &mut self.lines, m, c, reason),
+            (Choice::Branch(c), Side::False) => self.assume_false(alloc, m, d, c, reason),
+            (Choice::Cases(t), Side::Is(e)) => {
+                assume_value(alloc, &mut self.lines, m, &equal(t, &Term::Obj(e)), reason)
+            }
+            _ => Err(lost()),
         }
-        self.lines.join_all(alloc, m, all)
     }
 
     /// The formula is false at the moment: where one literal alone isn't derived, that is false.
@@ -103,11 +143,9 @@ impl Replay<'_, '_> {
         reason: Reason,
     ) -> Result<(), AllocError> {
         let literals = front(&c.literals, c.n);
-        let Some(l) = only_open(&self.problem.signature, d, literals) else {
-            return Ok(());
-        };
-        let rest = others(alloc, literals, &l)?;
-        let cites = self.lines.show_all(alloc, m, rest.as_slice())?;
-        self.lines.join(alloc, m, &l.negated(), reason, cites)
+        match only_open(&self.problem.signature, d, literals) {
+            Some(l) => assume_denied(alloc, &mut self.lines, m, literals, &l, reason),
+            None => Ok(()),
+        }
     }
 }

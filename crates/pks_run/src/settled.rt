@@ -1,5 +1,5 @@
 // Files whose answer would be another one if the search let go of too much of the past, and files that it ends with in time
-// since it lets go of some, and since it keeps a table of failures.
+// since it lets go of some, since it keeps a table of failures, and since it doesn't look where nothing can be.
 use crate::Status;
 use crate::tests::answer_row;
 use std::test::Fail;
@@ -114,11 +114,18 @@ const LAMPS_PLAN: &str = "plan depth 8
 goal
 ";
 
-// Eleven formulas to branch on, in any order, and a goal that none of them tells.
+// Eleven formulas to branch on, in any order, and a goal that none of them tells. It asks for no literal, so no bound is counted.
 const ELEVEN: &str = "(pks 1)
 (domain (predicates (p1) (p2) (p3) (p4) (p5) (p6) (p7) (p8) (p9) (p10) (p11) (g)))
 (problem (init (kw (p1)) (kw (p2)) (kw (p3)) (kw (p4)) (kw (p5)) (kw (p6))
-  (kw (p7)) (kw (p8)) (kw (p9)) (kw (p10)) (kw (p11))) (goal (k (g))))
+  (kw (p7)) (kw (p8)) (kw (p9)) (kw (p10)) (kw (p11))) (goal (kw (g))))
+";
+
+// Sixteen lamps, and a goal that no action makes true.
+const NO_LAMP: &str = "(pks 1)
+(domain (types lamp) (objects (lamp a b c d e f g h i j k l m n o p)) (predicates (lit lamp) (dawn))
+  (action light (params (?l lamp)) (effects (set (lit ?l))) (knows (kf (lit ?l)))))
+(problem (init) (goal (k (dawn))))
 ";
 
 #[test]
@@ -157,5 +164,14 @@ fn what_failed_is_not_searched_again(rt: HostRuntime) -> Result<(), Fail> {
     let (got, written) = answer_row(alloc, "plan", "11", ELEVEN)?;
     assert_eq!(rt; got, Status::NoPlan);
     assert_eq!(rt; written.as_slice(), "none to depth 11\n".as_bytes());
+    Ok(())
+}
+
+#[test]
+fn what_cannot_be_is_not_looked_for(rt: HostRuntime) -> Result<(), Fail> {
+    let alloc = rt.alloc();
+    let (got, written) = answer_row(alloc, "plan", "16", NO_LAMP)?;
+    assert_eq!(rt; got, Status::NoPlan);
+    assert_eq!(rt; written.as_slice(), "none to depth 16\n".as_bytes());
     Ok(())
 }

@@ -9,10 +9,12 @@ use Rattle.pks_terms.specs.Progress.{Progress}
 use Rattle.pks_terms.specs.Problems.{Problem, schema_of}
 use Rattle.pks_terms.specs.Branching.{instances, is_undecided, left, may_split, Choice, Act, BranchOn, CasesOn, Side, AsTrue, AsFalse, Is, Assumes}
 use Rattle.pks_terms.specs.Settling.{History, last_moment, pushed, with_last, State, At, Stopped, Settles}
-use Rattle.pks_terms.specs.Trees.{Tree, Impossible, Do, Branch, Cases, Chain, End, More, IsBestOf}
-use Rattle.pks_terms.specs.Searching.{both_sides}
+use Rattle.pks_terms.specs.Trees.{Tree, Takes, Impossible, Do, Branch, Cases, Chain, End, More, IsBestOf}
 use Rattle.pks_search.specs.Limits.{IsBestWithin, IsCheapBy, IsBestAfter, IsBestTaking, AreBestCheapCases}
-use Rattle.pks_search.proofs.Limited.{price, cheap_stopped, cheap_act, cheap_end, cheap_branch, cheap_branch-no_first, cheap_more, cheap_more-no_first, cheap_cases}
+use Rattle.pks_search.proofs.Limited.{price, cheap_stopped, cheap_act, cheap_end, cheap_branch, cheap_branch-no_first, cheap_branch-no_second, cheap_more, cheap_more-no_first, cheap_cases}
+
+pub some_limit : (limit : ℕ) → 1 ≤ limit → limit ≡ 0 → ⊥
+some_limit limit some e = omega (arith, some, e)
 
 module _ (p : Problem) (h : History) where
   -- ---- after an action
@@ -38,6 +40,10 @@ module _ (p : Problem) (h : History) where
       → Settles p (with_last h next) x → x ≡ y → IsBestWithin p y n limit b → IsBestTaking p h c side n limit b
   taking_next n limit c side d next o x y b e q k s f best = (y, record { outcome = Next next; assumed = assumes c side d o (Next next) e q k; settled = subst (Settles p (with_last h next)) f s }, best)
 
+  -- the history where a side is taken
+  pub takes : (c : Choice) (side : Side) (d next : Five) (o : Outcome) (y : State) → d ≡ last_moment h → o ≡ Next next → Assumes p.signature d c side o → Settles p (with_last h next) y → Takes p h c side y
+  takes c side d next o y e q k s = record { outcome = Next next; assumed = assumes c side d o (Next next) e q k; settled = s }
+
   -- ---- whole trees
 
   pub found_act : (n limit own : ℕ) (i : Instance) (o whole : Option Tree) → IsIn i (instances p (last_moment h)) → own ≡ price p i → own ≤ limit → IsBestAfter p h i n (limit - own) o → whole ≡ option_map (Do i) o → IsBestOf p (IsCheapBy p h (n + 1) limit (Act i)) whole
@@ -55,14 +61,8 @@ module _ (p : Problem) (h : History) where
   pub no_true_side : (n limit : ℕ) (c : List Literal) (o : Option Tree) → (limit ≡ 0 → ⊥) → o ≡ None → IsBestTaking p h (BranchOn c) AsTrue n (limit - 1) o → IsBestOf p (IsCheapBy p h (n + 1) limit (BranchOn c)) None
   no_true_side n limit c o some e f = by_sum n limit (BranchOn c) None (omega arith) (cheap_branch-no_first p h n c (limit - 1) (subst (IsBestTaking p h (BranchOn c) AsTrue n (limit - 1)) e f))
 
-  pub no_false_side : (n limit : ℕ) (c : List Literal) (a o : Option Tree) → (limit ≡ 0 → ⊥) → IsIn c (last_moment h).kw → is_undecided p.signature (last_moment h) c ≡ true
-      → IsBestTaking p h (BranchOn c) AsTrue n (limit - 1) a → o ≡ None → IsBestTaking p h (BranchOn c) AsFalse n (limit - 1) o → IsBestOf p (IsCheapBy p h (n + 1) limit (BranchOn c)) None
-  no_false_side n limit c a o some member open' f e g =
-      by_sum n limit (BranchOn c) None (omega arith) (neither a (cheap_branch p h n c (limit - 1) a None member open' f (subst (IsBestTaking p h (BranchOn c) AsFalse n (limit - 1)) e g)))
-    where
-      neither : (a : Option Tree) → IsBestOf p (IsCheapBy p h (n + 1) (limit - 1 + 1) (BranchOn c)) (both_sides c a None) → IsBestOf p (IsCheapBy p h (n + 1) (limit - 1 + 1) (BranchOn c)) None
-      neither None b = b
-      neither (Some t) b = b
+  pub no_false_side : (n limit : ℕ) (c : List Literal) (o : Option Tree) → (limit ≡ 0 → ⊥) → o ≡ None → IsBestTaking p h (BranchOn c) AsFalse n (limit - 1) o → IsBestOf p (IsCheapBy p h (n + 1) limit (BranchOn c)) None
+  no_false_side n limit c o some e f = by_sum n limit (BranchOn c) None (omega arith) (cheap_branch-no_second p h n c (limit - 1) (subst (IsBestTaking p h (BranchOn c) AsFalse n (limit - 1)) e f))
 
   pub found_cases : (n limit : ℕ) (x : Term) (o : Option Chain) (whole : Option Tree) → (limit ≡ 0 → ⊥) → IsIn x (last_moment h).kv → may_split p.signature (last_moment h) x ≡ true
       → AreBestCheapCases p h x n (limit - 1) (left p.signature (last_moment h) x) o → whole ≡ option_map (Cases x) o → IsBestOf p (IsCheapBy p h (n + 1) limit (CasesOn x)) whole

@@ -8,3 +8,4 @@ pub mod Looping
 pub mod Children
 pub mod LettingGo
 pub mod Starting
+pub mod Witnessed

@@ -115,6 +115,10 @@ module _ (p : Problem) where
     pub cheap_branch-no_first : (c : List Literal) (rest : ℕ) → IsBestTaking p h (BranchOn c) AsTrue n rest None → IsBestOf p (IsCheapBy p h (n + 1) (rest + 1) (BranchOn c)) None
     cheap_branch-no_first c rest f = λ t d. let r = branch_children c rest t d in f.2 r.0 (r.3 f.0 f.1)
 
+    -- nor without one for the false side
+    pub cheap_branch-no_second : (c : List Literal) (rest : ℕ) → IsBestTaking p h (BranchOn c) AsFalse n rest None → IsBestOf p (IsCheapBy p h (n + 1) (rest + 1) (BranchOn c)) None
+    cheap_branch-no_second c rest f = λ t d. let r = branch_children c rest t d in f.2 r.1 (r.4 f.0 f.1)
+
     pub cheap_branch : (c : List Literal) (rest : ℕ) (a b : Option Tree) → IsIn c (last_moment h).kw → is_undecided p.signature (last_moment h) c ≡ true
         → IsBestTaking p h (BranchOn c) AsTrue n rest a → IsBestTaking p h (BranchOn c) AsFalse n rest b → IsBestOf p (IsCheapBy p h (n + 1) (rest + 1) (BranchOn c)) (both_sides c a b)
     cheap_branch c rest None b member open' f g = cheap_branch-no_first c rest f

@@ -1,6 +1,7 @@
 //! The best tree.
 #![tactic(auto)]
 
+mod nearing;
 mod parts;
 mod rising;
 pub mod searching;

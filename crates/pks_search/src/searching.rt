@@ -13,6 +13,7 @@ ghost use Rattle.pks_normal.specs.Fives.{five_of};
 ghost use Rattle.pks_plan.specs.TreeViews.{tree_of};
 ghost use Rattle.pks_terms.specs.Remembering.{RemembersPast};
 
+use crate::nearing::Start;
 use crate::rising::best_rising;
 use pks_closing::closing::CloseEnd;
 use pks_failures::failures::Failures;
@@ -22,7 +23,7 @@ use pks_query::databases::Db;
 use pks_terms::problem::Problem;
 use std::alloc::{AllocError, Global};
 
-/// The best derived tree of at most this depth, or `None` where there is none (`docs/RULES.md`, "Trees"). In every
+/// The best derived tree of at most this depth, or `None` where there is none (`docs/RULES.md`, "Trees, and which is best"). In every
 /// compatible world its run is good: it knows what it needs, and ends where the goal is known;
 /// and what its histories know of earlier moments was so then. It asks for a valid problem
 /// whose adds are all justified and whose initial databases don't clash, and for a depth of at most 16. The error is want
@@ -61,6 +62,17 @@ pub fn best_from(
     ensures past { IfOk result (λ o. IfSome o (λ t. RemembersPast (problem_of p.now) (tree_of t))) }
 {
     let h = History::start(alloc, start)?;
+    let first = Start::of(alloc, p)?;
     let mut failures = Failures::new(alloc)?;
-    best_rising(alloc, p, &h, 0, u32::from(depth), 16 * 9_999, &mut failures)
+    best_rising(
+        alloc,
+        p,
+        &h,
+        0,
+        u32::from(depth),
+        16 * 9_999,
+        &first.near,
+        &first.deeds,
+        &mut failures,
+    )
 }

@@ -5,11 +5,12 @@ ghost use Rattle.std.specs.Fn.{FnReturnsAt};
 ghost use Rattle.std.specs.Iterator.{YieldsFirstRef, item_count};
 ghost use Rattle.pks_pmap.specs.Keeping.{Keeps};
 ghost use Rattle.pks_terms.specs.Sets.{IsOrdered, insert_in, added};
-ghost use Rattle.pks_set.specs.Members.{TakesEach, is_member, first_at_least, keys};
+ghost use Rattle.pks_set.specs.Members.{TakesEach, is_member, first_at_least, keys, rises};
 
 use pks_pmap::counting::Steps;
 use pks_pmap::map::{PIter, PMap};
 use std::alloc::{AllocError, Global};
+use std::cmp::Ordering;
 use std::marker::Model;
 
 /// A set in order, seen as the list of its members, each below all later ones. Its versions share their memory.
@@ -41,6 +42,23 @@ impl<'a, T: Ord> Model for Items<'a, T> {
     ghost Value = { List T };
 
     ghost view = { λ i. keys i.entries };
+}
+
+/// Whether each item is below the next.
+fn rises<T: Ord>(items: &[T]) -> bool
+    ensures { result ≡ rises T.cmp items.now }
+{
+    let [first, rest @ ..] = items else {
+        return true;
+    };
+    let mut last = first;
+    for item in rest {
+        if last.cmp(item) != Ordering::Less {
+            return false;
+        }
+        last = item;
+    }
+    true
 }
 
 impl<T: Ord> SetOf<T> {
@@ -130,10 +148,14 @@ impl<T: Ord + Drop> SetOf<T> {
         Ok(SetOf { entries })
     }
 
-    /// The set with the items in it, one after another.
+    /// The set with the items in it, one after another. A list in order is put into the empty set in a time that
+    /// grows as its length.
     pub fn added(&self, alloc: Global, items: Vec<T>) -> Result<SetOf<T>, AllocError>
         ensures { IfOk result (λ set. set ≡ added T.cmp self.now items.items) }
     {
+        if self.len() == 0 && rises(items.as_slice()) {
+            return SetOf::from_ordered(alloc, items);
+        }
         let mut set = self.share()?;
         for item in items {
             set = set.add(alloc, item)?;

@@ -9,11 +9,11 @@ ghost use Rattle.pks_terms.specs.Typed.{AllJustified};
 ghost use Rattle.pks_terms.specs.ValidProblems.{IsValidProblem};
 ghost use Rattle.pks_terms.specs.Views.{instance_of, problem_of};
 ghost use Rattle.pks_laws.specs.OfSignature.{IsSideOf};
-ghost use Rattle.pks_branch.specs.ChoiceViews.{choice_of, side_of};
+ghost use Rattle.pks_choices.specs.ChoiceViews.{choice_of, side_of};
 ghost use Rattle.pks_walk.specs.Walking.{state_of, IsSomewhere, IsStart};
 
-use pks_branch::assuming::{Side, assume};
-use pks_branch::choosing::Choice;
+use pks_branch::assuming::assume;
+use pks_choices::{Choice, Side};
 use pks_closing::closing::CloseEnd;
 use pks_history::histories::History;
 use pks_postdict::settling::{Settled, settle};

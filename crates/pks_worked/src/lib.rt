@@ -5,6 +5,8 @@
 #[cfg(test)]
 mod domains;
 #[cfg(test)]
+mod occurrences;
+#[cfg(test)]
 mod tests;
 #[cfg(test)]
 mod walks;

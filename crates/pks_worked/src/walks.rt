@@ -9,14 +9,15 @@ ghost use Rattle.pks_terms.specs.Views.{problem_of};
 ghost use Rattle.pks_terms.specs.Moments.{AreMomentsOf, IsMomentOf};
 ghost use Rattle.pks_laws.specs.OfSignature.{IsSideOf};
 ghost use Rattle.pks_normal.specs.Fives.{five_of};
-ghost use Rattle.pks_branch.specs.ChoiceViews.{choice_of, side_of};
+ghost use Rattle.pks_choices.specs.ChoiceViews.{choice_of, side_of};
 ghost use Rattle.pks_worked.specs.Walks.{MayGoOn};
 
 use crate::domains::Domain;
 use pks_bench::generate;
-use pks_branch::assuming::{Side, assume};
-use pks_branch::choosing::{Choice, choices};
+use pks_branch::assuming::assume;
+use pks_branch::choosing::choices;
 use pks_branch::leaving::left;
+use pks_choices::{Choice, Side};
 use pks_history::histories::History;
 use pks_justify::justify;
 use pks_past::meeting::met;
@@ -30,7 +31,7 @@ use std::alloc::{AllocError, Global};
 use std::test::Fail;
 
 /// The text of the domain's file with these initial items.
-fn text(alloc: Global, domain: &Domain, init: &str) -> Result<String, AllocError> {
+pub(crate) fn text(alloc: Global, domain: &Domain, init: &str) -> Result<String, AllocError> {
     let mut text = String::from_str(alloc, domain.text)?;
     text.push_str("(problem (init ")?;
     text.push_str(domain.known)?;
@@ -42,7 +43,7 @@ fn text(alloc: Global, domain: &Domain, init: &str) -> Result<String, AllocError
 }
 
 /// The problem of a file, all of whose adds are justified.
-fn read<'s>(alloc: Global, text: &'s str) -> Result<Problem<'s>, Fail>
+pub(crate) fn read<'s>(alloc: Global, text: &'s str) -> Result<Problem<'s>, Fail>
     ensures valid { IfOk result (λ p. IsValidProblem p) }
     ensures justified { IfOk result (λ p. AllJustified (problem_of p)) }
 {
@@ -59,7 +60,7 @@ fn read<'s>(alloc: Global, text: &'s str) -> Result<Problem<'s>, Fail>
 }
 
 /// The first databases.
-fn first(alloc: Global, p: &Problem<'_>) -> Result<Db, Fail>
+pub(crate) fn first(alloc: Global, p: &Problem<'_>) -> Result<Db, Fail>
     requires { IsValidProblem p.now }
     ensures { IfOk result (λ d. IsMomentOf (problem_of p.now).signature (five_of d)) }
 {

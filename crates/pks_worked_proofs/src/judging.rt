@@ -2,10 +2,11 @@
 ghost use Rattle.std.specs.Prelude.{◌≤◌, length, IfOk};
 
 use crate::rows::{Piece, Row, Said, Table};
-use pks_branch::{Choice, Side};
+use pks_checker::accepts;
+use pks_choices::{Choice, Side};
 use pks_lcw::Entry;
 use pks_lcw::atoms::AtomSet;
-use pks_proof::{Fact, Line, Path, Proof, Reason, Turn, accepts};
+use pks_proof::{Fact, Line, Path, Proof, Reason, Turn};
 use pks_reader::read_problem;
 use pks_terms::ids::{ActId, ItemNo, ObjId};
 use pks_terms::literal::{Atom, Conj, Literal, Pattern};

@@ -12,15 +12,9 @@ returns c =
     let actions : IsLongest names.actions action = subst (λ xs. IsLongest (map (λ x. x.name.now) xs) action) c.as_slice-2.ensures c.longest_action.ensures in
     let objects : IsLongest names.objects object = subst (λ xs. IsLongest (map (λ x. x.now) xs) object) c.as_slice.ensures c.longest_name.ensures in
     let object_long : length c.as_bytes-object.result.now ≡ length object = ap length c.as_bytes-object.ensures.value in
-    let action_long : length c.as_bytes.result.now ≡ length action = ap length c.as_bytes.ensures.value in
-    let within : vec_len c.extend_from_slice-3.new.self ≤ vec_capacity c.extend_from_slice-3.new.self = search rules in
+    let action_long : length c.as_bytes-action.result.now ≡ length action = ap length c.as_bytes-action.ensures.value in
+    let within : vec_len c.add_line.new.line ≤ vec_capacity c.add_line.new.line = search rules in
     let none = c.new-line.ensures.len in
-    let first = c.in_ok-extend_from_slice.ensures.len in
-    let second = c.in_ok-extend_from_slice-2.ensures.len in
-    let last = c.in_ok-extend_from_slice-3.ensures.len in
-    let one = c.in_ok-add_part.ensures in
-    let two = c.in_ok-add_part-2.ensures in
-    let three = c.in_ok-add_part-3.ensures in
-    let four = c.in_ok-add_part-4.ensures in
-    let room : length action + 4 * (1 + length object) + 5 ≤ vec_capacity c.extend_from_slice-3.new.self = omega (arith, object_long, action_long, within, none, first, second, last, one, two, three, four) in
-    fits_actions names action object actions objects (vec_capacity c.extend_from_slice-3.new.self) room
+    let long = c.in_ok-add_line.ensures in
+    let room : length action + 4 * (1 + length object) + 5 ≤ vec_capacity c.add_line.new.line = omega (arith, object_long, action_long, within, none, long) in
+    fits_actions names action object actions objects (vec_capacity c.add_line.new.line) room

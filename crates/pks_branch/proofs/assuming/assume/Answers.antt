@@ -8,7 +8,7 @@ use Rattle.pks_laws.proofs.BelongingSteps.{assumed_of}
 use Rattle.pks_laws.proofs.SidesInOrder.{assumed_ordered}
 use Rattle.pks_closing.specs.Closing.{IfClash}
 use Rattle.pks_normal.specs.Fives.{five_of}
-use Rattle.pks_branch.specs.ChoiceViews.{choice_of, side_of}
+use Rattle.pks_choices.specs.ChoiceViews.{choice_of, side_of}
 use Rattle.pks_branch.proofs.assuming.assume.Goals as goal
 
 pub returns-in-Ok-clause-moment : goal.returns-in-Ok-clause-moment

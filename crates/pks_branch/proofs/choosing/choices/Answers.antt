@@ -3,7 +3,8 @@ use Rattle.pks_terms.specs.Sets.{IsOrdered}
 use Rattle.pks_terms.specs.Branching.{choices}
 use Rattle.pks_terms.specs.Views.{problem_of}
 use Rattle.pks_normal.specs.Fives.{five_of}
-use Rattle.pks_branch.specs.ChoiceViews.{choice_of, choices_of, left_in}
+use Rattle.pks_choices.specs.ChoiceViews.{choice_of, choices_of}
+use Rattle.pks_branch.specs.WalkViews.{left_in}
 use Rattle.pks_branch.specs.ChoiceOrder.{choice_cmp}
 use Rattle.pks_branch.specs.Walks.{IsNext}
 use Rattle.pks_branch.proofs.Onward.{shorter, given_more}

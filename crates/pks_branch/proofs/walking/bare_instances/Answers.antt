@@ -4,7 +4,7 @@ use Rattle.pks_terms.specs.Syntax.{Inner}
 use Rattle.pks_terms.specs.Actions.{Instance}
 use Rattle.pks_terms.specs.Branching.{numbered}
 use Rattle.pks_terms.specs.Views.{schema_of}
-use Rattle.pks_branch.specs.ChoiceViews.{beginnings_of}
+use Rattle.pks_branch.specs.WalkViews.{beginnings_of}
 use Rattle.pks_branch.specs.Walks.{bare}
 use Rattle.pks_branch.proofs.Onward.{next_first, bare_down}
 use Rattle.pks_branch.proofs.walking.bare_instances.Goals as goal

@@ -1,7 +1,7 @@
 use Rattle.std.proofs.Common.{◌≡◌, ◌≤◌, map, drop, length}
 use Rattle.pks_terms.specs.Branching.{numbered}
 use Rattle.pks_terms.specs.Views.{schema_of}
-use Rattle.pks_branch.specs.ChoiceViews.{beginnings_of}
+use Rattle.pks_branch.specs.WalkViews.{beginnings_of}
 use Rattle.pks_branch.specs.Walks.{bare}
 use Rattle.pks_branch.proofs.walking.bare_instances.Given as goal
 

@@ -3,7 +3,7 @@ use Rattle.std.specs.Option.{option_to_list}
 use Rattle.std.proofs.lemmas.Bool.{ltb-true}
 use Rattle.pks_terms.specs.Views.{instance_of, query_of, schema_of, types_of, problem_of}
 use Rattle.pks_normal.specs.Fives.{five_of}
-use Rattle.pks_branch.specs.ChoiceViews.{beginnings_of}
+use Rattle.pks_branch.specs.WalkViews.{beginnings_of}
 use Rattle.pks_branch.specs.Early.{is_barred}
 use Rattle.pks_branch.specs.Walks.{allowed_at, GoesOn}
 use Rattle.pks_branch.proofs.Onward.{found_at, whole, barred, with_each}

@@ -3,7 +3,7 @@ use Rattle.std.specs.List.{flat_map}
 use Rattle.pks_terms.specs.declared.schema.Instance.{Instance as DInstance}
 use Rattle.pks_terms.specs.Views.{instance_of, problem_of}
 use Rattle.pks_normal.specs.Fives.{five_of}
-use Rattle.pks_branch.specs.ChoiceViews.{beginnings_of}
+use Rattle.pks_branch.specs.WalkViews.{beginnings_of}
 use Rattle.pks_branch.specs.Walks.{begun, GoesOn}
 use Rattle.pks_branch.proofs.Onward.{step_taken}
 use Rattle.pks_branch.proofs.walking.next_instance.Goals as goal

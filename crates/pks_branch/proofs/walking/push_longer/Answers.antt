@@ -4,7 +4,7 @@ use Rattle.pks_terms.specs.Syntax.{Inner}
 use Rattle.pks_terms.specs.Actions.{Instance}
 use Rattle.pks_terms.specs.Fillers.{inner_filler}
 use Rattle.pks_terms.specs.Views.{inner_of, instance_of}
-use Rattle.pks_branch.specs.ChoiceViews.{beginnings_of}
+use Rattle.pks_branch.specs.WalkViews.{beginnings_of}
 use Rattle.pks_branch.specs.Walks.{longer}
 use Rattle.pks_branch.proofs.Onward.{next_first, down_at}
 use Rattle.pks_branch.proofs.walking.push_longer.Goals as goal

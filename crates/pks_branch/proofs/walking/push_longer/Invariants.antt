@@ -1,6 +1,6 @@
 use Rattle.std.proofs.Common.{◌≡◌, ◌≤◌, ◌++◌, map, drop, length}
 use Rattle.pks_terms.specs.Views.{inner_of, instance_of}
-use Rattle.pks_branch.specs.ChoiceViews.{beginnings_of}
+use Rattle.pks_branch.specs.WalkViews.{beginnings_of}
 use Rattle.pks_branch.specs.Walks.{longer}
 use Rattle.pks_branch.proofs.walking.push_longer.Given as goal
 

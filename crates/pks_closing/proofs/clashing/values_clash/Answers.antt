@@ -1,4 +1,4 @@
-use Rattle.std.proofs.Common.{◌≡◌, ◌∙◌, ap, sym, subst, inl, inr, refl}
+use Rattle.std.proofs.Common.{◌∙◌, ap, sym, subst, inl, inr, refl}
 use Rattle.pks_terms.specs.Sets.{IsIn}
 use Rattle.pks_terms.specs.Views.{literal_of}
 use Rattle.pks_kf.specs.Known.{literals_of}

@@ -1,4 +1,4 @@
-use Rattle.std.proofs.Common.{◌≡◌, ◌∙◌, is_some, true, false, sym, subst}
+use Rattle.std.proofs.Common.{◌∙◌, sym, subst}
 use Rattle.std.specs.Ordering.{on}
 use Rattle.pks_terms.specs.Sets.{IsOrdered}
 use Rattle.pks_terms.specs.Orders.{literal_cmp}

@@ -4,4 +4,4 @@ use Rattle.pks_closing.specs.Working.{GrowsByGroups}
 use Rattle.pks_closing.proofs.spreading.put_groups_in.Given as goal
 
 abbrev pub invariant-loop : goal.invariant-loop
-invariant-loop l = GrowsByGroups (signature_of l.s) l.uses.groups.items (five_of l.fn.d) (five_of l.d)
+invariant-loop l = GrowsByGroups (signature_of l.s) l.touched.groups.items (five_of l.fn.d) (five_of l.d)

@@ -3,5 +3,5 @@ use Rattle.pks_walk.specs.Walking.{state_of}
 use Rattle.pks_walk.proofs.Readiness.{start_ready}
 use Rattle.pks_explain.proofs.proving.prove_owed.Goals as goal
 
-pub prove-requires : goal.prove-requires
-prove-requires c = start_ready c.args.p.now (state_of c.in_ok-x.x) (tree_of c.args.t.now) c.requires.valid c.requires.justified c.requires.derived c.requires.depth c.in_ok-x.ensures
+pub prove_from-requires : goal.prove_from-requires
+prove_from-requires c = start_ready c.args.p.now (state_of c.in_ok-x.x) (tree_of c.args.t.now) c.requires.valid c.requires.justified c.requires.derived c.requires.depth c.in_ok-x.ensures

@@ -13,6 +13,7 @@ use Rattle.pks_laws.proofs.Accepting.{best_good}
 use Rattle.pks_terms.specs.Remembering.{RemembersPast}
 use Rattle.pks_search.proofs.Deepening.{limit_first}
 use Rattle.pks_search.proofs.Starting.{start_ready, start_best, best_remembers, if_some}
+use Rattle.pks_search.proofs.Witnessed.{first_near}
 use Rattle.pks_search.proofs.searching.best_from.Goals as goal
 
 pub best_rising-requires-clause-ready : goal.best_rising-requires-clause-ready
@@ -44,3 +45,7 @@ returns-clause-past c =
     IfOk-weaker c.best_rising.result (λ o. IsBestAt p (At c.in_ok-h.h) c.from.result (option_map tree_of o)) (λ o. IfSome o (λ t. RemembersPast p (tree_of t)))
     (λ o b. if_some tree_of (IsBest p c.args.depth) (λ t. RemembersPast p (tree_of t)) (λ t k. best_remembers p c.args.depth (tree_of t) c.requires.justified c.requires.valid.says k) o
     (start_best p (five_of c.args.start) c.in_ok-h.h c.args.depth c.from.result (option_map tree_of o) c.requires.start c.in_ok-h.ensures c.from.ensures b)) c.best_rising.ensures
+
+pub best_rising-requires-clause-near : goal.best_rising-requires-clause-near
+best_rising-requires-clause-near c =
+    first_near (problem_of c.args.p.now) c.in_ok-first.first.deeds (five_of c.args.start) c.in_ok-h.h c.in_ok-first.first.near c.requires.start c.in_ok-h.ensures c.in_ok-first.ensures

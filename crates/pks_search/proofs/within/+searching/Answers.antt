@@ -1,11 +1,12 @@
-use Rattle.std.proofs.Common.{◌≡◌, ◌<◌, ◌≤◌, ◌+◌, ◌-◌, ◌*◌, ◌++◌, [], ◌∷◌, ℕ, List, map, length, get_or, take, drop, Some, None, option_map, sym, ap, ◌∙◌, subst, arith, append-nil}
+use Rattle.std.proofs.Common.{◌≡◌, ◌<◌, ◌≤◌, ◌+◌, ◌-◌, ◌*◌, ◌++◌, [], ◌∷◌, ℕ, min, true, List, map, length, get_or, take, drop, Some, None, option_map, refl, sym, ap, ◌∙◌, subst, arith, append-nil}
 use Rattle.std.proofs.lemmas.List.{length-map}
 use Rattle.std.proofs.lemmas.Result.{IfOk-weaker}
 use Rattle.pks_terms.specs.Sets.{Each, IsIn, IsOrdered}
 use Rattle.pks_terms.specs.Signatures.{range_of}
 use Rattle.pks_terms.specs.Databases.{Five}
+use Rattle.pks_terms.specs.Closure.{Next}
 use Rattle.pks_terms.specs.Branching.{choices, left, Act, BranchOn, CasesOn, AsTrue, AsFalse, Is}
-use Rattle.pks_terms.specs.Settling.{last_moment, with_last, At, Stopped, Settles}
+use Rattle.pks_terms.specs.Settling.{last_moment, pushed, with_last, At, Stopped, Settles}
 use Rattle.pks_terms.specs.Trees.{Impossible, cost, IsBestOf}
 use Rattle.pks_terms.specs.Views.{term_of, conj_of, object_of, instance_of, problem_of}
 use Rattle.pks_terms.specs.Moments.{IsMomentOf, AreMomentsOf}
@@ -15,7 +16,8 @@ use Rattle.pks_postdict.specs.Ends.{state_of, IfAt}
 use Rattle.pks_postdict.specs.Read.{IsReadBut}
 use Rattle.pks_plan.specs.TreeViews.{tree_of, chain_of}
 use Rattle.pks_branch.specs.ChoiceOrder.{choice_cmp}
-use Rattle.pks_branch.specs.ChoiceViews.{choice_of, side_of, left_in}
+use Rattle.pks_choices.specs.ChoiceViews.{choice_of, side_of}
+use Rattle.pks_branch.specs.WalkViews.{left_in}
 use Rattle.pks_branch.specs.Walks.{IsNext}
 use Rattle.pks_failures.specs.Failing.{HasNoTree}
 use Rattle.pks_search.specs.Ready.{IsReady}
@@ -25,9 +27,12 @@ use Rattle.pks_search.proofs.Limited.{cheap_stopped, cheap_goal, price, dear_act
 use Rattle.pks_search.proofs.Found.{found_first, found_more, found_none, found_some, found_all, none_at_depth, none_at_cost, costs_some}
 use Rattle.pks_search.proofs.Looping.{in_rest, less_before, shorter, first_and_others, none_left}
 use Rattle.pks_search.proofs.Readiness.{ready_last, ready_acted, ready_taken, chosen_action, chosen_branch, chosen_cases, few_left, left_in_range}
-use Rattle.pks_search.proofs.Children.{after_clash, after_next, taking_clash, taking_next, found_act, found_branch, no_true_side, no_false_side, found_cases, chain_found, chain_no_first, chain_no_rest, chain_empty, acted}
+use Rattle.pks_search.proofs.Children.{after_clash, after_next, taking_clash, taking_next, takes, found_act, found_branch, no_true_side, no_false_side, some_limit, found_cases, chain_found, chain_no_first, chain_no_rest, chain_empty, acted}
 use Rattle.pks_settled_past.specs.Same.{HasSameTrees}
 use Rattle.pks_search.proofs.LettingGo.{rest_ready, rest_unmet, best_of_rest}
+use Rattle.pks_search.specs.Near.{IfNear, is_far}
+use Rattle.pks_laws.proofs.Validity.{valid_typed}
+use Rattle.pks_search.proofs.Witnessed.{its_deeds, end_near, acted_near, taken_near, none_near, none_acting}
 use Rattle.pks_search.proofs.within.+searching.Goals as goal
 use Rattle.pks_search.proofs.within.+searching.Goals.{best_within-then-n-eq0-via-then-n-eq0, best_within-then-n-eq0-via-else-n-eq0+then-limit-eq0}
 
@@ -46,7 +51,8 @@ best_after-best_within-requires t c =
     let less : c.args.n * 32 + 2 < t = omega (arith, c.decreases) in
     let i = instance_of c.args.step.now in
     let progress = acted p c.args.h.now i (five_of c.last.result.now) (five_of c.in-Next.d) (outcome_of c.in_ok-progress.field-0) c.last.ensures (ap outcome_of c.in-Next.is) c.in_ok-progress.ensures.progress in
-    (less, (subst (λ g. IsReady c.args.p.now g (c.args.unread + 1) c.args.n) (sym c.in_ok-longer-in-Next.ensures) (ready_acted c.args.p.now c.args.h.now c.args.unread c.args.n i (five_of c.in-Next.d) c.requires.ready c.requires.chosen progress), c.requires.right))
+    let near = subst (λ g. IfNear p g c.args.deeds.now c.args.near.now) (sym c.in_ok-longer-in-Next.ensures) (c.requires.near (pushed c.args.h.now i (five_of c.in-Next.d)) (record { outcome = Next (five_of c.in-Next.d); progress = progress; gives = refl })) in
+    (less, (subst (λ g. IsReady c.args.p.now g (c.args.unread + 1) c.args.n) (sym c.in_ok-longer-in-Next.ensures) (ready_acted c.args.p.now c.args.h.now c.args.unread c.args.n i (five_of c.in-Next.d) c.requires.ready c.requires.chosen progress), (c.requires.right, near)))
 
 pub best_after-returns-in_ok-longer-in-Next-clause-best : goal.best_after-returns-in_ok-longer-in-Next-clause-best
 best_after-returns-in_ok-longer-in-Next-clause-best t c =
@@ -92,8 +98,23 @@ best_by_branch-returns-in_default-clause-best t c =
 
 pub best_by_branch-returns-in_default-2-clause-best : goal.best_by_branch-returns-in_default-2-clause-best
 best_by_branch-returns-in_default-2-clause-best t c =
-    no_false_side (problem_of c.args.p.now) c.args.h.now c.args.n c.args.limit (conj_of c.args.test.now) (option_map tree_of c.in_ok-yes.field-0) (option_map tree_of c.in_ok-no.field-0) c.if-limit-eq0.false c.requires.member c.requires.undecided
-    c.in_ok-yes.ensures.best (ap (option_map tree_of) c.in_default-2.is) c.in_ok-no.ensures.best
+    no_false_side (problem_of c.args.p.now) c.args.h.now c.args.n c.args.limit (conj_of c.args.test.now) (option_map tree_of c.in_ok-no.field-0) c.if-limit-eq0.false (ap (option_map tree_of) c.in_default-2.is) c.in_ok-no.ensures.best
+
+pub best_from_false-returns-clause-best : goal.best_from_false-returns-clause-best
+best_from_false-returns-clause-best t c =
+    let p = problem_of c.args.p.now in
+    let test = conj_of c.args.test.now in
+    let yes : IsBestTaking p c.args.h.now (BranchOn test) AsTrue c.args.n (c.args.limit - 1) (Some (tree_of c.in-Some-2.yes)) = subst (λ o. IsBestTaking p c.args.h.now (BranchOn test) AsTrue c.args.n (c.args.limit - 1) (option_map tree_of o)) c.in-Some-2.is c.in_ok-yes.ensures.best in
+    let no' : IsBestTaking p c.args.h.now (BranchOn test) AsFalse c.args.n (c.args.limit - 1) (Some (tree_of c.in-Some.no)) = subst (λ o. IsBestTaking p c.args.h.now (BranchOn test) AsFalse c.args.n (c.args.limit - 1) (option_map tree_of o)) c.in-Some.is c.in_ok-no.ensures.best in
+    found_branch p c.args.h.now c.args.n c.args.limit test (tree_of c.in-Some-2.yes) (tree_of c.in-Some.no) (tree_of c.in_ok-tree.tree) (some_limit c.args.limit c.requires.some) c.requires.member c.requires.undecided yes no' c.in_ok-tree.ensures
+
+pub best_from_false-returns-in_default-clause-best : goal.best_from_false-returns-in_default-clause-best
+best_from_false-returns-in_default-clause-best t c =
+    no_false_side (problem_of c.args.p.now) c.args.h.now c.args.n c.args.limit (conj_of c.args.test.now) (option_map tree_of c.in_ok-no.field-0) (some_limit c.args.limit c.requires.some) (ap (option_map tree_of) c.in_default.is) c.in_ok-no.ensures.best
+
+pub best_from_false-returns-in_default-2-clause-best : goal.best_from_false-returns-in_default-2-clause-best
+best_from_false-returns-in_default-2-clause-best t c =
+    no_true_side (problem_of c.args.p.now) c.args.h.now c.args.n c.args.limit (conj_of c.args.test.now) (option_map tree_of c.in_ok-yes.field-0) (some_limit c.args.limit c.requires.some) (ap (option_map tree_of) c.in_default-2.is) c.in_ok-yes.ensures.best
 
 -- ---- cases
 
@@ -108,7 +129,7 @@ best_by_cases-best_chain-requires t c =
     let equal : length (map object_of c.as_slice.result.now) ≡ length (left s d x) = ap (λ (ds : List ℕ). length ds) all in
     let few : length c.as_slice.result.now ≤ 16 = omega arith in
     let less : c.args.n * 32 + 4 + length c.as_slice.result.now < t = omega (arith, c.decreases) in
-    (less, (c.requires.ready, (c.requires.member, (subst (Each (λ e. IsIn e (range_of s x))) (sym all) (left_in_range s d x), (few, c.requires.right)))))
+    (less, (c.requires.ready, (c.requires.member, (subst (Each (λ e. IsIn e (range_of s x))) (sym all) (left_in_range s d x), (few, (c.requires.right, c.requires.near))))))
 
 pub best_by_cases-returns-then-limit-eq0-clause-best : goal.best_by_cases-returns-then-limit-eq0-clause-best
 best_by_cases-returns-then-limit-eq0-clause-best t c =
@@ -167,21 +188,21 @@ pub best_by_choice-best_by_action-requires : goal.best_by_choice-best_by_action-
 best_by_choice-best_by_action-requires t c =
     let p = problem_of c.args.p.now in
     let less : c.args.n * 32 + 29 < t = omega (arith, c.decreases) in
-    (less, (c.requires.ready, (chosen_action p (last_moment c.args.h.now) (instance_of c.in-Act.step) (subst (λ x. IsIn (choice_of x) (choices p (last_moment c.args.h.now))) c.in-Act.is c.requires.chosen), c.requires.right)))
+    (less, (c.requires.ready, (chosen_action p (last_moment c.args.h.now) (instance_of c.in-Act.step) (subst (λ x. IsIn (choice_of x) (choices p (last_moment c.args.h.now))) c.in-Act.is c.requires.chosen), (c.requires.right, c.requires.near))))
 
 pub best_by_choice-best_by_branch-requires : goal.best_by_choice-best_by_branch-requires
 best_by_choice-best_by_branch-requires t c =
     let p = problem_of c.args.p.now in
     let less : c.args.n * 32 + 29 < t = omega (arith, c.decreases) in
     let r = chosen_branch p (last_moment c.args.h.now) (conj_of c.in-Branch.test) (subst (λ x. IsIn (choice_of x) (choices p (last_moment c.args.h.now))) c.in-Branch.is c.requires.chosen) in
-    (less, (c.requires.ready, (r.0, (r.1, c.requires.right))))
+    (less, (c.requires.ready, (r.0, (r.1, (c.requires.right, c.requires.near)))))
 
 pub best_by_choice-best_by_cases-requires : goal.best_by_choice-best_by_cases-requires
 best_by_choice-best_by_cases-requires t c =
     let p = problem_of c.args.p.now in
     let less : c.args.n * 32 + 29 < t = omega (arith, c.decreases) in
     let r = chosen_cases p (last_moment c.args.h.now) (term_of c.in-Cases.term) (subst (λ x. IsIn (choice_of x) (choices p (last_moment c.args.h.now))) c.in-Cases.is c.requires.chosen) in
-    (less, (c.requires.ready, (r.0, (r.1, c.requires.right))))
+    (less, (c.requires.ready, (r.0, (r.1, (c.requires.right, c.requires.near)))))
 
 pub best_of_choices-best_by_choice-requires : goal.best_of_choices-best_by_choice-requires
 best_of_choices-best_by_choice-requires t c =
@@ -192,7 +213,7 @@ best_of_choices-best_by_choice-requires t c =
     let given : IsNext (left c.each.walk) (left c.next.new.self) (option_map choice_of c.in_ok-c.field-0) = subst (λ d. IsNext (left_in p d c.each.walk) (left_in p d c.next.new.self) (option_map choice_of c.in_ok-c.field-0)) c.last-d.ensures c.in_ok-c.ensures in
     let next : left c.each.walk ≡ choice_of c.in-Some.c ∷ left c.next.new.self = subst (λ o. IsNext (left c.each.walk) (left c.next.new.self) (option_map choice_of o)) c.in-Some.is given in
     let member = in_rest f.done (choice_of c.in-Some.c) (left c.next.new.self) (choices p (last_moment c.args.h.now)) (ap (λ cs. f.done ++ cs) (sym next) ∙ f.all) in
-    (less, (c.requires.ready, (member, c.each.invariant.1)))
+    (less, (c.requires.ready, (member, (c.each.invariant.1, c.requires.near))))
 
 pub best_of_choices-each-init : goal.best_of_choices-each-init
 best_of_choices-each-init t c =
@@ -267,11 +288,23 @@ best_taking-assume-requires-clause-moment t c = subst (IsMomentOf (problem_of c.
 pub best_taking-best_within-requires : goal.best_taking-best_within-requires
 best_taking-best_within-requires t c =
     let p = problem_of c.args.p.now in
+    let r = c.requires.ready in
     let less : c.args.n * 32 + 2 < t = omega (arith, c.decreases) in
     let settles = subst (λ x. Settles p (with_last c.args.h.now (five_of c.in-Next.d)) (state_of x)) c.in-Whole.is c.in_ok-settle_after-in-Next.ensures.settles in
     let moments = subst (λ x. IfAt (AreMomentsOf p) (state_of x)) c.in-Whole.is c.in_ok-settle_after-in-Next.ensures.moments in
     let read = subst (λ x. IfAt (IsReadBut p 0) (state_of x)) c.in-Whole.is c.in_ok-settle_after-in-Next.ensures.read in
-    (less, (ready_taken c.args.p.now c.args.h.now c.in-Whole.settled c.args.unread c.args.n (five_of c.in-Next.d) c.requires.ready settles moments read, c.requires.right))
+    let takes = takes p c.args.h.now (choice_of c.args.c.now) (side_of c.args.side) (five_of c.last.result.now) (five_of c.in-Next.d) (outcome_of c.in_ok-assume.field-0) (At c.in-Whole.settled) c.last.ensures (ap outcome_of c.in-Next.is) c.in_ok-assume.ensures.assumes settles in
+    let near = taken_near p c.args.deeds.now r.justified (valid_typed p r.valid.says) c.args.h.now (choice_of c.args.c.now) (side_of c.args.side) c.in-Whole.settled c.args.near.now c.requires.member (sym c.is_on.ensures ∙ c.if-is_on.true) takes c.requires.near in
+    (less, (ready_taken c.args.p.now c.args.h.now c.in-Whole.settled c.args.unread c.args.n (five_of c.in-Next.d) c.requires.ready settles moments read, (c.requires.right, near)))
+
+pub best_taking-best_within-requires-else-is_on : goal.best_taking-best_within-requires-else-is_on
+best_taking-best_within-requires-else-is_on t c =
+    let p = problem_of c.args.p.now in
+    let less : c.args.n * 32 + 2 < t = omega (arith, c.decreases) in
+    let settles = subst (λ x. Settles p (with_last c.args.h.now (five_of c.in-Next.d)) (state_of x)) c.in-Whole.is c.in_ok-settle_after-in-Next.ensures.settles in
+    let moments = subst (λ x. IfAt (AreMomentsOf p) (state_of x)) c.in-Whole.is c.in_ok-settle_after-in-Next.ensures.moments in
+    let read = subst (λ x. IfAt (IsReadBut p 0) (state_of x)) c.in-Whole.is c.in_ok-settle_after-in-Next.ensures.read in
+    (less, (ready_taken c.args.p.now c.args.h.now c.in-Whole.settled c.args.unread c.args.n (five_of c.in-Next.d) c.requires.ready settles moments read, (c.requires.right, tt)))
 
 pub best_taking-returns-in-Clash-clause-best : goal.best_taking-returns-in-Clash-clause-best
 best_taking-returns-in-Clash-clause-best t c =
@@ -283,8 +316,8 @@ best_taking-returns-in-Clash-2-clause-best t c =
     taking_next p c.args.h.now c.args.n c.args.limit (choice_of c.args.c.now) (side_of c.args.side) (five_of c.last.result.now) (five_of c.in-Next.d) (outcome_of c.in_ok-assume.field-0) (state_of c.in_ok-settle_after-in-Next.field-0) Stopped (Some Impossible)
     c.last.ensures (ap outcome_of c.in-Next.is) c.in_ok-assume.ensures.assumes c.in_ok-settle_after-in-Next.ensures.settles (ap state_of c.in-Clash-2.is) (cheap_stopped p c.args.n c.args.limit)
 
-pub best_taking-returns-in-Whole-clause-best : goal.best_taking-returns-in-Whole-clause-best
-best_taking-returns-in-Whole-clause-best t c =
+pub best_taking-returns-then-is_on-clause-best : goal.best_taking-returns-then-is_on-clause-best
+best_taking-returns-then-is_on-clause-best t c =
     let p = problem_of c.args.p.now in
     let choice = choice_of c.args.c.now in
     let side = side_of c.args.side in
@@ -292,6 +325,16 @@ best_taking-returns-in-Whole-clause-best t c =
     (λ o b. taking_next p c.args.h.now c.args.n c.args.limit choice side (five_of c.last.result.now) (five_of c.in-Next.d) (outcome_of c.in_ok-assume.field-0) (state_of c.in_ok-settle_after-in-Next.field-0) (At c.in-Whole.settled) (option_map tree_of o)
     c.last.ensures (ap outcome_of c.in-Next.is) c.in_ok-assume.ensures.assumes c.in_ok-settle_after-in-Next.ensures.settles (ap state_of c.in-Whole.is) b)
     c.best_within.ensures.best
+
+pub best_taking-returns-clause-best : goal.best_taking-returns-clause-best
+best_taking-returns-clause-best t c =
+    let p = problem_of c.args.p.now in
+    let choice = choice_of c.args.c.now in
+    let side = side_of c.args.side in
+    IfOk-weaker c.best_within-else-is_on.result (λ o. IsBestWithin p (At c.in-Whole.settled) c.args.n c.args.limit (option_map tree_of o)) (λ o. IsBestTaking p c.args.h.now choice side c.args.n c.args.limit (option_map tree_of o))
+    (λ o b. taking_next p c.args.h.now c.args.n c.args.limit choice side (five_of c.last.result.now) (five_of c.in-Next.d) (outcome_of c.in_ok-assume.field-0) (state_of c.in_ok-settle_after-in-Next.field-0) (At c.in-Whole.settled) (option_map tree_of o)
+    c.last.ensures (ap outcome_of c.in-Next.is) c.in_ok-assume.ensures.assumes c.in_ok-settle_after-in-Next.ensures.settles (ap state_of c.in-Whole.is) b)
+    c.best_within-else-is_on.ensures.best
 
 -- ---- at a history
 
@@ -307,12 +350,37 @@ best_within-returns-then-n-eq0-clause-best t c =
       | best_within-then-n-eq0-via-else-n-eq0+then-limit-eq0 w ↦ subst (λ l. IsBestWithin p (At c.args.h.now) c.args.n l None) (sym w.if-limit-eq0.true) (none_at_cost p c.requires.ready.valid.says c.args.h.now c.args.n unmet)
     ]
 
+pub best_within-returns-then-is_beyond-clause-best : goal.best_within-returns-then-is_beyond-clause-best
+best_within-returns-then-is_beyond-clause-best t c =
+    let p = problem_of c.args.p.now in
+    let r = c.requires.ready in
+    let far : is_far c.args.near.now (min c.args.n c.args.limit) ≡ true = sym (c.is_beyond.ensures ∙ ap (is_far c.args.near.now) c.min.ensures) ∙ c.if-is_beyond.true in
+    none_near p c.args.deeds.now r.justified (valid_typed p r.valid.says) c.args.h.now r.valid.says c.args.near.now c.args.n c.args.limit c.requires.near far
+
+pub best_by_action-near_after-requires-clause-deeds : goal.best_by_action-near_after-requires-clause-deeds
+best_by_action-near_after-requires-clause-deeds t c = its_deeds (problem_of c.args.p.now) c.args.deeds.now c.args.h.now c.args.near.now c.requires.near
+
+pub best_by_action-returns-then-is_beyond-clause-best : goal.best_by_action-returns-then-is_beyond-clause-best
+best_by_action-returns-then-is_beyond-clause-best t c =
+    let p = problem_of c.args.p.now in
+    let r = c.requires.ready in
+    let far : is_far c.in_ok-after.after (min c.args.n (c.args.limit - c.action_cost-own.result)) ≡ true = sym (c.is_beyond.ensures ∙ ap (is_far c.in_ok-after.after) c.min-room.ensures) ∙ c.if-is_beyond.true in
+    none_acting p c.args.deeds.now r.justified (valid_typed p r.valid.says) r.valid.says c.args.h.now (instance_of c.args.step.now) c.args.near.now c.in_ok-after.after c.args.n c.args.limit c.action_cost-own.result
+    c.requires.chosen c.requires.near c.in_ok-after.ensures far c.action_cost-own.ensures c.if-limit-own.false
+
+pub best_by_action-best_after-requires : goal.best_by_action-best_after-requires
+best_by_action-best_after-requires t c =
+    let p = problem_of c.args.p.now in
+    let r = c.requires.ready in
+    let less : c.args.n * 32 + 3 < t = omega (arith, c.decreases) in
+    (less, (r, (c.requires.chosen, (c.requires.right, acted_near p c.args.deeds.now r.justified (valid_typed p r.valid.says) c.args.h.now (instance_of c.args.step.now) c.args.near.now c.in_ok-after.after c.requires.chosen c.requires.near c.in_ok-after.ensures))))
+
 pub best_unmet-best_of_rest-requires : goal.best_unmet-best_of_rest-requires
 best_unmet-best_of_rest-requires t c =
     let p = problem_of c.args.p.now in
     let less : c.args.n * 32 < t = omega (arith, c.decreases) in
     let same : HasSameTrees p c.args.h.now c.in_ok-rest.rest = c.in_ok-rest.ensures.trees in
-    (less, (rest_ready c.args.p.now c.args.h.now c.in_ok-rest.rest c.args.unread c.args.n same c.requires.ready, (rest_unmet p c.args.h.now c.in_ok-rest.rest same c.requires.unmet, (c.requires.some, c.requires.right))))
+    (less, (rest_ready c.args.p.now c.args.h.now c.in_ok-rest.rest c.args.unread c.args.n same c.requires.ready, (rest_unmet p c.args.h.now c.in_ok-rest.rest same c.requires.unmet, (c.requires.some, (c.requires.right, end_near p c.args.deeds.now c.args.h.now c.in_ok-rest.rest c.args.near.now same.end c.requires.near)))))
 
 pub best_unmet-returns-clause-best : goal.best_unmet-returns-clause-best
 best_unmet-returns-clause-best t c =
@@ -332,7 +400,7 @@ pub best_of_rest-best_of_choices-requires : goal.best_of_rest-best_of_choices-re
 best_of_rest-best_of_choices-requires t c =
     let same : c.args.n ≡ c.args.n - 1 + 1 = omega (arith, c.requires.some) in
     let less : (c.args.n - 1) * 32 + 31 < t = omega (arith, c.decreases, c.requires.some) in
-    (less, (subst (IsReady c.args.p.now c.args.h.now c.args.unread) same c.requires.ready, (c.requires.unmet, c.tells.ensures.right (problem_of c.args.p.now) c.requires.right)))
+    (less, (subst (IsReady c.args.p.now c.args.h.now c.args.unread) same c.requires.ready, (c.requires.unmet, (c.tells.ensures.right (problem_of c.args.p.now) c.requires.right, c.requires.near))))
 
 pub best_of_rest-returns-in-None-clause-right : goal.best_of_rest-returns-in-None-clause-right
 best_of_rest-returns-in-None-clause-right t c =

@@ -3,7 +3,7 @@ use Rattle.std.proofs.Common.{◌+◌, ◌*◌, length, option_map}
 use Rattle.pks_terms.specs.Settling.{last_moment}
 use Rattle.pks_terms.specs.Views.{problem_of}
 use Rattle.pks_plan.specs.TreeViews.{tree_of}
-use Rattle.pks_branch.specs.ChoiceViews.{left_in}
+use Rattle.pks_branch.specs.WalkViews.{left_in}
 use Rattle.pks_failures.specs.Failing.{AreRight}
 use Rattle.pks_search.specs.Limits.{IsFoundBefore}
 use Rattle.pks_search.proofs.within.+searching.Given as goal
@@ -31,6 +31,9 @@ decreases-best_after l = l.n * 32 + 3
 
 abbrev pub decreases-best_by_branch : goal.decreases-best_by_branch
 decreases-best_by_branch l = l.n * 32 + 29
+
+abbrev pub decreases-best_from_false : goal.decreases-best_from_false
+decreases-best_from_false l = l.n * 32 + 28
 
 abbrev pub decreases-best_by_cases : goal.decreases-best_by_cases
 decreases-best_by_cases l = l.n * 32 + 29

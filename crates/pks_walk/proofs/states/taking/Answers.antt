@@ -6,7 +6,7 @@ use Rattle.pks_laws.proofs.SearchStates.{last_of_it}
 use Rattle.pks_normal.specs.Fives.{five_of}
 use Rattle.pks_query.specs.Steps.{outcome_of}
 use Rattle.pks_postdict.specs.Ends as ends
-use Rattle.pks_branch.specs.ChoiceViews.{choice_of, side_of}
+use Rattle.pks_choices.specs.ChoiceViews.{choice_of, side_of}
 use Rattle.pks_walk.proofs.Stepping.{take_clash, take_next}
 use Rattle.pks_walk.proofs.states.taking.Goals as goal
 

@@ -8,7 +8,7 @@ use Rattle.pks_terms.specs.Moments.{IsMomentOf, AreMomentsOf}
 use Rattle.pks_laws.proofs.SearchStates.{last_of_it, acts_of}
 use Rattle.pks_normal.specs.Fives.{five_of}
 use Rattle.pks_query.specs.Steps.{outcome_of}
-use Rattle.pks_branch.specs.ChoiceViews.{choice_of}
+use Rattle.pks_choices.specs.ChoiceViews.{choice_of}
 use Rattle.pks_search.proofs.Readiness.{chosen_action}
 use Rattle.pks_search.proofs.Children.{acted}
 use Rattle.pks_worked.proofs.Walking.{chosen}

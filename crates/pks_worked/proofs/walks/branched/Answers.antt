@@ -3,7 +3,7 @@ use Rattle.pks_terms.specs.Branching.{choices, IsMember, BranchOn}
 use Rattle.pks_terms.specs.Sets.{IsIn}
 use Rattle.pks_terms.specs.Settling.{last_moment}
 use Rattle.pks_terms.specs.Views.{conj_of, problem_of}
-use Rattle.pks_branch.specs.ChoiceViews.{choice_of}
+use Rattle.pks_choices.specs.ChoiceViews.{choice_of}
 use Rattle.pks_search.proofs.Readiness.{chosen_branch}
 use Rattle.pks_worked.proofs.Walking.{chosen}
 use Rattle.pks_worked.proofs.walks.branched.Goals as goal

@@ -7,7 +7,7 @@ use Rattle.pks_terms.specs.Settling.{last_moment}
 use Rattle.pks_terms.specs.Views.{term_of, conj_of, object_of, problem_of}
 use Rattle.pks_terms.proofs.ListLaws.{each_in, in_map}
 use Rattle.pks_laws.specs.OfSignature.{IsSideOf}
-use Rattle.pks_branch.specs.ChoiceViews.{choice_of}
+use Rattle.pks_choices.specs.ChoiceViews.{choice_of}
 use Rattle.pks_search.proofs.Readiness.{chosen_branch, chosen_cases, left_in_range}
 use Rattle.pks_worked.proofs.Walking.{chosen, in_list}
 use Rattle.pks_worked.proofs.walks.told.Goals as goal

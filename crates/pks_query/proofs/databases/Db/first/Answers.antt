@@ -1,5 +1,5 @@
 use Rattle.std.proofs.Common.{sym, subst}
-use Rattle.pks_terms.specs.Views.{signature_of, problem_of}
+use Rattle.pks_terms.specs.Views.{problem_of}
 use Rattle.pks_terms.specs.Meaning.{IsTrueOf}
 use Rattle.pks_terms.specs.Valid.{AreOf}
 use Rattle.pks_terms.specs.Moments.{AreInOrder}

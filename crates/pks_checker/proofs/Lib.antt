@@ -1,0 +1,2 @@
+pub mod Targeting
+pub mod Deeds

@@ -1,0 +1,4 @@
+pub mod CitedViews
+pub mod Walks
+pub mod Exchanges
+pub mod Givens

@@ -1,5 +1,0 @@
-use Rattle.std.proofs.Common.{length}
-use Rattle.pks_explain.proofs.cutting.+mark_each.Given as goal
-
-abbrev pub decreases-mark_each : goal.decreases-mark_each
-decreases-mark_each l = length l.numbers.now

@@ -1,0 +1,23 @@
+//! What stands at one moment of a path, each by the number of its line, and how terms come to their normal forms there.
+#![tactic(auto)]
+
+mod coming;
+mod holding;
+mod index;
+mod moment;
+mod normalizing;
+mod placing;
+mod pushing;
+mod standing;
+mod tidying;
+mod ways;
+
+pub use coming::Swap;
+pub use holding::is_evident;
+pub use index::Open;
+pub use moment::{Moment, lost};
+pub use normalizing::{Form, Link};
+pub use placing::{equal, unequal};
+pub use pushing::push;
+pub use tidying::{GroupStep, RegionStep};
+pub use ways::{are_plainly_apart, denied, with_fixed};

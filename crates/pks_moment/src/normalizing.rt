@@ -1,0 +1,295 @@
+//! Normal forms at a moment, with the equations that lead to them. `docs/RULES.md` has the rule.
+
+use crate::moment::{Moment, Valued};
+use crate::placing::{
+    SPOTS_OF_LITERAL, SPOTS_OF_TERM, equal, place_at, place_of, with_object, with_term, with_terms,
+};
+use crate::pushing::push;
+use pks_terms::literal::{Arguments, Literal};
+use pks_terms::term::{Inner, Term};
+use std::alloc::{AllocError, Global};
+
+/// A term as it is read at a moment, and the equations by which it came to be so.
+#[derive(Drop)]
+pub struct Form {
+    /// What the term has become.
+    pub term: Term,
+    /// The equations, each known at the moment.
+    pub by: Vec<Literal>,
+}
+
+/// One replacement of an application in a term by its value.
+#[derive(Clone, Copy)]
+pub(crate) struct Step {
+    /// What comes of the term.
+    pub term: Term,
+    /// The application and its value.
+    pub by: Valued,
+}
+
+/// One replacement of an application in terms by its value.
+#[derive(Clone, Copy)]
+pub(crate) struct Move {
+    /// What comes of the terms.
+    pub items: [Term; 3],
+    /// The number of the equation's line.
+    pub equation: u32,
+}
+
+/// A literal on its way to another one, and the number of the line of the equation by which it came to be so, which is 0 for
+/// the first.
+#[derive(Clone, Copy)]
+pub struct Link {
+    /// What it has become.
+    pub literal: Literal,
+    /// The line of the equation, known at the moment.
+    pub equation: u32,
+}
+
+/// The equation of the place and its value.
+fn equation_of(by: &Valued) -> Literal {
+    equal(&by.place.as_term(), &Term::Obj(by.value))
+}
+
+/// What the literal becomes.
+fn moved(l: &Literal, x: &Move) -> Link {
+    Link {
+        literal: with_terms(l, &x.items),
+        equation: x.equation,
+    }
+}
+
+/// The literal as it is.
+pub(crate) fn first_of_chain(l: &Literal) -> Link {
+    Link {
+        literal: *l,
+        equation: 0,
+    }
+}
+
+impl Form {
+    /// The term as it is.
+    fn of(alloc: Global, t: &Term) -> Form {
+        Form {
+            term: *t,
+            by: Vec::new(alloc),
+        }
+    }
+
+    /// The form after one more step.
+    fn go(&mut self, step: &Step) -> Result<(), AllocError> {
+        self.term = step.term;
+        push(&mut self.by, equation_of(&step.by))
+    }
+
+    fn copied(&self, alloc: Global) -> Result<Form, AllocError> {
+        let by = Vec::from_slice(alloc, self.by.as_slice())?;
+        Ok(Form {
+            term: self.term,
+            by,
+        })
+    }
+
+    /// Another form, which is this one and one more step.
+    fn then(&self, alloc: Global, step: &Step) -> Result<Form, AllocError> {
+        let mut form = self.copied(alloc)?;
+        form.go(step)?;
+        Ok(form)
+    }
+}
+
+impl Moment {
+    fn normal_inner(&self, t: &Inner) -> Inner {
+        match self.valued(t) {
+            Some(by) => Inner::Obj(by.value),
+            None => *t,
+        }
+    }
+
+    fn normal_inners(&self, args: &[Inner; 2]) -> [Inner; 2] {
+        [self.normal_inner(&args[0]), self.normal_inner(&args[1])]
+    }
+
+    fn value_of(&self, t: &Term) -> Option<Term> {
+        let by = self.valued(&place_of(t)?)?;
+        Some(Term::Obj(by.value))
+    }
+
+    fn value_or_itself(&self, t: Term) -> Term {
+        match self.value_of(&t) {
+            Some(u) => u,
+            None => t,
+        }
+    }
+
+    /// The normal form of a term.
+    pub(crate) fn normal(&self, t: &Term) -> Term {
+        match t {
+            Term::Obj(_) | Term::Param(_) => *t,
+            Term::App { fun, n, args } => self.value_or_itself(Term::App {
+                fun: *fun,
+                n: *n,
+                args: self.normal_inners(args),
+            }),
+        }
+    }
+
+    /// The normal form of a literal.
+    pub(crate) fn normal_literal(&self, l: &Literal) -> Literal {
+        let given = l.atom.arguments();
+        with_terms(
+            l,
+            &[
+                self.normal(&given.items[0]),
+                self.normal(&given.items[1]),
+                self.normal(&given.items[2]),
+            ],
+        )
+    }
+
+    /// The replacement at this spot of the term.
+    fn step(&self, t: &Term, spot: usize) -> Option<Step> {
+        let by = self.valued(&place_at(t, spot)?)?;
+        let term = with_object(t, spot, by.value);
+        Some(Step { term, by })
+    }
+
+    /// The first step of a term on its way to its normal form.
+    pub(crate) fn first_step(&self, t: &Term) -> Option<Step> {
+        for spot in 0..SPOTS_OF_TERM {
+            if let Some(step) = self.step(t, spot) {
+                return Some(step);
+            }
+        }
+        None
+    }
+
+    /// All steps of a term on its way to its normal form, the arguments first.
+    pub(crate) fn steps(&self, alloc: Global, t: &Term) -> Result<Vec<Step>, AllocError> {
+        let mut steps = Vec::new(alloc);
+        let mut now = *t;
+        for spot in 0..SPOTS_OF_TERM {
+            if let Some(step) = self.step(&now, spot) {
+                now = step.term;
+                push(&mut steps, step)?;
+            }
+        }
+        Ok(steps)
+    }
+
+    /// The replacement at this spot of the terms.
+    fn move_at(&self, given: &Arguments, spot: usize) -> Option<Move> {
+        let position = spot / SPOTS_OF_TERM;
+        let t = given.terms().get(position)?;
+        let step = self.step(t, spot % SPOTS_OF_TERM)?;
+        Some(Move {
+            items: with_term(&given.items, position, &step.term),
+            equation: step.by.line,
+        })
+    }
+
+    /// The first step of terms on their way to their normal forms.
+    pub(crate) fn first_move(&self, given: &Arguments) -> Option<Move> {
+        for spot in 0..SPOTS_OF_LITERAL {
+            if let Some(x) = self.move_at(given, spot) {
+                return Some(x);
+            }
+        }
+        None
+    }
+
+    /// What the literal becomes first on its way to its normal form.
+    pub(crate) fn first_link(&self, l: &Literal) -> Option<Link> {
+        let x = self.first_move(&l.atom.arguments())?;
+        Some(moved(l, &x))
+    }
+
+    /// Puts what the literal becomes at each spot on its way to its normal form.
+    fn put_links(&self, l: &Literal, to: &mut Vec<Link>) -> Result<(), AllocError> {
+        let mut given = l.atom.arguments();
+        for spot in 0..SPOTS_OF_LITERAL {
+            if let Some(x) = self.move_at(&given, spot) {
+                given.items = x.items;
+                push(to, moved(l, &x))?;
+            }
+        }
+        Ok(())
+    }
+
+    /// The literal, and what it becomes on its way to its normal form. The error is want of memory.
+    pub fn chain_down(&self, alloc: Global, l: &Literal) -> Result<Vec<Link>, AllocError> {
+        let mut chain = Vec::new(alloc);
+        push(&mut chain, first_of_chain(l))?;
+        self.put_links(l, &mut chain)?;
+        Ok(chain)
+    }
+
+    /// The form after one step at this spot, if there is one.
+    fn next_form(
+        &self,
+        alloc: Global,
+        form: &Form,
+        spot: usize,
+    ) -> Result<Option<Form>, AllocError> {
+        let Some(step) = self.step(&form.term, spot) else {
+            return Ok(None);
+        };
+        let form = form.then(alloc, &step)?;
+        Ok(Some(form))
+    }
+
+    /// The forms after one step at this spot, of those in which there is one.
+    fn next_forms(
+        &self,
+        alloc: Global,
+        forms: &[Form],
+        spot: usize,
+    ) -> Result<Vec<Form>, AllocError> {
+        let mut next = Vec::new(alloc);
+        for form in forms {
+            if let Some(more) = self.next_form(alloc, form, spot)? {
+                push(&mut next, more)?;
+            }
+        }
+        Ok(next)
+    }
+
+    /// Puts each form after one step at this spot behind the others.
+    fn put_forms(
+        &self,
+        alloc: Global,
+        spot: usize,
+        forms: &mut Vec<Form>,
+    ) -> Result<(), AllocError> {
+        let mut next = self.next_forms(alloc, forms.as_slice(), spot)?;
+        forms.append(&mut next)
+    }
+
+    fn put_step(&self, spot: usize, form: &mut Form) -> Result<(), AllocError> {
+        match self.step(&form.term, spot) {
+            Some(step) => form.go(&step),
+            None => Ok(()),
+        }
+    }
+
+    /// The normal form of a term: each place in it, the inner ones first, has become its value where one is known. The error
+    /// is want of memory. `docs/RULES.md` has the rule.
+    pub fn normal_form(&self, alloc: Global, t: &Term) -> Result<Form, AllocError> {
+        let mut form = Form::of(alloc, t);
+        for spot in 0..SPOTS_OF_TERM {
+            self.put_step(spot, &mut form)?;
+        }
+        Ok(form)
+    }
+
+    /// The forms of a term, itself first: any of its arguments replaced by their values, and then the whole. The error is
+    /// want of memory.
+    pub fn forms(&self, alloc: Global, t: &Term) -> Result<Vec<Form>, AllocError> {
+        let mut forms = Vec::new(alloc);
+        push(&mut forms, Form::of(alloc, t))?;
+        for spot in 0..SPOTS_OF_TERM {
+            self.put_forms(alloc, spot, &mut forms)?;
+        }
+        Ok(forms)
+    }
+}

@@ -1,0 +1,114 @@
+//! The witness along a search: a world that may be the present one, or none.
+ghost use Rattle.std.specs.Prelude.{◌≡◌, None, IfOk, IfSome};
+ghost use Rattle.pks_terms.specs.ValidProblems.{IsValidProblem};
+ghost use Rattle.pks_terms.specs.Views.{instance_of, problem_of};
+ghost use Rattle.pks_choices.specs.ChoiceViews.{choice_of, side_of};
+ghost use Rattle.pks_search.specs.Near.{AreItsDeeds, IsFirst, Becomes, is_far, is_so, is_on};
+ghost use Rattle.pks_witness.specs.Near.{world_in};
+
+use pks_choices::{Choice, Side};
+use pks_needs::Deeds;
+use pks_terms::problem::Problem;
+use pks_terms::schema::Instance;
+use pks_witness::{Witness, witness_of};
+use std::alloc::{AllocError, Global};
+
+/// The most that a bound is counted to at the start.
+const MOST: u32 = 17;
+
+/// What a search begins with: a witness, or none, and the ground actions by which its bounds are counted.
+#[derive(Drop)]
+pub(crate) struct Start {
+    pub(crate) near: Option<Witness>,
+    pub(crate) deeds: Deeds,
+}
+
+impl Start {
+    /// Without a witness.
+    fn nowhere(alloc: Global) -> Start
+        ensures { result.near ≡ None }
+    {
+        Start {
+            near: None,
+            deeds: Deeds::none(alloc),
+        }
+    }
+
+    /// With the witness that was found quickly, if one was, and the ground actions are not too many.
+    pub(crate) fn of(alloc: Global, p: &Problem<'_>) -> Result<Start, AllocError>
+        requires { IsValidProblem p.now }
+        ensures { IfOk result (λ x. IfSome x.near (IsFirst (problem_of p.now) x.deeds)) }
+    {
+        let Some(world) = witness_of(alloc, p)? else {
+            return Ok(Start::nowhere(alloc));
+        };
+        let Some(deeds) = Deeds::of(alloc, p)? else {
+            return Ok(Start::nowhere(alloc));
+        };
+        let first = Witness::of(alloc, p, &deeds, world, MOST)?;
+        Ok(Start {
+            near: Some(first),
+            deeds,
+        })
+    }
+}
+
+/// The witness after the action, whose bound is counted as far as `room` and one more.
+pub(crate) fn near_after(
+    alloc: Global,
+    p: &Problem<'_>,
+    near: &Option<Witness>,
+    deeds: &Deeds,
+    step: &Instance,
+    room: u32,
+) -> Result<Option<Witness>, AllocError>
+    requires valid { IsValidProblem p.now }
+    requires deeds { IfSome near.now (λ _. AreItsDeeds (problem_of p.now) deeds.now) }
+    ensures { IfOk result (Becomes (problem_of p.now) (instance_of step.now) near.now) }
+{
+    match near {
+        Some(x) => {
+            let after = x.after(alloc, p, deeds, step, room.saturating_add(1))?;
+            Ok(Some(after))
+        }
+        None => Ok(None),
+    }
+}
+
+/// Whether the goal is more than `n` actions away from the witness.
+pub(crate) fn is_beyond(near: &Option<Witness>, n: u32) -> bool
+    ensures { result ≡ is_far near.now n }
+{
+    match near {
+        Some(x) => x.is_beyond(n),
+        None => false,
+    }
+}
+
+/// Whether the side is so in the witness.
+fn is_so(x: &Witness, c: &Choice, side: Side) -> bool
+    ensures { result ≡ is_so (world_in x.now) (choice_of c.now) (side_of side) }
+{
+    match c {
+        Choice::Act(_) => false,
+        Choice::Branch(test) => match side {
+            Side::True => x.holds_all(test),
+            Side::False => !x.holds_all(test),
+            Side::Is(_) => false,
+        },
+        Choice::Cases(term) => match side {
+            Side::True | Side::False => false,
+            Side::Is(d) => x.value(term).0 == d.0,
+        },
+    }
+}
+
+/// Whether there is a witness, and it is on the side.
+pub(crate) fn is_on(near: &Option<Witness>, c: &Choice, side: Side) -> bool
+    ensures { result ≡ is_on near.now (choice_of c.now) (side_of side) }
+{
+    match near {
+        Some(x) => is_so(x, c, side),
+        None => false,
+    }
+}

@@ -1,0 +1,4 @@
+pub mod Lists
+pub mod IndexLaws
+pub mod PlacingLaws
+pub mod UsesLaws

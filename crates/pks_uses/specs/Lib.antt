@@ -1,0 +1,3 @@
+pub mod Occurring
+pub mod Indexes
+pub mod Words

@@ -1,0 +1,11 @@
+//! A witness: one world that may be the present one, and how far it is from the goal. It is for counting alone: no answer rests on it.
+//! `docs/DECISIONS.md` says what it is for.
+#![tactic(auto)]
+
+mod making;
+mod puttings;
+mod typing;
+mod witness;
+
+pub use making::witness_of;
+pub use witness::Witness;

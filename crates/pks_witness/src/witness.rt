@@ -1,0 +1,110 @@
+//! A world that may be the present one, and a bound on the actions that it is away from the goal.
+ghost use Rattle.std.specs.Prelude.{◌≡◌, ◌<◌, map, take, IfOk, IsTrue};
+ghost use Rattle.pks_terms.specs.Worlds.{inner_value, value_of, all_true_in};
+ghost use Rattle.pks_terms.specs.Knowledge.{grounded, after_action};
+ghost use Rattle.pks_terms.specs.Valid.{IsValid};
+ghost use Rattle.pks_terms.specs.Syntax.{Object};
+ghost use Rattle.pks_terms.specs.Views.{inner_of, term_of, conj_of, instance_of, problem_of};
+ghost use Rattle.pks_world.specs.Contents.{world_of};
+ghost use Rattle.pks_needs.specs.Gained.{AreDeeds};
+ghost use Rattle.pks_witness.specs.Near.{world_in, is_beyond, IsCounted};
+
+use pks_needs::Deeds;
+use pks_terms::ids::ObjId;
+use pks_terms::literal::Conj;
+use pks_terms::problem::Problem;
+use pks_terms::schema::Instance;
+use pks_terms::term::{Inner, Term};
+use pks_world::World;
+use std::alloc::{AllocError, Global};
+
+/// A world that may be the present one, and a bound on the actions that it is away from the goal: no run of fewer leads there, and where
+/// there is no number none does.
+#[derive(Drop)]
+pub struct Witness {
+    pub(crate) world: World,
+    pub(crate) needs: Option<u32>,
+}
+
+/// The value of an argument.
+fn argument_value(w: &World, t: &Inner) -> ObjId
+    ensures { result.0 ≡ inner_value (world_of w.now) (inner_of t.now) }
+{
+    w.value(&t.as_term())
+}
+
+/// The action with the values of its arguments in their place.
+fn grounded(w: &World, i: &Instance) -> Instance
+    ensures { instance_of result ≡ grounded (world_of w.now) (instance_of i.now) }
+{
+    Instance {
+        act: i.act,
+        n: i.n,
+        args: [
+            Inner::Obj(argument_value(w, &i.args[0])),
+            Inner::Obj(argument_value(w, &i.args[1])),
+            Inner::Obj(argument_value(w, &i.args[2])),
+            Inner::Obj(argument_value(w, &i.args[3])),
+        ],
+    }
+}
+
+impl Witness {
+    /// The world with its bound, which is counted up to `most`.
+    pub fn of(
+        alloc: Global,
+        p: &Problem<'_>,
+        deeds: &Deeds,
+        world: World,
+        most: u32,
+    ) -> Result<Witness, AllocError>
+        requires { AreDeeds (problem_of p.now) deeds.now (world_of world) }
+        ensures world { IfOk result (λ x. world_in x ≡ world_of world) }
+        ensures counted { IfOk result (IsCounted (problem_of p.now)) }
+    {
+        let needs = deeds.needs(alloc, p, &world, most)?;
+        Ok(Witness { world, needs })
+    }
+
+    /// The world after the action with its bound, which is counted up to `most`.
+    pub fn after(
+        &self,
+        alloc: Global,
+        p: &Problem<'_>,
+        deeds: &Deeds,
+        step: &Instance,
+        most: u32,
+    ) -> Result<Witness, AllocError>
+        requires valid { IsValid (problem_of p.now) }
+        requires deeds { AreDeeds (problem_of p.now) deeds.now (after_action (problem_of p.now) (world_in self.now) (grounded (world_in self.now) (instance_of step.now))) }
+        ensures world { IfOk result (λ x. world_in x ≡ after_action (problem_of p.now) (world_in self.now) (grounded (world_in self.now) (instance_of step.now))) }
+        ensures counted { IfOk result (IsCounted (problem_of p.now)) }
+    {
+        let next = self.world.apply(p, &grounded(&self.world, step))?;
+        Witness::of(alloc, p, deeds, next, most)
+    }
+
+    /// Whether the goal is more than `n` actions away.
+    pub fn is_beyond(&self, n: u32) -> bool
+        ensures { result ≡ is_beyond self.now n }
+    {
+        match self.needs {
+            Some(k) => n < k,
+            None => true,
+        }
+    }
+
+    /// Whether all literals of the conjunction are true.
+    pub fn holds_all(&self, test: &Conj) -> bool
+        ensures { result ≡ all_true_in (world_in self.now) (conj_of test.now) }
+    {
+        self.world.holds_all(test)
+    }
+
+    /// The value of the term.
+    pub fn value(&self, t: &Term) -> ObjId
+        ensures { result.0 ≡ value_of (world_in self.now) (term_of t.now) }
+    {
+        self.world.value(t)
+    }
+}
