@@ -66,9 +66,8 @@ fn add_given(x: &Given, place: &Term, to: &mut Vec<ObjId>) -> Result<(), AllocEr
 fn add_all_given(xs: &[Given], place: &Term, to: &mut Vec<ObjId>) -> Result<(), AllocError>
     ensures { OnOk result (map object_of to.new.items ≡ map object_of to.old.items ++ flat_map (given_to (term_of place.now)) (map given_of xs.now)) }
 {
-    if let [x, rest @ ..] = xs {
+    for x in xs {
         add_given(x, place, to)?;
-        add_all_given(rest, place, to)?;
     }
     Ok(())
 }

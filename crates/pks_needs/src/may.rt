@@ -29,22 +29,24 @@ fn signed(positive: bool, is_so: bool) -> bool
 fn some_equal(positive: bool, d: ObjId, others: &[ObjId]) -> bool
     ensures { result ≡ list_any (λ e. signed positive (d.0 == e)) (map object_of others.now) }
 {
-    match others {
-        [] => false,
-        [e, rest @ ..] => signed(positive, d.0 == e.0) || some_equal(positive, d, rest),
+    for e in others {
+        if signed(positive, d.0 == e.0) {
+            return true;
+        }
     }
+    false
 }
 
 /// Whether one of the first is, or isn't, one of the second.
 fn some_of_equal(positive: bool, lefts: &[ObjId], rights: &[ObjId]) -> bool
     ensures { result ≡ list_any (λ d. list_any (λ e. signed positive (d == e)) (map object_of rights.now)) (map object_of lefts.now) }
 {
-    match lefts {
-        [] => false,
-        [d, rest @ ..] => {
-            some_equal(positive, *d, rights) || some_of_equal(positive, rest, rights)
+    for d in lefts {
+        if some_equal(positive, *d, rights) {
+            return true;
         }
     }
+    false
 }
 
 /// The arguments in use.
@@ -60,13 +62,12 @@ impl Gains {
     fn some_may_be(&self, w: &World, positive: bool, pred: PredId, lists: &[Few]) -> bool
         ensures { result ≡ list_any ((chances_of (world_of w.now) self.now).truth positive pred.0) (map few_of lists.now) }
     {
-        match lists {
-            [] => false,
-            [ds, rest @ ..] => {
-                self.may_be(w, positive, &ds.atom(pred))
-                    || self.some_may_be(w, positive, pred, rest)
+        for ds in lists {
+            if self.may_be(w, positive, &ds.atom(pred)) {
+                return true;
             }
         }
+        false
     }
 
     /// Whether the atom may be true, or false.

@@ -14,8 +14,12 @@ use pks_terms::problem::Problem;
 use pks_world::World;
 use std::alloc::{AllocError, Global};
 
-/// How many values may be noted for a bound to be worth its time.
-const MOST_VALUES: usize = 1_000;
+/// How much a level may take for a bound to be worth its time: for each ground action the square of the number of noted values.
+const MOST_WORK: usize = 200_000;
+
+fn is_too_much(values: usize, actions: usize) -> bool {
+    values.saturating_mul(values).saturating_mul(actions) > MOST_WORK
+}
 
 impl Deeds {
     /// Goes on to the next level; answers whether it has something that this one hasn't.
@@ -45,7 +49,7 @@ impl Deeds {
     {
         let mut gains = Gains::none(alloc);
         for k in 0..most {
-            if gains.values.len() > MOST_VALUES {
+            if is_too_much(gains.values.len(), self.deeds.len()) {
                 return Ok(Some(k));
             }
             let met = gains.goal_may(alloc, w, p.goal.as_slice())?;

@@ -40,9 +40,8 @@ fn add_truths(
 ) -> Result<(), AllocError>
     ensures { OnOk result (map new_of to.new.items ≡ map new_of to.old.items ++ map (λ ds. NewTruth positive (ground pred.0 ds)) (map few_of lists.now)) }
 {
-    if let [ds, rest @ ..] = lists {
+    for ds in lists {
         to.push(New::Truth(positive, ds.atom(pred)))?;
-        add_truths(positive, pred, rest, to)?;
     }
     Ok(())
 }
@@ -52,9 +51,8 @@ fn add_truths(
 fn add_given(place: &Term, values: &[ObjId], to: &mut Vec<New>) -> Result<(), AllocError>
     ensures { OnOk result (map new_of to.new.items ≡ map new_of to.old.items ++ map (NewValue (term_of place.now)) (map object_of values.now)) }
 {
-    if let [d, rest @ ..] = values {
+    for d in values {
         to.push(New::Value(*place, *d))?;
-        add_given(place, rest, to)?;
     }
     Ok(())
 }
@@ -69,9 +67,8 @@ fn add_placed(
 ) -> Result<(), AllocError>
     ensures { OnOk result (map new_of to.new.items ≡ map new_of to.old.items ++ flat_map (λ ds. map (NewValue (place fun.0 ds)) (map object_of values.now)) (map pair_of pairs.now)) }
 {
-    if let [ds, rest @ ..] = pairs {
+    for ds in pairs {
         add_given(&ds.place(fun), values, to)?;
-        add_placed(fun, rest, values, to)?;
     }
     Ok(())
 }

@@ -30,10 +30,12 @@ fn gives(x: &Given, place: &Term, d: ObjId) -> bool
 fn some_gives(xs: &[Given], place: &Term, d: ObjId) -> bool
     ensures { result ≡ list_any (λ e. e == d.0) (flat_map (given_to (term_of place.now)) (map given_of xs.now)) }
 {
-    match xs {
-        [] => false,
-        [x, rest @ ..] => gives(x, place, d) || some_gives(rest, place, d),
+    for x in xs {
+        if gives(x, place, d) {
+            return true;
+        }
     }
+    false
 }
 
 /// Whether one of them is so.

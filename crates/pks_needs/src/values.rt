@@ -101,9 +101,8 @@ impl Gains {
     ) -> Result<(), AllocError>
         ensures { OnOk result (map object_of to.new.items ≡ map object_of to.old.items ++ flat_map ((chances_of (world_of w.now) self.now).values fun.0) (map pair_of pairs.now)) }
     {
-        if let [ds, rest @ ..] = pairs {
+        for ds in pairs {
             self.add_values_at(w, &ds.place(fun), to)?;
-            self.add_placed(w, fun, rest, to)?;
         }
         Ok(())
     }

@@ -17,8 +17,8 @@ loop-k-init c =
     let w = world_of c.args.w.now in
     record { covers = covers_none p c.args.self.now w (chances_of w c.none-gains.result) (allows_first w c.none-gains.result); least = least_none p c.args.self.now w }
 
-pub returns-then-len-gt-MOST_VALUES : goal.returns-then-len-gt-MOST_VALUES
-returns-then-len-gt-MOST_VALUES c = bound_some (problem_of c.args.p.now) c.args.self.now (world_of c.args.w.now) c.loop-k.k c.loop-k.invariant.least
+pub returns-then-is_too_much : goal.returns-then-is_too_much
+returns-then-is_too_much c = bound_some (problem_of c.args.p.now) c.args.self.now (world_of c.args.w.now) c.loop-k.k c.loop-k.invariant.least
 
 pub returns-then-met : goal.returns-then-met
 returns-then-met c = bound_some (problem_of c.args.p.now) c.args.self.now (world_of c.args.w.now) c.loop-k.k c.loop-k.invariant.least

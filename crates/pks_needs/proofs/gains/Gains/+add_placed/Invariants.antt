@@ -1,5 +1,0 @@
-use Rattle.std.proofs.Common.{length}
-use Rattle.pks_needs.proofs.gains.Gains.+add_placed.Given as goal
-
-abbrev pub decreases-add_placed : goal.decreases-add_placed
-decreases-add_placed l = length l.pairs.now
