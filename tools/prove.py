@@ -24,18 +24,15 @@ NEEDED = ("free", "in_lanes", "need", "processors", "rtlib", "share_work")
 
 # What the slow crates take, and what each other one is taken for, in processor seconds: for the order alone.
 SECONDS = {
-    "pks_agent": 250, "pks_answer": 200, "pks_branch": 200, "pks_checker": 200, "pks_cited": 210, "pks_closing": 450,
-    "pks_domain": 240, "pks_lines": 330, "pks_plan": 180, "pks_pmap": 330, "pks_postdict": 160, "pks_progress": 270,
-    "pks_replay": 300, "pks_run": 200, "pks_stated": 340, "pks_step_rules": 190,
+    "pks_agent": 150, "pks_answer": 200, "pks_branch": 180, "pks_checker": 120, "pks_cited": 160, "pks_closing": 270,
+    "pks_domain": 170, "pks_effects": 130, "pks_exec": 95, "pks_explain": 300, "pks_io": 120, "pks_lines": 120,
+    "pks_meaning": 120, "pks_moment": 150, "pks_needs": 120, "pks_plan": 150, "pks_pmap": 260, "pks_postdict": 160,
+    "pks_progress": 230, "pks_replay": 250, "pks_run": 200, "pks_stated": 300, "pks_step_rules": 170, "pks_witness": 100,
 }
 SECONDS_OF_OTHERS = 90
 
 # A chain is long from this part of the longest one on; so many processes then prove one of its crates.
-LONG, JOBS_ON_CHAIN = 0.99, 3
-
-# The look for faults goes before all proofs.
-LINES_OF_LOOK = 1_000_000
-MEMORY_OF_LOOK = 2_000_000_000
+LONG, JOBS_ON_CHAIN = 0.99, 2
 
 
 def say(text):
@@ -103,15 +100,9 @@ class Proofs:
             end_unless(status, crate.out)
         self.tell(self.done, "proved", crate)
 
-    def look_for_faults(self):
-        """Compiles all sources without a proof: a fault of the source shows in seconds."""
-        with tempfile.TemporaryFile("w+", errors="replace") as self.program.out:
-            end_unless(self.program.front_end(), self.program.out)
-
     def tasks(self):
         """For the scheduler: what each step waits for, its work, its memory, and the call that does it."""
-        look = [], LINES_OF_LOOK, MEMORY_OF_LOOK, lambda given, jobs: self.look_for_faults()
-        tasks = {(self.program.name, "proof"): look}
+        tasks = {}
         for crate in self.left:
             waits = [(it.name, "proof") for it in crate.below() if it in self.left]
             call = lambda given, jobs, crate=crate: self.prove(crate, jobs)
