@@ -37,16 +37,10 @@ fail() {
 }
 
 build() {
-    say "proving and building the program: half an hour to an hour from nothing on four cores. Later calls run it at once."
+    say "proving and building the program: two processor hours from nothing, half an hour or more on four cores. Later calls run it at once."
     say "./pks try WORDS < FILE runs it unproved, in about a minute."
     rm -f "$program"
-    python3 "$top/tools/prove.py" "$crate" </dev/null || fail
-    say "building the program"
-    # The run that ends the build is the stored example.
-    if ! said=$(cd "$crate" && rt run -- plan 0 <stdin 2>&1); then
-        echo "$said" >&2
-        fail
-    fi
+    python3 "$top/tools/prove.py" pks </dev/null || fail
 }
 
 # Standard output has what the program writes alone. The toolchain is heard where the program didn't run to its end.

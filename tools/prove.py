@@ -1,14 +1,19 @@
 #!/usr/bin/env python3
-"""Proves the libraries that a program stands on, side by side, and keeps them as `rt lib` does.
+"""Proves crates side by side, with the scheduler of `rt ci`.
 
-    prove.py FOLDER      the program's crate
+    prove.py CRATE                proves and builds the program CRATE, and puts it into its crate's out/
+    prove.py --libraries CRATE    proves the libraries below CRATE as `rt check` takes them
 
-`rt lib` and `rt run` take one crate after another. This hands the same builds to the scheduler of `rt ci`: a crate is proved
-once those below it are, as many at a time as there are processors and memory, first those with the longest chain above them.
-No number of processors shortens a chain of crates, so each crate on a long one is proved by several processes at once.
-What is proved stays where rt keeps it, so that `rt run` has the program itself left to do. The first fault ends it.
+`rt run` and `rt check` take one crate after another. Here a crate is proved once those below it are, as many at a time as
+there are processors and memory, first those with the longest chain above them. No number of processors shortens a chain of
+crates, so each crate on the longest one is proved by two processes at once.
+
+The program goes through the steps of `rt ci`, but for edits and tests: each crate is proved over the statements of those below,
+and what is proved is kept where `rt ci` keeps it, so that the gate takes what this proved, and this what the gate proved.
+`rt check` and `rt try` keep libraries of their own, whole ones, in each crate's out/. The first fault ends either.
 """
 
+import contextlib
 import itertools
 import os
 import shutil
@@ -19,17 +24,19 @@ import threading
 from importlib.machinery import SourceFileLoader
 from importlib.util import module_from_spec, spec_from_loader
 
+TOP = os.path.dirname(os.path.dirname(os.path.realpath(__file__)))
+
 # What this takes of rt.
-NEEDED = ("free", "in_lanes", "need", "processors", "rtlib", "share_work")
+NEEDED = ("STORE", "Crate", "Kept", "edits_of", "free", "in_lanes", "main", "need", "processors", "rtlib", "run", "say", "share_work")
 
 # What the slow crates take, and what each other one is taken for, in processor seconds: for the order alone.
 SECONDS = {
-    "pks_agent": 150, "pks_answer": 200, "pks_branch": 180, "pks_checker": 120, "pks_cited": 160, "pks_closing": 270,
-    "pks_domain": 170, "pks_effects": 130, "pks_exec": 95, "pks_explain": 300, "pks_io": 120, "pks_lines": 120,
-    "pks_meaning": 120, "pks_moment": 150, "pks_needs": 120, "pks_plan": 150, "pks_pmap": 260, "pks_postdict": 160,
-    "pks_progress": 230, "pks_replay": 250, "pks_run": 200, "pks_stated": 300, "pks_step_rules": 170, "pks_witness": 100,
+    "pks_agent": 130, "pks_answer": 150, "pks_branch": 160, "pks_checker": 110, "pks_cited": 160, "pks_closing": 220,
+    "pks_derive": 120, "pks_domain": 170, "pks_effects": 120, "pks_explain": 220, "pks_lines": 220, "pks_moment": 170,
+    "pks_needs": 110, "pks_plan": 120, "pks_pmap": 220, "pks_postdict": 140, "pks_progress": 220, "pks_query": 120,
+    "pks_replay": 220, "pks_run": 150, "pks_search": 120, "pks_settled_past": 120, "pks_stated": 220, "pks_step_rules": 140,
 }
-SECONDS_OF_OTHERS = 90
+SECONDS_OF_OTHERS = 70
 
 # A chain is long from this part of the longest one on; so many processes then prove one of its crates.
 LONG, JOBS_ON_CHAIN = 0.99, 2
@@ -40,95 +47,171 @@ def say(text):
 
 
 def load_rt():
-    """The toolchain's command as a module."""
+    """The toolchain's command as a module, or None where it isn't of the kit that README.md names."""
     sys.dont_write_bytecode = True
     loader = SourceFileLoader("rt", os.path.realpath(shutil.which("rt")))
     module = module_from_spec(spec_from_loader("rt", loader))
     loader.exec_module(module)
-    return module
+    return module if all(hasattr(module, name) for name in NEEDED) else None
 
 
-def end_unless(status, said):
-    """Ends this command, and with it all that it runs, where a step failed: with what the toolchain said of it."""
-    if status:
-        said.seek(0)
-        shutil.copyfileobj(said, sys.stderr)
-        sys.stderr.flush()
-        os._exit(status if 0 < status < 128 else 1)
-
-
-def seconds(crate):
+def seconds(name):
     """About what the crate's proofs take, in processor seconds."""
-    return SECONDS.get(crate.name, SECONDS_OF_OTHERS)
+    return SECONDS.get(name, SECONDS_OF_OTHERS)
 
 
-class Proofs:
-    """The proofs of the libraries below a program."""
+def names_on_long_chains(waits):
+    """The names of the crates on the longest chains, by the seconds that they take, from what each crate waits for, lowest first."""
+    up, down = {}, {name: seconds(name) for name in waits}
+    for name, below in waits.items():
+        up[name] = seconds(name) + max((up[it] for it in below), default=0)
+    for name, below in reversed(waits.items()):
+        for it in below:
+            down[it] = max(down[it], seconds(it) + down[name])
+    longest = max(up.values(), default=0)
+    return {name for name in waits if up[name] + down[name] - seconds(name) >= LONG * longest}
 
-    def __init__(self, rt, folder):
-        self.rt = rt
-        self.program = rt.rtlib.Crate(folder, rt.rtlib.root_above(folder), {})
-        self.left = [it for it in self.program.below() if not it.is_built()]
+
+class Room:
+    """A folder for all that is made on the way, which goes when this command ends, however it ends."""
+
+    def __init__(self):
+        self.path = tempfile.mkdtemp(prefix="pks-prove-")
+        tempfile.tempdir = self.path
+        for it in (signal.SIGHUP, signal.SIGINT, signal.SIGTERM):
+            signal.signal(it, lambda number, _: self.end(128 + number))
+
+    def remove(self):
+        shutil.rmtree(self.path, ignore_errors=True)
+
+    def end(self, status):
+        """Ends this command, and with it all that it runs."""
+        self.remove()
+        os._exit(status)
+
+    def end_unless(self, status, said):
+        """Ends where a step failed: with what the toolchain said of it, which is what it said last."""
+        if status:
+            said.seek(0)
+            text = said.read()
+            sys.stderr.write(text[text.rfind("\n== ") + 1 :])
+            sys.stderr.flush()
+            self.end(status if 0 < status < 128 else 1)
+
+
+class Lanes:
+    """The scheduler of `rt ci`, told what crates take; and how far it is."""
+
+    def __init__(self, rt):
+        self.rt, self.real = rt, rt.in_lanes
         self.begun, self.done, self.turn = itertools.count(1), itertools.count(1), threading.Lock()
-        self.on_chain = self.names_on_long_chains()
+        self.on_chain, self.number = set(), 0
 
-    def names_on_long_chains(self):
-        """The names of the crates on the longest ways up to the program, by the seconds that they take."""
-        up, down = {}, {}
-        for crate in self.left:
-            up[crate.name] = seconds(crate) + max((up.get(it.name, 0) for it in crate.below()), default=0)
-        for crate in reversed(self.left):
-            above = (down[it.name] for it in self.left if it.name in down and crate in it.below())
-            down[crate.name] = seconds(crate) + max(above, default=0)
-        longest = max(up.values(), default=0)
-        return {it.name for it in self.left if up[it.name] + down[it.name] - seconds(it) >= LONG * longest}
+    def run(self, tasks):
+        proofs = {name: waits for (name, what), (waits, *_) in tasks.items() if what == "proof"}
+        below = {name: [it for it, _ in waits if it in proofs] for name, waits in proofs.items()}
+        self.on_chain, self.number = names_on_long_chains(below), len(proofs)
+        work = lambda key: seconds(key[0]) if key[1] == "proof" else 0
+        return self.real({key: (waits, work(key), *rest) for key, (waits, _, *rest) in tasks.items()})
 
-    def jobs_of(self, crate, jobs):
+    def flags_of(self, crate, flags):
         """How many processes prove the crate, which the scheduler gives so many processors."""
-        if crate.name not in self.on_chain or 4 * self.rt.need(crate) > self.rt.free():
-            return jobs
-        return max(jobs, min(JOBS_ON_CHAIN, self.rt.processors()))
+        jobs = int(flags[1])
+        if crate.name in self.on_chain and 2 * self.rt.need(crate) < self.rt.free():
+            jobs = max(jobs, min(JOBS_ON_CHAIN, self.rt.processors()))
+        return ["--jobs", str(jobs)]
 
-    def tell(self, number, what, crate):
+    def tell(self, what, number, crate):
         with self.turn:
-            say(f"{what} {crate.name}, {next(number)} of {len(self.left)}")
+            say(f"{what} {crate.name}, {next(number)} of {self.number}")
 
-    def prove(self, crate, jobs):
-        self.tell(self.begun, "proving", crate)
-        with tempfile.TemporaryFile("w+", errors="replace") as crate.out:
-            status = crate.build_rlib(["--jobs", str(self.jobs_of(crate, jobs))], anew=False)
-            end_unless(status, crate.out)
-        self.tell(self.done, "proved", crate)
+    def prove(self, crate, flags, call):
+        """Proves the crate by this call, and says so before and after; returns the call's status."""
+        self.tell("proving", self.begun, crate)
+        status = call(self.flags_of(crate, flags))
+        if not status:
+            self.tell("proved", self.done, crate)
+        return status
 
-    def tasks(self):
-        """For the scheduler: what each step waits for, its work, its memory, and the call that does it."""
-        tasks = {}
-        for crate in self.left:
-            waits = [(it.name, "proof") for it in crate.below() if it in self.left]
-            call = lambda given, jobs, crate=crate: self.prove(crate, jobs)
-            tasks[crate.name, "proof"] = waits, seconds(crate), self.rt.need(crate), call
-        return tasks
-
-    def run(self):
-        # (each crate's folder is locked, as by every command of rt)
-        held = self.rt.rtlib.lock([*self.program.below(), self.program])
-        if self.left:
-            self.rt.in_lanes(self.tasks())
-        for it in held:
-            os.close(it)
+    def skip(self):
+        """Counts a crate that was proved before."""
+        next(self.begun), next(self.done)
 
 
-def main(folder):
-    signal.signal(signal.SIGINT, signal.SIG_DFL)
-    rt = load_rt()
-    if not all(hasattr(rt, name) for name in NEEDED):
-        say("this rt isn't of the kit that README.md names, so crates are proved one after another.")
-        return
+def build_program(rt, room, name):
+    """Runs `rt ci CRATE` without edits and tests, and takes the program from the copy that it works on."""
+    lanes, prove, give, run, tell = Lanes(rt), rt.Crate.ci, rt.Kept.give, rt.run, rt.say
+    to, said = f"{TOP}/crates/{name}/out", tempfile.TemporaryFile("w+", errors="replace")
+
+    def proving(crate, flags, tests):
+        return lanes.prove(crate, flags, lambda flags: prove(crate, flags, tests))
+
+    def giving(kept, crate, tests, key):
+        is_given = give(kept, crate, tests, key)
+        if is_given:
+            lanes.skip()
+        return is_given
+
+    def running(crate, tests, ending=""):
+        is_well = run(crate, tests, ending)
+        if is_well and not ending:
+            os.makedirs(to, exist_ok=True)
+            shutil.copy(f"{crate.folder}/out/{name}", f"{to}/{name}.new")
+            os.replace(f"{to}/{name}.new", f"{to}/{name}")
+        return is_well
+
+    def telling(text, out=None):
+        tell(text, out)
+        room.end_unless("NOT PROVED" in text, said)
+
+    rt.Crate.ci, rt.Crate.has_tests, rt.edits_of = proving, lambda crate: False, lambda crate: ([], [])
+    rt.Kept.give, rt.run, rt.say, rt.in_lanes = giving, running, telling, lanes.run
+    if not os.access(os.path.dirname(rt.STORE), os.W_OK):
+        rt.STORE = f"{to}/kept"
+    # (there it is said that a part of the gate isn't the gate)
+    os.environ.pop("CI", None)
+    os.chdir(TOP)
+    with contextlib.redirect_stdout(said):
+        status = rt.main(["ci", name])
+    room.end_unless(status, said)
+
+
+def build_libraries(rt, room, name):
+    """Proves the libraries below the crate as `rt lib` does, and keeps them in their folders."""
+    folder, lanes = f"{TOP}/crates/{name}", Lanes(rt)
+    crate = rt.rtlib.Crate(folder, rt.rtlib.root_above(folder), {})
+    # (each crate's folder is locked, as by every command of rt)
+    held = rt.rtlib.lock([*crate.below(), crate])
     rt.share_work(True)
+    left = [it for it in crate.below() if not it.is_built()]
+
+    def prove(it, jobs):
+        with tempfile.TemporaryFile("w+", errors="replace") as it.out:
+            status = lanes.prove(it, ["--jobs", str(jobs)], lambda flags: it.build_rlib(flags, anew=False))
+            room.end_unless(status, it.out)
+
+    tasks = {}
+    for it in left:
+        waits = [(below.name, "proof") for below in it.below() if below in left]
+        tasks[it.name, "proof"] = waits, 0, rt.need(it), lambda given, jobs, it=it: prove(it, jobs)
+    lanes.run(tasks)
+    for it in held:
+        os.close(it)
+
+
+def main(words):
+    build = build_libraries if words[0] == "--libraries" else build_program
+    rt = load_rt()
+    if rt is None:
+        say("this rt isn't of the kit that README.md names, so nothing was proved.")
+        return 1
+    room = Room()
     # (what rt starts ends when this does; it has to be called before there are threads)
     rt.rtlib.guarded()
-    Proofs(rt, os.path.abspath(folder)).run()
+    build(rt, room, words[-1])
+    room.remove()
+    return 0
 
 
 if __name__ == "__main__":
-    main(*sys.argv[1:])
+    sys.exit(main(sys.argv[1:]))
