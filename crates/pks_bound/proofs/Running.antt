@@ -5,7 +5,7 @@ use Rattle.std.specs.Prelude.{nat_le, IfSome}
 use Rattle.std.proofs.lemmas.Bool.{and_parts, or_cases, cases_Bool, not_from_false, false_from_ne_true}
 use Rattle.std.proofs.lemmas.Option.{none-some, same_Some}
 use Rattle.pks_terms.specs.Sets.{IsIn, all_some, choices_from}
-use Rattle.pks_terms.specs.Syntax.{Object, Parameter, Apply, Inner, Term, object, as_object}
+use Rattle.pks_terms.specs.Syntax.{Object, Parameter, Apply, Inner, Term, Literal, object, as_object}
 use Rattle.pks_terms.specs.Orders.{literal, inequation}
 use Rattle.pks_terms.specs.Signatures.{Shape, Signature, fits_type, objects_of, has_type, range_of}
 use Rattle.pks_terms.specs.Worlds.{World, inner_value, value_of, true_in, all_true_in}
@@ -222,14 +222,21 @@ left_max a b = omega arith
 right_max : (a b : ℕ) → b ≤ max a b
 right_max a b = omega arith
 
-left_le : (a b : ℕ) → a ≤ max a b + 1
-left_le a b = omega arith
-
-right_le : (a b : ℕ) → b ≤ max a b + 1
-right_le a b = omega arith
-
 longer : (p : Problem) (w : World) (n m : ℕ) → n ≤ m → Reaches p w n → Reaches p w m
 longer p w n m le r = let short : length r.actions ≤ n = r.short in record { actions = r.actions; run = r.run; short = omega (arith, short, le); goal = r.goal }
+
+-- the object that the value is has its case
+value_cased : (p : Problem) (x : Term) (c : Chain) (h : History) (v : World) → MayBeAt p h v → Derives p (At h) (Cases x c) → IsIn (value_of v x) (objects_in c)
+value_cased p x c h v m k = let t = last_true p h v m in subst (IsIn (value_of v x)) (sym k.2) (value_left p.signature v (last_moment h) x t.first.world t.first k.1)
+
+-- the run of the side on which the world is
+side_run : (p : Problem) (j : AllJustified p) (s : IsTyped p) (c : List Literal) (t u : Tree) (h : History) (v : World) → MayBeAt p h v → Derives p (At h) (Branch c t u)
+    → ((g : History) → MayBeAt p g v → Derives p (At g) t → Reaches p v (depth t)) → ((g : History) → MayBeAt p g v → Derives p (At g) u → Reaches p v (depth u)) → Reaches p v (max (depth t) (depth u))
+side_run p j s c t u h v m k on_true on_false =
+    ⊎_elim
+    (λ so. let a = taken_may p h v (BranchOn c) AsTrue k.2.0 m k.0 so k.2.1 in longer p v (depth t) (max (depth t) (depth u)) (left_max (depth t) (depth u)) (on_true a.0 a.2 (subst (λ (x : State). Derives p x t) a.1 k.2.2)))
+    (λ so. let a = taken_may p h v (BranchOn c) AsFalse k.3.0 m k.0 so k.3.1 in longer p v (depth u) (max (depth t) (depth u)) (right_max (depth t) (depth u)) (on_false a.0 a.2 (subst (λ (x : State). Derives p x u) a.1 k.3.2)))
+    (cases_Bool (all_true_in v c))
 
 mutual
   pub reach_from : (p : Problem) (j : AllJustified p) (s : IsTyped p) (t : Tree) (h : History) (v : World) → MayBeAt p h v → Derives p (At h) t → Reaches p v (depth t)
@@ -240,15 +247,8 @@ mutual
       let r = reach_from p j s t a.0 (after_action p v (grounded v i)) a.2 (subst (λ (x : State). Derives p x t) a.1 k.1.2) in
       let short : length r.actions ≤ depth t = r.short in
       record { actions = grounded v i ∷ r.actions; run = (may_do p h v i m k.0, r.run); short = omega (arith, short); goal = r.goal }
-  reach_from p j s (Branch c t u) h v m k =
-      ⊎_elim
-      (λ so. let a = taken_may p h v (BranchOn c) AsTrue k.2.0 m k.0 so k.2.1 in longer p v (depth t) (max (depth t) (depth u) + 1) (left_le (depth t) (depth u)) (reach_from p j s t a.0 v a.2 (subst (λ (x : State). Derives p x t) a.1 k.2.2)))
-      (λ so. let a = taken_may p h v (BranchOn c) AsFalse k.3.0 m k.0 so k.3.1 in longer p v (depth u) (max (depth t) (depth u) + 1) (right_le (depth t) (depth u)) (reach_from p j s u a.0 v a.2 (subst (λ (x : State). Derives p x u) a.1 k.3.2)))
-      (cases_Bool (all_true_in v c))
-  reach_from p j s (Cases x c) h v m k =
-      let t = last_true p h v m in
-      let r = reach_case p j s c x h v m k.0 (subst (IsIn (value_of v x)) (sym k.2) (value_left p.signature v (last_moment h) x t.first.world t.first k.1)) k.3 in
-      longer p v (chain_depth c) (chain_depth c + 1) (omega arith) r
+  reach_from p j s (Branch c t u) h v m k = longer p v (max (depth t) (depth u)) (max (depth t) (depth u) + 1) (omega arith) (side_run p j s c t u h v m k (λ g n d. reach_from p j s t g v n d) (λ g n d. reach_from p j s u g v n d))
+  reach_from p j s (Cases x c) h v m k = longer p v (chain_depth c) (chain_depth c + 1) (omega arith) (reach_case p j s c x h v m k.0 (value_cased p x c h v m k) k.3)
 
   reach_case : (p : Problem) (j : AllJustified p) (s : IsTyped p) (c : Chain) (x : Term) (h : History) (v : World) → MayBeAt p h v → IsIn x (last_moment h).kv → IsIn (value_of v x) (objects_in c) → DerivesEach p h x c → Reaches p v (chain_depth c)
   reach_case p j s End x h v m member i k = absurd i
@@ -257,3 +257,11 @@ mutual
       (λ e. let a = taken_may p h v (CasesOn x) (Is o) k.0.0 m member (sym e) k.0.1 in longer p v (depth t) (max (depth t) (chain_depth c)) (left_max (depth t) (chain_depth c)) (reach_from p j s t a.0 v a.2 (subst (λ (x : State). Derives p x t) a.1 k.0.2)))
       (λ r. longer p v (chain_depth c) (max (depth t) (chain_depth c)) (right_max (depth t) (chain_depth c)) (reach_case p j s c x h v m member r k.1))
       i
+
+-- a branch is no action
+pub reach_branch : (p : Problem) (j : AllJustified p) (s : IsTyped p) (c : List Literal) (t u : Tree) (h : History) (v : World) → MayBeAt p h v → Derives p (At h) (Branch c t u) → Reaches p v (max (depth t) (depth u))
+reach_branch p j s c t u h v m k = side_run p j s c t u h v m k (λ g n d. reach_from p j s t g v n d) (λ g n d. reach_from p j s u g v n d)
+
+-- nor are cases
+pub reach_cases : (p : Problem) (j : AllJustified p) (s : IsTyped p) (x : Term) (c : Chain) (h : History) (v : World) → MayBeAt p h v → Derives p (At h) (Cases x c) → Reaches p v (chain_depth c)
+reach_cases p j s x c h v m k = reach_case p j s c x h v m k.0 (value_cased p x c h v m k) k.3

@@ -1,7 +1,8 @@
 //! The laws, each the clause of a function that does nothing.
 
-ghost use Rattle.std.specs.Prelude.{◌≡◌, ℕ, [], ◌∷◌, Option};
+ghost use Rattle.std.specs.Prelude.{◌≡◌, ℕ, max, List, [], ◌∷◌, Option};
 ghost use Rattle.pks_terms.specs.Sets.{IsIn};
+ghost use Rattle.pks_terms.specs.Syntax.{Term, Literal};
 ghost use Rattle.pks_terms.specs.Worlds.{World};
 ghost use Rattle.pks_terms.specs.Databases.{Five};
 ghost use Rattle.pks_terms.specs.Closure.{Next, Closes};
@@ -10,7 +11,7 @@ ghost use Rattle.pks_terms.specs.Problems.{Problem, initial, IsCompatible};
 ghost use Rattle.pks_terms.specs.Typed.{IsTyped, AllJustified};
 ghost use Rattle.pks_terms.specs.Branching.{instances, Choice, Side, IsMember, IsSo};
 ghost use Rattle.pks_terms.specs.Settling.{History, last_moment, State, At};
-ghost use Rattle.pks_terms.specs.Trees.{Tree, depth, Acts, Takes, Derives};
+ghost use Rattle.pks_terms.specs.Trees.{Tree, Branch, Cases, Chain, depth, chain_depth, Acts, Takes, Derives};
 ghost use Rattle.pks_terms.specs.Knowledge.{grounded, after_action};
 ghost use Rattle.pks_bound.specs.Runs.{MayBeDone, IsGoal, MayBeAt, Reaches};
 ghost use Rattle.pks_bound.specs.Levels.{Chances, Allows, IsNext, IsBound, IsAtMost, AreLevels};
@@ -40,6 +41,16 @@ pub fn later_moments_keep_the_world()
 /// the preconditions of each ask for is so when it is done, and what the goal asks for at the last moment is so at the end.
 pub fn derived_trees_reach_the_goal()
     ensures { (p : Problem) (h : History) (w : World) (t : Tree) → AllJustified p → IsTyped p → MayBeAt p h w → Derives p (At h) t → Reaches p w (depth t) }
+{}
+
+/// A branch is no action: where one is at the root, the run is no longer than the deepest side.
+pub fn branches_are_no_actions()
+    ensures { (p : Problem) (h : History) (w : World) (c : List Literal) (t u : Tree) → AllJustified p → IsTyped p → MayBeAt p h w → Derives p (At h) (Branch c t u) → Reaches p w (max (depth t) (depth u)) }
+{}
+
+/// Nor are cases: where they are at the root, the run is no longer than the deepest of them.
+pub fn cases_are_no_actions()
+    ensures { (p : Problem) (h : History) (w : World) (x : Term) (k : Chain) → AllJustified p → IsTyped p → MayBeAt p h w → Derives p (At h) (Cases x k) → Reaches p w (chain_depth k) }
 {}
 
 // ---- levels

@@ -6,3 +6,4 @@ pub mod LastRounds
 pub mod Truth
 pub mod Growing
 pub mod Apart
+pub mod ByValue

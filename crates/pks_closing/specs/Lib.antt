@@ -3,3 +3,5 @@ pub mod Possible
 pub mod Rounds
 pub mod Closing
 pub mod Working
+pub mod Carrying
+pub mod Touching

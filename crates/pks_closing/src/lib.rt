@@ -1,6 +1,7 @@
 //! Closing of databases by rounds, and between these by a work list.
 #![tactic(auto)]
 
+mod carrying;
 mod clashing;
 pub mod closing;
 pub mod forms;
@@ -8,6 +9,7 @@ pub mod groups;
 pub mod ranges;
 pub mod rounds;
 mod spreading;
+mod standing;
 pub mod steps;
 pub mod tidied;
 mod touched;

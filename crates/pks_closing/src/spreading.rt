@@ -1,6 +1,6 @@
 //! What follows by groups, put in one after another by a work list: each group is looked at again when one of its atoms
 //! is settled. `docs/RULES.md` has the rule on groups.
-ghost use Rattle.std.specs.Prelude.{◌≡◌, List, [], ◌∷◌, map, IfOk};
+ghost use Rattle.std.specs.Prelude.{◌≡◌, List, [], ◌∷◌, ◌++◌, map, IfOk, OnOk};
 ghost use Rattle.pks_terms.specs.Sets.{insert_in};
 ghost use Rattle.pks_terms.specs.Orders.{literal_cmp};
 ghost use Rattle.pks_terms.specs.Closure.{by_group};
@@ -9,6 +9,7 @@ ghost use Rattle.pks_terms.specs.Views.{literal_of, signature_of};
 ghost use Rattle.pks_kf.specs.Known.{literals_of};
 ghost use Rattle.pks_normal.specs.Fives.{five_of};
 ghost use Rattle.pks_closing.specs.Working.{GrowsTo, GrowsBy, GrowsByGroups};
+ghost use Rattle.pks_closing.specs.Touching.{atom_form, numbers_at};
 
 use crate::groups::put_by_group;
 use crate::touched::Touched;
@@ -28,7 +29,8 @@ fn grown(
     l: &Literal,
     to: &mut Vec<usize>,
 ) -> Result<Derived, AllocError>
-    ensures { IfOk result (λ e. five_of e ≡ record (five_of d.now) { kf = insert_in literal_cmp (literal_of l.now) (literals_of d.now.kf) }) }
+    ensures five { IfOk result (λ e. five_of e ≡ record (five_of d.now) { kf = insert_in literal_cmp (literal_of l.now) (literals_of d.now.kf) }) }
+    ensures work { OnOk result (to.new.items ≡ to.old.items ++ numbers_at touched.now.places (atom_form (literals_of d.now.kf) (literal_of l.now))) }
 {
     touched.put_touched(d, l, to)?;
     let next = d.with(alloc, l)?;

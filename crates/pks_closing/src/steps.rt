@@ -153,7 +153,7 @@ fn argument_steps(
 }
 
 /// Puts the literal after the others, with one application replaced by an object that is its value.
-fn put_by_value(
+pub(crate) fn put_by_value(
     alloc: Global,
     to: &mut Vec<Literal>,
     by: &Normals,

@@ -1,5 +1,8 @@
 //! The groups in which an atom stands.
-ghost use Rattle.std.specs.Prelude.{◌≡◌, IfOk};
+ghost use Rattle.std.specs.Prelude.{◌≡◌, ◌++◌, IfOk, OnOk};
+ghost use Rattle.pks_terms.specs.Views.{literal_of};
+ghost use Rattle.pks_kf.specs.Known.{literals_of};
+ghost use Rattle.pks_closing.specs.Touching.{atom_form, numbers_at};
 
 use pks_derived::derived::Derived;
 use pks_kx::Kx;
@@ -32,7 +35,9 @@ fn copied(alloc: Global, kx: &Kx) -> Result<Vec<Group>, AllocError>
 }
 
 /// The normal form of the literal's atom.
-fn key(d: &Derived, l: &Literal) -> Literal {
+fn key(d: &Derived, l: &Literal) -> Literal
+    ensures { literal_of result ≡ atom_form (literals_of d.now.kf) (literal_of l.now) }
+{
     let form = d.normals().normal_literal(l);
     Literal {
         atom: form.atom,
@@ -99,7 +104,9 @@ impl Touched {
         d: &Derived,
         l: &Literal,
         to: &mut Vec<usize>,
-    ) -> Result<(), AllocError> {
+    ) -> Result<(), AllocError>
+        ensures { OnOk result (to.new.items ≡ to.old.items ++ numbers_at self.now.places (atom_form (literals_of d.now.kf) (literal_of l.now))) }
+    {
         match self.places.get(&key(d, l)) {
             None => Ok(()),
             Some(numbers) => {

@@ -9,3 +9,4 @@ pub mod Children
 pub mod LettingGo
 pub mod Starting
 pub mod Witnessed
+pub mod Straight

@@ -1,3 +1,5 @@
 pub mod Limits
 pub mod Ready
 pub mod Near
+pub mod Straight
+pub mod Spots

@@ -5,6 +5,7 @@ mod nearing;
 mod parts;
 mod rising;
 pub mod searching;
+mod spots;
 mod within;
 
 pub use searching::{best, best_from};

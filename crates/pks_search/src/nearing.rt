@@ -1,10 +1,11 @@
 //! The witness along a search: a world that may be the present one, or none.
 ghost use Rattle.std.specs.Prelude.{◌≡◌, None, IfOk, IfSome};
+ghost use Rattle.pks_terms.specs.Knowledge.{grounded, after_action};
 ghost use Rattle.pks_terms.specs.ValidProblems.{IsValidProblem};
 ghost use Rattle.pks_terms.specs.Views.{instance_of, problem_of};
 ghost use Rattle.pks_choices.specs.ChoiceViews.{choice_of, side_of};
-ghost use Rattle.pks_search.specs.Near.{AreItsDeeds, IsFirst, Becomes, is_far, is_so, is_on};
-ghost use Rattle.pks_witness.specs.Near.{world_in};
+ghost use Rattle.pks_search.specs.Near.{AreItsDeeds, IsFirst, Becomes, is_far, is_tight, is_so, is_on};
+ghost use Rattle.pks_witness.specs.Near.{world_in, IsCounted};
 
 use pks_choices::{Choice, Side};
 use pks_needs::Deeds;
@@ -20,59 +21,87 @@ const MOST: u32 = 17;
 #[derive(Drop)]
 pub(crate) struct Start {
     pub(crate) near: Option<Witness>,
-    pub(crate) deeds: Deeds,
+    pub(crate) deeds: Option<Deeds>,
 }
 
 impl Start {
     /// Without a witness.
-    fn nowhere(alloc: Global) -> Start
-        ensures { result.near ≡ None }
+    fn nowhere() -> Start
+        ensures near { result.near ≡ None }
+        ensures deeds { result.deeds ≡ None }
     {
         Start {
             near: None,
-            deeds: Deeds::none(alloc),
+            deeds: None,
         }
     }
 
     /// With the witness that was found quickly, if one was, and the ground actions are not too many.
     pub(crate) fn of(alloc: Global, p: &Problem<'_>) -> Result<Start, AllocError>
         requires { IsValidProblem p.now }
-        ensures { IfOk result (λ x. IfSome x.near (IsFirst (problem_of p.now) x.deeds)) }
+        ensures near { IfOk result (λ x. IfSome x.near (IsFirst (problem_of p.now))) }
+        ensures deeds { IfOk result (λ x. IfSome x.deeds (AreItsDeeds (problem_of p.now))) }
     {
         let Some(world) = witness_of(alloc, p)? else {
-            return Ok(Start::nowhere(alloc));
+            return Ok(Start::nowhere());
         };
         let Some(deeds) = Deeds::of(alloc, p)? else {
-            return Ok(Start::nowhere(alloc));
+            return Ok(Start::nowhere());
         };
         let first = Witness::of(alloc, p, &deeds, world, MOST)?;
         Ok(Start {
             near: Some(first),
-            deeds,
+            deeds: Some(deeds),
         })
     }
 }
 
-/// The witness after the action, whose bound is counted as far as `room` and one more.
+/// The witness after the action: the same, where the action leaves its world as it is, and else one whose bound is counted as
+/// far as `room` and one more.
+fn after(
+    alloc: Global,
+    p: &Problem<'_>,
+    x: &Witness,
+    deeds: &Deeds,
+    step: &Instance,
+    room: u32,
+) -> Result<Witness, AllocError>
+    requires valid { IsValidProblem p.now }
+    requires counted { IsCounted (problem_of p.now) x.now }
+    requires deeds { AreItsDeeds (problem_of p.now) deeds.now }
+    ensures world { IfOk result (λ y. world_in y ≡ after_action (problem_of p.now) (world_in x.now) (grounded (world_in x.now) (instance_of step.now))) }
+    ensures counted { IfOk result (IsCounted (problem_of p.now)) }
+{
+    if x.stays(p, step) {
+        let same = x.share()?;
+        return Ok(same);
+    }
+    let next = x.after(alloc, p, deeds, step, room.saturating_add(1))?;
+    Ok(next)
+}
+
+/// The witness after the action, where there is one.
 pub(crate) fn near_after(
     alloc: Global,
     p: &Problem<'_>,
     near: &Option<Witness>,
-    deeds: &Deeds,
+    deeds: &Option<Deeds>,
     step: &Instance,
     room: u32,
 ) -> Result<Option<Witness>, AllocError>
     requires valid { IsValidProblem p.now }
-    requires deeds { IfSome near.now (λ _. AreItsDeeds (problem_of p.now) deeds.now) }
+    requires counted { IfSome near.now (IsCounted (problem_of p.now)) }
+    requires deeds { IfSome deeds.now (AreItsDeeds (problem_of p.now)) }
     ensures { IfOk result (Becomes (problem_of p.now) (instance_of step.now) near.now) }
 {
-    match near {
-        Some(x) => {
-            let after = x.after(alloc, p, deeds, step, room.saturating_add(1))?;
-            Ok(Some(after))
-        }
-        None => Ok(None),
-    }
+    let Some(x) = near else {
+        return Ok(None);
+    };
+    let Some(all) = deeds else {
+        return Ok(None);
+    };
+    let next = after(alloc, p, x, all, step, room)?;
+    Ok(Some(next))
 }
 
 /// Whether the goal is more than `n` actions away from the witness.
@@ -83,6 +112,13 @@ pub(crate) fn is_beyond(near: &Option<Witness>, n: u32) -> bool
         Some(x) => x.is_beyond(n),
         None => false,
     }
+}
+
+/// Whether the goal is `n` actions away from the witness or more.
+pub(crate) fn is_tight(near: &Option<Witness>, n: u32) -> bool
+    ensures { result ≡ is_tight near.now n }
+{
+    n == 0 || is_beyond(near, n - 1)
 }
 
 /// Whether the side is so in the witness.

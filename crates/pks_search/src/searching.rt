@@ -15,6 +15,7 @@ ghost use Rattle.pks_terms.specs.Remembering.{RemembersPast};
 
 use crate::nearing::Start;
 use crate::rising::best_rising;
+use crate::spots::{Notes, Spot};
 use pks_closing::closing::CloseEnd;
 use pks_failures::failures::Failures;
 use pks_history::histories::History;
@@ -63,16 +64,13 @@ pub fn best_from(
 {
     let h = History::start(alloc, start)?;
     let first = Start::of(alloc, p)?;
-    let mut failures = Failures::new(alloc)?;
-    best_rising(
-        alloc,
-        p,
-        &h,
-        0,
-        u32::from(depth),
-        16 * 9_999,
-        &first.near,
-        &first.deeds,
-        &mut failures,
-    )
+    let Start { near, deeds } = first;
+    let failures = Failures::new(alloc)?;
+    let mut notes = Notes { deeds, failures };
+    let spot = Spot {
+        history: &h,
+        unread: 0,
+        near: &near,
+    };
+    best_rising(alloc, p, &spot, 0, u32::from(depth), 16 * 9_999, &mut notes)
 }

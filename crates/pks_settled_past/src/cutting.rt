@@ -13,8 +13,8 @@ use pks_history::histories::History;
 use pks_terms::problem::{Aim, Problem};
 use std::alloc::{AllocError, Global};
 
-/// Whether each of the aims is one of the last moment.
-fn are_now(aims: &[Aim]) -> bool
+/// Whether each of the aims is one of the last moment. It takes no memory.
+pub fn are_now(aims: &[Aim]) -> bool
     ensures { IsTrue result ↔ Each IsNow (map aim_of aims.now) }
 {
     match aims {

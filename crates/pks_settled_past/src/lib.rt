@@ -8,4 +8,4 @@ mod kept;
 mod objects;
 mod touching;
 
-pub use cutting::cut;
+pub use cutting::{are_now, cut};

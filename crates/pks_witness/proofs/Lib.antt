@@ -1,1 +1,2 @@
 pub mod Typed
+mod Idle

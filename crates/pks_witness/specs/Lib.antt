@@ -1,2 +1,3 @@
 pub mod Typing
 pub mod Near
+pub mod Idle

@@ -8,7 +8,7 @@ use Rattle.pks_witness.specs.declared.witness.Witness.{Witness}
 
 -- its world
 abbrev pub world_in : Witness → World
-world_in x = world_of x.world
+world_in x = world_of x.world.value
 
 -- its bound holds of its world
 abbrev pub IsCounted : Problem → Witness → Type 0

@@ -2,6 +2,7 @@
 //! `docs/DECISIONS.md` says what it is for.
 #![tactic(auto)]
 
+mod idling;
 mod making;
 mod puttings;
 mod typing;

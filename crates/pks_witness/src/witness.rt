@@ -9,6 +9,7 @@ ghost use Rattle.pks_world.specs.Contents.{world_of};
 ghost use Rattle.pks_needs.specs.Gained.{AreDeeds};
 ghost use Rattle.pks_witness.specs.Near.{world_in, is_beyond, IsCounted};
 
+use crate::idling::is_idle;
 use pks_needs::Deeds;
 use pks_terms::ids::ObjId;
 use pks_terms::literal::Conj;
@@ -17,12 +18,13 @@ use pks_terms::schema::Instance;
 use pks_terms::term::{Inner, Term};
 use pks_world::World;
 use std::alloc::{AllocError, Global};
+use std::rc::Rc;
 
 /// A world that may be the present one, and a bound on the actions that it is away from the goal: no run of fewer leads there, and where
 /// there is no number none does.
 #[derive(Drop)]
 pub struct Witness {
-    pub(crate) world: World,
+    pub(crate) world: Rc<World>,
     pub(crate) needs: Option<u32>,
 }
 
@@ -63,6 +65,7 @@ impl Witness {
         ensures counted { IfOk result (IsCounted (problem_of p.now)) }
     {
         let needs = deeds.needs(alloc, p, &world, most)?;
+        let world = Rc::new(alloc, world)?;
         Ok(Witness { world, needs })
     }
 
@@ -82,6 +85,25 @@ impl Witness {
     {
         let next = self.world.apply(p, &grounded(&self.world, step))?;
         Witness::of(alloc, p, deeds, next, most)
+    }
+
+    /// Whether the action leaves the world as it is. Where it doesn't say so, it may do so all the same. It takes no memory.
+    pub fn stays(&self, p: &Problem<'_>, step: &Instance) -> bool
+        ensures { IsTrue result → after_action (problem_of p.now) (world_in self.now) (grounded (world_in self.now) (instance_of step.now)) ≡ world_in self.now }
+    {
+        is_idle(p, &self.world, &grounded(&self.world, step))
+    }
+
+    /// The same world with the same bound. The error is want of memory for one more reference.
+    pub fn share(&self) -> Result<Witness, AllocError>
+        ensures world { IfOk result (λ x. world_in x ≡ world_in self.now) }
+        ensures needs { IfOk result (λ x. x.needs ≡ self.now.needs) }
+    {
+        let world = self.world.clone()?;
+        Ok(Witness {
+            world,
+            needs: self.needs,
+        })
     }
 
     /// Whether the goal is more than `n` actions away.

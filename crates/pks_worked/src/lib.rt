@@ -7,6 +7,8 @@ mod domains;
 #[cfg(test)]
 mod occurrences;
 #[cfg(test)]
+mod rows;
+#[cfg(test)]
 mod tests;
 #[cfg(test)]
 mod walks;

@@ -16,10 +16,17 @@ use Rattle.pks_search.proofs.Starting.{start_ready, start_best, best_remembers, 
 use Rattle.pks_search.proofs.Witnessed.{first_near}
 use Rattle.pks_search.proofs.searching.best_from.Goals as goal
 
-pub best_rising-requires-clause-ready : goal.best_rising-requires-clause-ready
-best_rising-requires-clause-ready c =
+pub best_rising-requires-clause-spot : goal.best_rising-requires-clause-spot
+best_rising-requires-clause-spot c =
+    let p = problem_of c.args.p.now in
     let few : c.from.result ≤ 16 = omega (arith, c.from.ensures, c.requires.depth) in
-    start_ready c.args.p.now (five_of c.args.start) c.in_ok-h.h c.from.result c.requires.valid c.requires.justified c.requires.start c.in_ok-h.ensures few
+    record {
+      ready = start_ready c.args.p.now (five_of c.args.start) c.in_ok-h.h c.from.result c.requires.valid c.requires.justified c.requires.start c.in_ok-h.ensures few;
+      near = first_near p (five_of c.args.start) c.in_ok-h.h c.in_ok-first.first.near c.requires.start c.in_ok-h.ensures c.in_ok-first.ensures.near;
+    }
+
+pub best_rising-requires-clause-notes : goal.best_rising-requires-clause-notes
+best_rising-requires-clause-notes c = record { deeds = c.in_ok-first.ensures.deeds; failures = c.in_ok-failures.ensures (problem_of c.args.p.now) }
 
 pub best_rising-requires-clause-limit : goal.best_rising-requires-clause-limit
 best_rising-requires-clause-limit c =
@@ -45,7 +52,3 @@ returns-clause-past c =
     IfOk-weaker c.best_rising.result (λ o. IsBestAt p (At c.in_ok-h.h) c.from.result (option_map tree_of o)) (λ o. IfSome o (λ t. RemembersPast p (tree_of t)))
     (λ o b. if_some tree_of (IsBest p c.args.depth) (λ t. RemembersPast p (tree_of t)) (λ t k. best_remembers p c.args.depth (tree_of t) c.requires.justified c.requires.valid.says k) o
     (start_best p (five_of c.args.start) c.in_ok-h.h c.args.depth c.from.result (option_map tree_of o) c.requires.start c.in_ok-h.ensures c.from.ensures b)) c.best_rising.ensures
-
-pub best_rising-requires-clause-near : goal.best_rising-requires-clause-near
-best_rising-requires-clause-near c =
-    first_near (problem_of c.args.p.now) c.in_ok-first.first.deeds (five_of c.args.start) c.in_ok-h.h c.in_ok-first.first.near c.requires.start c.in_ok-h.ensures c.in_ok-first.ensures

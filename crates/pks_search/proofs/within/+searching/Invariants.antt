@@ -4,8 +4,8 @@ use Rattle.pks_terms.specs.Settling.{last_moment}
 use Rattle.pks_terms.specs.Views.{problem_of}
 use Rattle.pks_plan.specs.TreeViews.{tree_of}
 use Rattle.pks_branch.specs.WalkViews.{left_in}
-use Rattle.pks_failures.specs.Failing.{AreRight}
 use Rattle.pks_search.specs.Limits.{IsFoundBefore}
+use Rattle.pks_search.specs.Spots.{AreSo}
 use Rattle.pks_search.proofs.within.+searching.Given as goal
 
 abbrev pub decreases-best_within : goal.decreases-best_within
@@ -45,7 +45,7 @@ abbrev pub decreases-best_taking : goal.decreases-best_taking
 decreases-best_taking l = l.n * 32 + 3
 
 abbrev pub invariant-best_of_choices-each : goal.invariant-best_of_choices-each
-invariant-best_of_choices-each l = IsFoundBefore (problem_of l.fn.p) l.fn.h (l.n + 1) l.limit (left_in (problem_of l.fn.p) (last_moment l.fn.h) l.walk) (option_map tree_of l.best) l.below × AreRight (problem_of l.fn.p) l.failures
+invariant-best_of_choices-each l = IsFoundBefore (problem_of l.fn.p) l.fn.spot.history.now (l.n + 1) l.limit (left_in (problem_of l.fn.p) (last_moment l.fn.spot.history.now) l.walk) (option_map tree_of l.best) l.below × AreSo (problem_of l.fn.p) l.notes
 
 abbrev pub decreases-best_of_choices-each : goal.decreases-best_of_choices-each
-decreases-best_of_choices-each l = length (left_in (problem_of l.fn.p) (last_moment l.fn.h) l.walk)
+decreases-best_of_choices-each l = length (left_in (problem_of l.fn.p) (last_moment l.fn.spot.history.now) l.walk)

@@ -1,0 +1,21 @@
+use Rattle.std.proofs.Common.{◌≡◌, true, map, subst, rules}
+use Rattle.pks_terms.specs.Sets.{Each}
+use Rattle.pks_terms.specs.Settling.{History}
+use Rattle.pks_terms.specs.Versions.{IsNow}
+use Rattle.pks_terms.specs.Views.{aim_of, problem_of}
+use Rattle.pks_failures.specs.Failing.{HasNoTree}
+use Rattle.pks_search.proofs.spots.last_fails.Goals as goal
+
+pub returns-clause-fails : goal.returns-clause-fails
+returns-clause-fails c = λ k.
+    let p = problem_of c.args.p.now in
+    let tight : c.args.tight ≡ true = search rules in
+    let now : c.are_now.result ≡ true = search rules in
+    record {
+      tight_is = tight;
+      plain = subst (λ xs. Each IsNow (map aim_of xs)) c.as_slice.ensures (c.are_now.ensures.0 now);
+      none = subst (λ (g : History). HasNoTree p g c.args.n c.args.limit) c.in_ok-only.ensures (c.tells-fails.ensures.told k p c.requires.valid c.requires.right);
+    }
+
+pub returns-clause-right : goal.returns-clause-right
+returns-clause-right c = c.tells-fails.ensures.right (problem_of c.args.p.now) c.requires.right

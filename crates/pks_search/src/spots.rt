@@ -1,0 +1,83 @@
+//! Where a search is, what it takes along, and what it lets go of.
+ghost use Rattle.std.specs.Prelude.{◌≡◌, true, IfOk};
+ghost use Rattle.pks_terms.specs.Valid.{IsValid};
+ghost use Rattle.pks_terms.specs.Views.{problem_of};
+ghost use Rattle.pks_failures.specs.Failing.{AreRight};
+ghost use Rattle.pks_search.specs.Straight.{last_alone, HasTreesWithin, LastFails};
+ghost use Rattle.pks_search.specs.Spots.{MayGoOn};
+
+use crate::nearing::is_tight;
+use pks_failures::failures::Failures;
+use pks_history::histories::History;
+use pks_needs::Deeds;
+use pks_settled_past::{are_now, cut};
+use pks_terms::problem::Problem;
+use pks_witness::Witness;
+use std::alloc::{AllocError, Global};
+
+/// Where a search is: at a history, of whose steps all but the last `unread` bring nothing new, with a witness or none.
+#[derive(Clone, Copy)]
+pub(crate) struct Spot<'s> {
+    pub(crate) history: &'s History,
+    pub(crate) unread: u32,
+    pub(crate) near: &'s Option<Witness>,
+}
+
+/// What a search takes along: the ground actions by which bounds are counted, or none, and the failures that it met.
+#[derive(Drop)]
+pub(crate) struct Notes {
+    pub(crate) deeds: Option<Deeds>,
+    pub(crate) failures: Failures,
+}
+
+/// The last moment of the history alone.
+fn last_alone(alloc: Global, h: &History) -> Result<History, AllocError>
+    ensures { IfOk result (λ g. g ≡ last_alone h.now) }
+{
+    let last = h.last().share()?;
+    let only = History::start(alloc, last)?;
+    Ok(only)
+}
+
+/// What is left of the history: its last moment, where the bound leaves no room for a branch and each aim is one of the last
+/// moment, and else what the settled past leaves. The same trees within the depth and the limit are derived from it.
+pub(crate) fn left_of(
+    alloc: Global,
+    p: &Problem<'_>,
+    spot: &Spot<'_>,
+    n: u32,
+    limit: u32,
+) -> Result<History, AllocError>
+    requires spot { MayGoOn p.now spot.now n }
+    ensures { IfOk result (λ rest. HasTreesWithin (problem_of p.now) spot.now.history.now rest n limit) }
+{
+    if is_tight(spot.near, n.min(limit)) && are_now(p.goal.as_slice()) {
+        return last_alone(alloc, spot.history);
+    }
+    let rest = cut(alloc, p, spot.history)?;
+    Ok(rest)
+}
+
+/// Whether nothing but actions has room, as `tight` says, each aim is one of the last moment, and the table tells that this
+/// alone has no tree no deeper than `n` that costs at most `limit`. It isn't asked where there is no other moment.
+pub(crate) fn last_fails(
+    alloc: Global,
+    p: &Problem<'_>,
+    h: &History,
+    tight: bool,
+    n: u32,
+    limit: u32,
+    failures: &mut Failures,
+) -> Result<bool, AllocError>
+    requires valid { IsValid (problem_of p.now) }
+    requires right { AreRight (problem_of p.now) failures.old }
+    ensures fails { IfOk result (λ b. b ≡ true → LastFails (problem_of p.now) h.now tight n limit) }
+    ensures right { AreRight (problem_of p.now) failures.new }
+{
+    if !tight || h.len() == 1 || !are_now(p.goal.as_slice()) {
+        return Ok(false);
+    }
+    let only = last_alone(alloc, h)?;
+    let fails = failures.tells(&only, n, limit);
+    Ok(fails)
+}
