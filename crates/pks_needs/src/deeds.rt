@@ -240,13 +240,6 @@ fn count(alloc: Global, p: &Problem<'_>) -> Result<u64, AllocError>
 }
 
 impl Deeds {
-    /// No ground actions. It takes no memory.
-    pub fn none(alloc: Global) -> Deeds {
-        Deeds {
-            deeds: Vec::new(alloc),
-        }
-    }
-
     /// The ground actions of the problem, or `None` where there are too many for a bound to be worth its time. It asks for a valid
     /// problem. The error is want of memory.
     pub fn of(alloc: Global, p: &Problem<'_>) -> Result<Option<Deeds>, AllocError>
