@@ -5,22 +5,22 @@
     prove.py --libraries CRATE    proves the libraries below CRATE as `rt check` takes them
 
 `rt run` and `rt check` take one crate after another. Here a crate is proved once those below it are, as many at a time as
-there are processors and memory, first those with the longest chain above them. No number of processors shortens a chain of
-crates, so each crate on the longest one is proved by two processes at once.
+there are processors and memory, first those with the longest chain above them. A processor that no crate can use takes a part
+of another's proofs.
 
-The program goes through the steps of `rt ci`, but for edits and tests: each crate is proved over the statements of those below,
+The program goes through the steps of `rt ci`, but for edits, tests and its second compiler: each crate is proved over the statements of those below,
 and what is proved is kept where `rt ci` keeps it, so that the gate takes what this proved, and this what the gate proved.
 `rt check` and `rt try` keep libraries of their own, whole ones, in each crate's out/. The first fault ends either.
 """
 
 import contextlib
-import itertools
 import os
 import shutil
 import signal
 import sys
 import tempfile
 import threading
+import time
 from importlib.machinery import SourceFileLoader
 from importlib.util import module_from_spec, spec_from_loader
 
@@ -29,17 +29,20 @@ TOP = os.path.dirname(os.path.dirname(os.path.realpath(__file__)))
 # What this takes of rt.
 NEEDED = ("STORE", "Crate", "Kept", "edits_of", "free", "in_lanes", "main", "need", "processors", "rtlib", "run", "say", "share_work")
 
-# What the slow crates take, and what each other one is taken for, in processor seconds: for the order alone.
+# What the slow crates take, and what each other one is taken for, in processor seconds: for the order alone. (`pks_agent`, of which
+# little stands above, is to be done when the last but one begins.)
 SECONDS = {
-    "pks_agent": 130, "pks_answer": 150, "pks_branch": 160, "pks_checker": 110, "pks_cited": 160, "pks_closing": 220,
-    "pks_derive": 120, "pks_domain": 170, "pks_effects": 120, "pks_explain": 220, "pks_lines": 220, "pks_moment": 170,
-    "pks_needs": 110, "pks_plan": 120, "pks_pmap": 220, "pks_postdict": 140, "pks_progress": 220, "pks_query": 120,
-    "pks_replay": 220, "pks_run": 150, "pks_search": 120, "pks_settled_past": 120, "pks_stated": 220, "pks_step_rules": 140,
+    "pks": 150, "pks_agent": 250, "pks_answer": 140, "pks_branch": 140, "pks_checker": 130, "pks_cited": 160,
+    "pks_closing": 220, "pks_dag": 90, "pks_derive": 100, "pks_derived": 110, "pks_domain": 160, "pks_effects": 120,
+    "pks_exec": 100, "pks_explain": 170, "pks_facts": 110, "pks_initial": 80, "pks_lines": 230, "pks_meaning": 100,
+    "pks_moment": 190, "pks_needs": 130, "pks_plan": 120, "pks_pmap": 210, "pks_postdict": 120, "pks_progress": 180,
+    "pks_query": 100, "pks_replay": 190, "pks_run": 120, "pks_search": 150, "pks_settled_past": 100, "pks_stated": 260,
+    "pks_step_rules": 150, "pks_uses": 90,
 }
-SECONDS_OF_OTHERS = 70
+SECONDS_OF_OTHERS = 50
 
-# A chain is long from this part of the longest one on; so many processes then prove one of its crates.
-LONG, JOBS_ON_CHAIN = 0.99, 2
+# Seconds for those crates to begin that begin with another.
+MOMENT = 0.2
 
 
 def say(text):
@@ -58,18 +61,6 @@ def load_rt():
 def seconds(name):
     """About what the crate's proofs take, in processor seconds."""
     return SECONDS.get(name, SECONDS_OF_OTHERS)
-
-
-def names_on_long_chains(waits):
-    """The names of the crates on the longest chains, by the seconds that they take, from what each crate waits for, lowest first."""
-    up, down = {}, {name: seconds(name) for name in waits}
-    for name, below in waits.items():
-        up[name] = seconds(name) + max((up[it] for it in below), default=0)
-    for name, below in reversed(waits.items()):
-        for it in below:
-            down[it] = max(down[it], seconds(it) + down[name])
-    longest = max(up.values(), default=0)
-    return {name for name in waits if up[name] + down[name] - seconds(name) >= LONG * longest}
 
 
 class Room:
@@ -103,48 +94,51 @@ class Lanes:
     """The scheduler of `rt ci`, told what crates take; and how far it is."""
 
     def __init__(self, rt):
-        self.rt, self.real = rt, rt.in_lanes
-        self.begun, self.done, self.turn = itertools.count(1), itertools.count(1), threading.Lock()
-        self.on_chain, self.number = set(), 0
+        self.rt, self.real, self.turn = rt, rt.in_lanes, threading.Lock()
+        self.begun, self.done, self.number = 0, 0, 0
 
     def run(self, tasks):
-        proofs = {name: waits for (name, what), (waits, *_) in tasks.items() if what == "proof"}
-        below = {name: [it for it, _ in waits if it in proofs] for name, waits in proofs.items()}
-        self.on_chain, self.number = names_on_long_chains(below), len(proofs)
+        self.number = sum(what == "proof" for _, what in tasks)
         work = lambda key: seconds(key[0]) if key[1] == "proof" else 0
         return self.real({key: (waits, work(key), *rest) for key, (waits, _, *rest) in tasks.items()})
 
     def flags_of(self, crate, flags):
-        """How many processes prove the crate, which the scheduler gives so many processors."""
-        jobs = int(flags[1])
-        if crate.name in self.on_chain and 2 * self.rt.need(crate) < self.rt.free():
-            jobs = max(jobs, min(JOBS_ON_CHAIN, self.rt.processors()))
-        return ["--jobs", str(jobs)]
-
-    def tell(self, what, number, crate):
+        """How many processes prove the crate: as many as the scheduler says, and those that no other crate can use."""
+        # (what begins with it has begun)
+        time.sleep(MOMENT)
         with self.turn:
-            say(f"{what} {crate.name}, {next(number)} of {self.number}")
+            idle = self.rt.processors() - (self.begun - self.done)
+        jobs = int(flags[1])
+        return ["--jobs", str(max(jobs, 1 + idle) if 2 * self.rt.need(crate) < self.rt.free() else jobs)]
 
     def prove(self, crate, flags, call):
         """Proves the crate by this call, and says so before and after; returns the call's status."""
-        self.tell("proving", self.begun, crate)
+        with self.turn:
+            self.begun += 1
+            say(f"proving {crate.name}, {self.begun} of {self.number}")
         status = call(self.flags_of(crate, flags))
         if not status:
-            self.tell("proved", self.done, crate)
+            with self.turn:
+                self.done += 1
+                say(f"proved {crate.name}, {self.done} of {self.number}")
         return status
 
     def skip(self):
         """Counts a crate that was proved before."""
-        next(self.begun), next(self.done)
+        with self.turn:
+            self.begun, self.done = self.begun + 1, self.done + 1
 
 
 def build_program(rt, room, name):
-    """Runs `rt ci CRATE` without edits and tests, and takes the program from the copy that it works on."""
-    lanes, prove, give, run, tell = Lanes(rt), rt.Crate.ci, rt.Kept.give, rt.run, rt.say
+    """Runs `rt ci CRATE` without edits and tests, and takes the program, as LLVM builds it, from the copy that it works on."""
+    lanes, prove, compile_by, give, run, tell = Lanes(rt), rt.Crate.ci, rt.Crate.compile_by, rt.Kept.give, rt.run, rt.say
     to, said = f"{TOP}/crates/{name}/out", tempfile.TemporaryFile("w+", errors="replace")
 
     def proving(crate, flags, tests):
         return lanes.prove(crate, flags, lambda flags: prove(crate, flags, tests))
+
+    def compiling(crate, backend, words, to):
+        return compile_by(crate, backend, words, to) if backend == "llvm" else 0
 
     def giving(kept, crate, tests, key):
         is_given = give(kept, crate, tests, key)
@@ -164,7 +158,7 @@ def build_program(rt, room, name):
         tell(text, out)
         room.end_unless("NOT PROVED" in text, said)
 
-    rt.Crate.ci, rt.Crate.has_tests, rt.edits_of = proving, lambda crate: False, lambda crate: ([], [])
+    rt.Crate.ci, rt.Crate.compile_by, rt.Crate.has_tests, rt.edits_of = proving, compiling, lambda crate: False, lambda crate: ([], [])
     rt.Kept.give, rt.run, rt.say, rt.in_lanes = giving, running, telling, lanes.run
     if not os.access(os.path.dirname(rt.STORE), os.W_OK):
         rt.STORE = f"{to}/kept"
