@@ -1,12 +1,8 @@
 //! The problem that a text states, and the world of a file, or the refusal of the first fault (`docs/FORMAT.md`).
 #![tactic(auto)]
 
-#[cfg(test)]
-mod limits;
 mod reading;
 mod refusal;
-#[cfg(test)]
-mod tests;
 
 pub use pks_facts::read_world;
 pub use pks_grammar::report::{Extra, Refusal, Turned};

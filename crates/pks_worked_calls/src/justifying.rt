@@ -69,8 +69,26 @@ fn judged_in(alloc: Global, text: &str) -> Result<Option<Case>, Fail> {
 }
 
 /// The case of what the action of these parts knows, or none where it has no case.
-pub fn case(alloc: Global, parts: &str, knows: &str) -> Result<Option<Case>, Fail> {
+fn case(alloc: Global, parts: &str, knows: &str) -> Result<Option<Case>, Fail> {
     let text = joined(alloc, &[BEFORE, parts, " (knows ", knows, AFTER])?;
     let case = judged_in(alloc, text.as_str())?;
     Ok(case)
+}
+
+/// The parts of an action, what it knows, and the case of that, or none where it has no case.
+pub struct Add(pub &'static str, pub &'static str, pub Option<Case>);
+
+fn has_case(alloc: Global, add: &Add) -> Result<bool, Fail> {
+    let found = case(alloc, add.0, add.1)?;
+    Ok(found == add.2)
+}
+
+/// Fails at the first add that has another case.
+pub fn have_cases(alloc: Global, adds: &[Add]) -> Result<(), Fail> {
+    for add in adds {
+        if !has_case(alloc, add)? {
+            return Err(Fail::new(format_args!("{} {}", add.0, add.1)));
+        }
+    }
+    Ok(())
 }

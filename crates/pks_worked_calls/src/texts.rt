@@ -31,10 +31,28 @@ fn init_text(alloc: Global, p: &Problem<'_>, number: usize) -> Result<Vec<u8>, F
 }
 
 /// The same of a file's items; a group has no text.
-pub fn item_text(alloc: Global, text: &str, number: usize) -> Result<Vec<u8>, Fail> {
+fn item_text(alloc: Global, text: &str, number: usize) -> Result<Vec<u8>, Fail> {
     let p = read(alloc, text)?;
     let printed = init_text(alloc, &p, number)?;
     Ok(printed)
+}
+
+/// An item, counted from 0, and its text.
+pub struct Printed(pub usize, pub &'static str);
+
+fn is_printed(alloc: Global, text: &str, row: &Printed) -> Result<bool, Fail> {
+    let printed = item_text(alloc, text, row.0)?;
+    Ok(printed.as_slice() == row.1.as_bytes())
+}
+
+/// Fails at the first item of a file that has another text.
+pub fn are_printed(alloc: Global, text: &str, rows: &[Printed]) -> Result<(), Fail> {
+    for row in rows {
+        if !is_printed(alloc, text, row)? {
+            return Err(Fail::new(row.1));
+        }
+    }
+    Ok(())
 }
 
 /// The text of the pattern that an action senses.
@@ -58,8 +76,14 @@ fn schema_text(alloc: Global, p: &Problem<'_>, number: usize) -> Result<Vec<u8>,
 }
 
 /// The text of the pattern that an action of a file senses.
-pub fn pattern_text(alloc: Global, text: &str, number: usize) -> Result<Vec<u8>, Fail> {
+fn pattern_text(alloc: Global, text: &str, number: usize) -> Result<Vec<u8>, Fail> {
     let p = read(alloc, text)?;
     let printed = schema_text(alloc, &p, number)?;
     Ok(printed)
+}
+
+/// Whether the action of a file senses the pattern of this text.
+pub fn is_sensed(alloc: Global, text: &str, number: usize, pattern: &str) -> Result<bool, Fail> {
+    let printed = pattern_text(alloc, text, number)?;
+    Ok(printed.as_slice() == pattern.as_bytes())
 }
