@@ -11,6 +11,3 @@ mod read;
 pub use end::WordsEnd;
 pub use job::Job;
 pub use read::read_words;
-
-#[cfg(test)]
-mod tests;

@@ -1,11 +1,11 @@
 //! Chains, in which each known literal follows from the one before it. The time of a test is enough for them only where closing
 //! goes on from what is new.
+use crate::rows::{Row, all_so};
 use crate::runs::is_said;
 use std::alloc::{AllocError, Global};
 use std::test::Fail;
 
 /// A chain over the pairs of 64 objects.
-#[derive(Clone, Copy)]
 struct Chain {
     declared: &'static str,
     /// The item that begins it.
@@ -43,25 +43,27 @@ fn text_of(alloc: Global, chain: &Chain) -> Result<String, AllocError> {
     Ok(text)
 }
 
-#[test]
-fn chains_are_closed_from_what_is_new(rt: HostRuntime) -> Result<(), Fail> {
-    let groups = Chain {
+impl Row for Chain {
+    fn is_so(&self, alloc: Global) -> Result<bool, Fail> {
+        let text = text_of(alloc, self)?;
+        Ok(is_said(alloc, &text, "accepted\n")?)
+    }
+}
+
+const CHAINS: &[Chain] = &[
+    Chain {
         declared: "",
         first: "(kf (p c0 c0))",
         link: (" (kx (p ", ") (p ", "))"),
-    };
-    let places = Chain {
+    },
+    Chain {
         declared: "(functions (f t t t))",
         first: "(kf (= (f c0 c0) c0))",
         link: (" (kf (= (f ", ") (f ", ")))"),
-    };
-    for chain in [groups, places] {
-        let text = text_of(rt.alloc(), &chain)?;
-        assert!(rt;
-            is_said(rt.alloc(), &text, "accepted\n")?,
-            "{}",
-            chain.first
-        );
-    }
-    Ok(())
+    },
+];
+
+#[test]
+fn chains_are_closed_from_what_is_new(rt: HostRuntime) -> Result<(), Fail> {
+    all_so(rt.alloc(), CHAINS)
 }

@@ -1,4 +1,4 @@
-//! Whole runs alone: files at each limit and one past it, and streams that fail; and dialogues over a peer in memory. `docs/ARCHITECTURE.md` says where tests stand.
+//! Whole runs: tables of words and files in, texts and statuses out, files at each limit and one past it, and streams that fail; and dialogues over a peer in memory. `docs/ARCHITECTURE.md` says where tests stand.
 #![tactic(auto)]
 
 #[cfg(test)]
@@ -6,10 +6,26 @@ mod chains;
 #[cfg(test)]
 mod dialogues;
 #[cfg(test)]
+mod files;
+#[cfg(test)]
 mod limits;
+#[cfg(test)]
+mod malformed;
+#[cfg(test)]
+mod modes;
 #[cfg(test)]
 mod peers;
 #[cfg(test)]
+mod rows;
+#[cfg(test)]
 mod runs;
 #[cfg(test)]
+mod settled;
+#[cfg(test)]
 mod streams;
+#[cfg(test)]
+mod sure;
+#[cfg(test)]
+mod words;
+#[cfg(test)]
+mod worked;

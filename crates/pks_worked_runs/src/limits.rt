@@ -1,5 +1,9 @@
-//! Each limit on a count, at the limit and one past it, and the longest names.
-use crate::runs::is_said;
+//! Each limit on a count, at the limit and one past it, and the longest names and input.
+use crate::files::DOOR;
+use crate::rows::{Row, all_so};
+use crate::runs::{Answered, NOTHING, is_said, run_over};
+use pks_run::Status;
+use pks_run::Status::{Done, Refused};
 use std::alloc::{AllocError, Global};
 use std::test::Fail;
 
@@ -9,7 +13,6 @@ const SEVENTEEN: &str =
     "(pks 1) (domain (predicates (p1) (p2) (p3) (p4) (p5) (p6) (p7) (p8) (p9) (p10) (p11) (p12) (p13) (p14) (p15) (p16) (p17))";
 
 /// A list of numbered parts, and how many of them there may be.
-#[derive(Clone, Copy)]
 struct Counted {
     /// The text before the first part.
     front: (&'static str, &'static str),
@@ -23,7 +26,7 @@ struct Counted {
 }
 
 /// The line of a refusal of a text of one line.
-fn refused(alloc: Global, at: usize, code: u16) -> Result<String, AllocError> {
+fn refusal(alloc: Global, at: usize, code: u16) -> Result<String, AllocError> {
     let column = at.saturating_add(1);
     format!(in alloc; "refused 1:{column} {code}\n")
 }
@@ -41,195 +44,206 @@ fn text_of(alloc: Global, row: &Counted, count: u16) -> Result<(String, usize), 
     Ok((text, begin))
 }
 
-/// Whether so many parts are accepted, and one more is refused at its place.
-fn is_limit(alloc: Global, row: &Counted) -> Result<bool, AllocError> {
-    let (fitting, _last) = text_of(alloc, row, row.most)?;
-    let (longer, last) = text_of(alloc, row, row.most.saturating_add(1))?;
-    let at = last.saturating_add(usize::from(row.shift));
-    let line = refused(alloc, at, 208)?;
-    Ok(is_said(alloc, &fitting, "accepted\n")? && is_said(alloc, &longer, &line)?)
+impl Row for Counted {
+    /// Whether so many parts are accepted, and one more is refused at its place.
+    fn is_so(&self, alloc: Global) -> Result<bool, Fail> {
+        let (fitting, _last) = text_of(alloc, self, self.most)?;
+        let (longer, last) = text_of(alloc, self, self.most.saturating_add(1))?;
+        let at = last.saturating_add(usize::from(self.shift));
+        let line = refusal(alloc, at, 208)?;
+        Ok(is_said(alloc, &fitting, "accepted\n")? && is_said(alloc, &longer, &line)?)
+    }
 }
+
+const DECLARED: &[Counted] = &[
+    Counted {
+        front: ("(pks 1) (domain", " (types"),
+        part: (" t", ""),
+        back: ") (predicates (p))) (problem (goal (k (p))))",
+        most: 16,
+        shift: 1,
+    },
+    Counted {
+        front: ("(pks 1) (domain", " (types t) (objects (t"),
+        part: (" c", ""),
+        back: ")) (predicates (p))) (problem (goal (k (p))))",
+        most: 64,
+        shift: 1,
+    },
+    Counted {
+        front: ("(pks 1) (domain", " (types t) (objects"),
+        part: (" (t c", ")"),
+        back: ") (predicates (p))) (problem (goal (k (p))))",
+        most: 64,
+        shift: 4,
+    },
+    Counted {
+        front: ("(pks 2) (domain", " (types t) (objects (t"),
+        part: (" c", ""),
+        back: ")) (predicates (p))) (problem (goal (k (p))))",
+        most: 256,
+        shift: 1,
+    },
+    Counted {
+        front: ("(pks 1) (domain", " (predicates"),
+        part: (" (p", ")"),
+        back: ")) (problem (goal (k (p1))))",
+        most: 32,
+        shift: 2,
+    },
+    Counted {
+        front: (FOUR_TYPES, " (functions"),
+        part: (" (f", " t1)"),
+        back: ")) (problem (goal (kv (f1))))",
+        most: 32,
+        shift: 2,
+    },
+    Counted {
+        front: ("(pks 1) (domain", " (predicates (p))"),
+        part: (" (action a", ")"),
+        back: ") (problem (goal (k (p))))",
+        most: 64,
+        shift: 9,
+    },
+    Counted {
+        front: (FOUR_TYPES, " (predicates (p)) (action a (params"),
+        part: (" (?x", " t1)"),
+        back: "))) (problem (goal (k (p))))",
+        most: 4,
+        shift: 2,
+    },
+    Counted {
+        front: (FOUR_TYPES, " (predicates (q) (p"),
+        part: (" t", ""),
+        back: "))) (problem (goal (k (q))))",
+        most: 3,
+        shift: 1,
+    },
+    Counted {
+        front: (FOUR_TYPES, " (functions (g t1) (f"),
+        part: (" t", ""),
+        back: " t1))) (problem (goal (kv (g))))",
+        most: 2,
+        shift: 1,
+    },
+];
 
 #[test]
 fn declared_names_are_counted(rt: HostRuntime) -> Result<(), Fail> {
-    let rows = [
-        Counted {
-            front: ("(pks 1) (domain", " (types"),
-            part: (" t", ""),
-            back: ") (predicates (p))) (problem (goal (k (p))))",
-            most: 16,
-            shift: 1,
-        },
-        Counted {
-            front: ("(pks 1) (domain", " (types t) (objects (t"),
-            part: (" c", ""),
-            back: ")) (predicates (p))) (problem (goal (k (p))))",
-            most: 64,
-            shift: 1,
-        },
-        Counted {
-            front: ("(pks 1) (domain", " (types t) (objects"),
-            part: (" (t c", ")"),
-            back: ") (predicates (p))) (problem (goal (k (p))))",
-            most: 64,
-            shift: 4,
-        },
-        Counted {
-            front: ("(pks 2) (domain", " (types t) (objects (t"),
-            part: (" c", ""),
-            back: ")) (predicates (p))) (problem (goal (k (p))))",
-            most: 256,
-            shift: 1,
-        },
-        Counted {
-            front: ("(pks 1) (domain", " (predicates"),
-            part: (" (p", ")"),
-            back: ")) (problem (goal (k (p1))))",
-            most: 32,
-            shift: 2,
-        },
-        Counted {
-            front: (FOUR_TYPES, " (functions"),
-            part: (" (f", " t1)"),
-            back: ")) (problem (goal (kv (f1))))",
-            most: 32,
-            shift: 2,
-        },
-        Counted {
-            front: ("(pks 1) (domain", " (predicates (p))"),
-            part: (" (action a", ")"),
-            back: ") (problem (goal (k (p))))",
-            most: 64,
-            shift: 9,
-        },
-        Counted {
-            front: (FOUR_TYPES, " (predicates (p)) (action a (params"),
-            part: (" (?x", " t1)"),
-            back: "))) (problem (goal (k (p))))",
-            most: 4,
-            shift: 2,
-        },
-        Counted {
-            front: (FOUR_TYPES, " (predicates (q) (p"),
-            part: (" t", ""),
-            back: "))) (problem (goal (k (q))))",
-            most: 3,
-            shift: 1,
-        },
-        Counted {
-            front: (FOUR_TYPES, " (functions (g t1) (f"),
-            part: (" t", ""),
-            back: " t1))) (problem (goal (kv (g))))",
-            most: 2,
-            shift: 1,
-        },
-    ];
-    for row in rows {
-        assert!(rt; is_limit(rt.alloc(), &row)?, "of {}", row.front.1);
-    }
-    Ok(())
+    all_so(rt.alloc(), DECLARED)
 }
+
+const OF_AN_ACTION: &[Counted] = &[
+    Counted {
+        front: (SEVENTEEN, " (action a (pre"),
+        part: (" (k (p", "))"),
+        back: "))) (problem (goal (k (p1))))",
+        most: 16,
+        shift: 1,
+    },
+    Counted {
+        front: (SEVENTEEN, " (action a (effects"),
+        part: (" (set (p", "))"),
+        back: "))) (problem (goal (k (p1))))",
+        most: 16,
+        shift: 1,
+    },
+    Counted {
+        front: (SEVENTEEN, " (action a (senses"),
+        part: (" (sense (p", "))"),
+        back: "))) (problem (goal (k (p1))))",
+        most: 16,
+        shift: 1,
+    },
+    Counted {
+        front: (
+            SEVENTEEN,
+            " (action a (senses (sense (p1)) (sense (p2)) (sense (p3)) (sense (p4)) (sense (p5)) (sense (p6)) (sense (p7)) (sense (p8)) (sense (p9)) (sense (p10)) (sense (p11)) (sense (p12)) (sense (p13)) (sense (p14)) (sense (p15)) (sense (p16))) (knows",
+        ),
+        part: (" (kw (p", "))"),
+        back: "))) (problem (goal (k (p1))))",
+        most: 16,
+        shift: 1,
+    },
+    Counted {
+        front: (SEVENTEEN, " (action a (effects (when ("),
+        part: (" (p", ")"),
+        back: ") (set (p1)))))) (problem (goal (k (p1))))",
+        most: 4,
+        shift: 1,
+    },
+    Counted {
+        front: (SEVENTEEN, " (action a (senses (sense"),
+        part: (" (p", ")"),
+        back: ")))) (problem (goal (k (p1))))",
+        most: 4,
+        shift: 1,
+    },
+    Counted {
+        front: (
+            SEVENTEEN,
+            " (action a (senses (sense (p1) (p2) (p3) (p4))) (knows (kw",
+        ),
+        part: (" (p", ")"),
+        back: ")))) (problem (goal (k (p1))))",
+        most: 4,
+        shift: 1,
+    },
+    Counted {
+        front: (SEVENTEEN, " (action a (effects (set (p1))) (knows (if ("),
+        part: (" (k (p", "))"),
+        back: ") (kf (p1)))))) (problem (goal (k (p1))))",
+        most: 4,
+        shift: 1,
+    },
+    Counted {
+        front: (SEVENTEEN, " (action a (pre (kw"),
+        part: (" (p", ")"),
+        back: ")))) (problem (goal (k (p1))))",
+        most: 4,
+        shift: 1,
+    },
+];
 
 #[test]
 fn parts_of_an_action_are_counted(rt: HostRuntime) -> Result<(), Fail> {
-    let rows = [
-        (
-            " (action a (pre",
-            (" (k (p", "))"),
-            "))) (problem (goal (k (p1))))",
-            16,
-        ),
-        (
-            " (action a (effects",
-            (" (set (p", "))"),
-            "))) (problem (goal (k (p1))))",
-            16,
-        ),
-        (
-            " (action a (senses",
-            (" (sense (p", "))"),
-            "))) (problem (goal (k (p1))))",
-            16,
-        ),
-        (
-            " (action a (senses (sense (p1)) (sense (p2)) (sense (p3)) (sense (p4)) (sense (p5)) (sense (p6)) (sense (p7)) (sense (p8)) (sense (p9)) (sense (p10)) (sense (p11)) (sense (p12)) (sense (p13)) (sense (p14)) (sense (p15)) (sense (p16))) (knows",
-            (" (kw (p", "))"),
-            "))) (problem (goal (k (p1))))",
-            16,
-        ),
-        (
-            " (action a (effects (when (",
-            (" (p", ")"),
-            ") (set (p1)))))) (problem (goal (k (p1))))",
-            4,
-        ),
-        (
-            " (action a (senses (sense",
-            (" (p", ")"),
-            ")))) (problem (goal (k (p1))))",
-            4,
-        ),
-        (
-            " (action a (senses (sense (p1) (p2) (p3) (p4))) (knows (kw",
-            (" (p", ")"),
-            ")))) (problem (goal (k (p1))))",
-            4,
-        ),
-        (
-            " (action a (effects (set (p1))) (knows (if (",
-            (" (k (p", "))"),
-            ") (kf (p1)))))) (problem (goal (k (p1))))",
-            4,
-        ),
-        (
-            " (action a (pre (kw",
-            (" (p", ")"),
-            ")))) (problem (goal (k (p1))))",
-            4,
-        ),
-    ];
-    for (front, part, back, most) in rows {
-        let row = Counted {
-            front: (SEVENTEEN, front),
-            part,
-            back,
-            most,
-            shift: 1,
-        };
-        assert!(rt; is_limit(rt.alloc(), &row)?, "of {front}");
-    }
-    Ok(())
+    all_so(rt.alloc(), OF_AN_ACTION)
 }
+
+const OF_A_PROBLEM: &[Counted] = &[
+    Counted {
+        front: (SEVENTEEN, ") (problem (init (kw"),
+        part: (" (p", ")"),
+        back: ")) (goal (k (p1))))",
+        most: 4,
+        shift: 1,
+    },
+    Counted {
+        front: (SEVENTEEN, ") (problem (init (kx"),
+        part: (" (p", ")"),
+        back: ")) (goal (k (p1))))",
+        most: 16,
+        shift: 1,
+    },
+    Counted {
+        front: (SEVENTEEN, ") (problem (goal (kw"),
+        part: (" (p", ")"),
+        back: ")))",
+        most: 4,
+        shift: 1,
+    },
+    Counted {
+        front: (SEVENTEEN, ") (problem (goal"),
+        part: (" (k (p", "))"),
+        back: "))",
+        most: 16,
+        shift: 1,
+    },
+];
 
 #[test]
 fn parts_of_a_problem_are_counted(rt: HostRuntime) -> Result<(), Fail> {
-    let rows = [
-        (
-            ") (problem (init (kw",
-            (" (p", ")"),
-            ")) (goal (k (p1))))",
-            4,
-        ),
-        (
-            ") (problem (init (kx",
-            (" (p", ")"),
-            ")) (goal (k (p1))))",
-            16,
-        ),
-        (") (problem (goal (kw", (" (p", ")"), ")))", 4),
-        (") (problem (goal", (" (k (p", "))"), "))", 16),
-    ];
-    for (front, part, back, most) in rows {
-        let row = Counted {
-            front: (SEVENTEEN, front),
-            part,
-            back,
-            most,
-            shift: 1,
-        };
-        assert!(rt; is_limit(rt.alloc(), &row)?, "of {front}");
-    }
-    Ok(())
+    all_so(rt.alloc(), OF_A_PROBLEM)
 }
 
 /// The text with a name of so many bytes in its middle.
@@ -242,91 +256,141 @@ fn with_name(alloc: Global, front: &str, n: u32, back: &str) -> Result<String, A
     Ok(text)
 }
 
+/// What stands before a name and behind it, and how many bytes before the name its refusal stands.
+struct Named(&'static str, &'static str, usize);
+
+impl Row for Named {
+    /// Whether a name of 64 bytes is accepted, and one of 65 is refused at its place.
+    fn is_so(&self, alloc: Global) -> Result<bool, Fail> {
+        let longest = with_name(alloc, self.0, 64, self.1)?;
+        let longer = with_name(alloc, self.0, 65, self.1)?;
+        let line = refusal(alloc, self.0.len().saturating_sub(self.2), 200)?;
+        Ok(is_said(alloc, &longest, "accepted\n")? && is_said(alloc, &longer, &line)?)
+    }
+}
+
+const NAMES: &[Named] = &[
+    Named(
+        "(pks 1) (domain (types ",
+        ") (predicates (p))) (problem (goal (k (p))))",
+        0,
+    ),
+    Named(
+        "(pks 1) (domain (types t) (objects (t ",
+        ")) (predicates (p))) (problem (goal (k (p))))",
+        0,
+    ),
+    Named(
+        "(pks 1) (domain (predicates (p) (",
+        "))) (problem (goal (k (p))))",
+        0,
+    ),
+    Named(
+        "(pks 1) (domain (types t) (objects (t a)) (functions (f t) (",
+        " t))) (problem (goal (kv (f))))",
+        0,
+    ),
+    Named(
+        "(pks 1) (domain (predicates (p)) (action ",
+        ")) (problem (goal (k (p))))",
+        0,
+    ),
+    Named(
+        "(pks 1) (domain (types t) (predicates (p)) (action a (params (?",
+        " t)))) (problem (goal (k (p))))",
+        1,
+    ),
+];
+
 #[test]
 fn names_have_at_most_64_bytes(rt: HostRuntime) -> Result<(), Fail> {
-    let alloc = rt.alloc();
-    let rows = [
-        (
-            "(pks 1) (domain (types ",
-            ") (predicates (p))) (problem (goal (k (p))))",
-            0,
-        ),
-        (
-            "(pks 1) (domain (types t) (objects (t ",
-            ")) (predicates (p))) (problem (goal (k (p))))",
-            0,
-        ),
-        (
-            "(pks 1) (domain (predicates (p) (",
-            "))) (problem (goal (k (p))))",
-            0,
-        ),
-        (
-            "(pks 1) (domain (types t) (objects (t a)) (functions (f t) (",
-            " t))) (problem (goal (kv (f))))",
-            0,
-        ),
-        (
-            "(pks 1) (domain (predicates (p)) (action ",
-            ")) (problem (goal (k (p))))",
-            0,
-        ),
-        (
-            "(pks 1) (domain (types t) (predicates (p)) (action a (params (?",
-            " t)))) (problem (goal (k (p))))",
-            1,
-        ),
-    ];
-    for (front, back, sign) in rows {
-        let longest = with_name(alloc, front, 64, back)?;
-        let longer = with_name(alloc, front, 65, back)?;
-        let line = refused(alloc, front.len().saturating_sub(sign), 200)?;
-        assert!(rt; is_said(alloc, &longest, "accepted\n")?, "in {front}");
-        assert!(rt; is_said(alloc, &longer, &line)?, "in {front}");
-    }
-    Ok(())
+    all_so(rt.alloc(), NAMES)
 }
+
+const OTHERS: &[Answered] = &[
+    Answered(
+        "check",
+        "(pks 2) (domain (predicates (p)) (action a (cost 9999))) (problem (goal (k (p))))",
+        Done,
+        "accepted\n",
+    ),
+    Answered(
+        "check",
+        "(pks 2) (domain (predicates (p)) (action a (cost 10000))) (problem (goal (k (p))))",
+        Refused,
+        "refused 1:50 208\n",
+    ),
+    Answered(
+        "check",
+        "(pks 1) (domain (types t) (objects (t a)) (predicates (p t t t))) (problem (init (lcw (p _ a _))) (goal (k (p a a a))))",
+        Done,
+        "accepted\n",
+    ),
+    Answered(
+        "check",
+        "(pks 1) (domain (types t) (objects (t a)) (predicates (p t t t))) (problem (init (lcw (p _ _ _))) (goal (k (p a a a))))",
+        Refused,
+        "refused 1:94 211\n",
+    ),
+    Answered(
+        "check",
+        "(pks 1) (domain (types t) (objects (t a)) (predicates (p t t t)) (action c (effects (clear (p _ a _))))) (problem (goal (k (p a a a))))",
+        Done,
+        "accepted\n",
+    ),
+    Answered(
+        "check",
+        "(pks 1) (domain (types t) (objects (t a)) (predicates (p t t t)) (action c (effects (clear (p _ _ _))))) (problem (goal (k (p a a a))))",
+        Refused,
+        "refused 1:99 211\n",
+    ),
+    Answered(
+        "check",
+        "(pks 1) (domain (types t) (objects (t a)) (predicates (p t t t)) (action c (senses (sense-all (p _ a _))))) (problem (goal (k (p a a a))))",
+        Done,
+        "accepted\n",
+    ),
+    Answered(
+        "check",
+        "(pks 1) (domain (types t) (objects (t a)) (predicates (p t t t)) (action c (senses (sense-all (p _ _ _))))) (problem (goal (k (p a a a))))",
+        Refused,
+        "refused 1:102 211\n",
+    ),
+    Answered("check", "((((((((((((", Refused, "refused 1:12 111\n"),
+    Answered("check", "(((((((((((((", Refused, "refused 1:13 113\n"),
+];
 
 #[test]
 fn other_limits(rt: HostRuntime) -> Result<(), Fail> {
-    let rows = [
-        (
-            "(pks 2) (domain (predicates (p)) (action a (cost 9999))) (problem (goal (k (p))))",
-            "accepted\n",
-        ),
-        (
-            "(pks 2) (domain (predicates (p)) (action a (cost 10000))) (problem (goal (k (p))))",
-            "refused 1:50 208\n",
-        ),
-        (
-            "(pks 1) (domain (types t) (objects (t a)) (predicates (p t t t))) (problem (init (lcw (p _ a _))) (goal (k (p a a a))))",
-            "accepted\n",
-        ),
-        (
-            "(pks 1) (domain (types t) (objects (t a)) (predicates (p t t t))) (problem (init (lcw (p _ _ _))) (goal (k (p a a a))))",
-            "refused 1:94 211\n",
-        ),
-        (
-            "(pks 1) (domain (types t) (objects (t a)) (predicates (p t t t)) (action c (effects (clear (p _ a _))))) (problem (goal (k (p a a a))))",
-            "accepted\n",
-        ),
-        (
-            "(pks 1) (domain (types t) (objects (t a)) (predicates (p t t t)) (action c (effects (clear (p _ _ _))))) (problem (goal (k (p a a a))))",
-            "refused 1:99 211\n",
-        ),
-        (
-            "(pks 1) (domain (types t) (objects (t a)) (predicates (p t t t)) (action c (senses (sense-all (p _ a _))))) (problem (goal (k (p a a a))))",
-            "accepted\n",
-        ),
-        (
-            "(pks 1) (domain (types t) (objects (t a)) (predicates (p t t t)) (action c (senses (sense-all (p _ _ _))))) (problem (goal (k (p a a a))))",
-            "refused 1:102 211\n",
-        ),
-        ("((((((((((((", "refused 1:12 111\n"),
-        ("(((((((((((((", "refused 1:13 113\n"),
-    ];
-    for (input, text) in rows {
-        assert!(rt; is_said(rt.alloc(), input, text)?, "in {input}");
+    all_so(rt.alloc(), OTHERS)
+}
+
+/// The door, and blanks up to so many bytes.
+fn padded_door(alloc: Global, len: usize) -> Result<Vec<u8>, AllocError> {
+    let mut bytes = DOOR.as_bytes().to_vec(alloc)?;
+    for _ in bytes.len()..len {
+        bytes.push(b' ')?;
     }
-    Ok(())
+    Ok(bytes)
+}
+
+/// How long the padded door is, the status and the whole answer.
+struct Padded(usize, Status, &'static str);
+
+impl Row for Padded {
+    fn is_so(&self, alloc: Global) -> Result<bool, Fail> {
+        let input = padded_door(alloc, self.0)?;
+        let (status, written) = run_over(alloc, "check", input.as_slice(), NOTHING)?;
+        Ok(status == self.1 && written.as_slice() == self.2.as_bytes())
+    }
+}
+
+const INPUTS: &[Padded] = &[
+    Padded(262_144, Done, "accepted\n"),
+    Padded(262_145, Refused, "refused 1:1 100\n"),
+];
+
+#[test]
+fn inputs_have_a_greatest_length(rt: HostRuntime) -> Result<(), Fail> {
+    all_so(rt.alloc(), INPUTS)
 }

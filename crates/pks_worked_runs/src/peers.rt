@@ -5,7 +5,8 @@ ghost use Rattle.pks_terms.specs.Trees.{depth};
 ghost use Rattle.pks_plan.specs.TreeViews.{tree_of};
 ghost use Rattle.pks_file.specs.Views.{IsWhole};
 
-use crate::dialogues::{LAWN, SAFE};
+use crate::files::{DOOR, GROUPS, LAWN, SAFE};
+use crate::rows::{Row, all_so};
 use pks_agent::{Answer, Heard, MemPeer, Peer, PeerFault, Room, TalkEnd, converse};
 use pks_answer::leads::{Lead, lead_about};
 use pks_exec::End;
@@ -14,11 +15,6 @@ use pks_plan::Tree;
 use pks_terms::sequence::Sequence;
 use std::alloc::{AllocError, Global};
 use std::test::Fail;
-
-const DOOR: &str = "(pks 1)
-(domain (predicates (open)))
-(problem (init (kf (open))) (goal (k (open))))
-";
 
 /// There are cases for two of the three objects.
 const VAULT: &str = "(pks 1)
@@ -32,12 +28,6 @@ const PAIR: &str = "(pks 1)
 (domain (types num) (objects (num c1 c2)) (predicates (turned num num)) (functions (left num) (right num))
   (action turn (params (?x num) (?y num)) (effects (set (turned ?x ?y))) (knows (kf (turned ?x ?y)))))
 (problem (init (kv (left)) (kv (right))) (goal (k (turned (left) (right)))))
-";
-
-/// What is true can't be.
-const GROUPS: &str = "(pks 1)
-(domain (predicates (r) (x) (u) (y) (v)))
-(problem (init (kx (r) (x) (u)) (kx (r) (y) (v)) (kx (x) (y)) (kw (r))) (goal (k (not (r)))))
 ";
 
 const BYTES_65: &str = "ccccccccccccccccccccccccccccccccccccccccccccccccccccccccccccccccc";
@@ -68,17 +58,13 @@ fn ended_by(ended: Result<End, TalkEnd>) -> Ending {
 
 /// A file, a depth and the answers.
 #[derive(Clone, Copy)]
-struct Caller {
-    file: &'static str,
-    depth: u8,
-    answers: &'static [&'static str],
-}
+struct Caller(&'static str, u8, &'static [&'static str]);
 
 impl Caller {
     /// A peer that gives the answers, and fails at this call.
     fn peer(&self, alloc: Global, failing: u32) -> Result<MemPeer, AllocError> {
         let mut answers = Vec::new(alloc);
-        for answer in self.answers {
+        for answer in self.2 {
             answers.push(answer.as_bytes().to_vec(alloc)?)?;
         }
         MemPeer::new(alloc, Sequence::of(answers), [failing].to_vec(alloc)?)
@@ -86,8 +72,8 @@ impl Caller {
 
     /// Leads the peer through the best plan of the file.
     fn lead(&self, alloc: Global, peer: &mut MemPeer) -> Result<Ending, Fail> {
-        let f = read(alloc, self.file)?;
-        let tree = best_plan(alloc, &f, self.depth)?;
+        let f = read(alloc, self.0)?;
+        let tree = best_plan(alloc, &f, self.1)?;
         let mut room = Room::new(alloc, &f.problem, &tree)?;
         Ok(ended_by(converse(&f.problem, &tree, peer, &mut room)))
     }
@@ -135,21 +121,21 @@ fn leaves(peer: &mut MemPeer, answers: &[&str]) -> bool {
     }
 }
 
-/// What is told, how that ends, and which answers are left.
-#[derive(Clone, Copy)]
-struct Row {
+/// A dialogue: what is told, how that ends, and which answers are left.
+struct Dialogue {
     caller: Caller,
     text: &'static str,
     end: Ending,
     left: &'static [&'static str],
 }
 
-/// Whether a dialogue is that of the row.
-fn is_led(alloc: Global, row: &Row) -> Result<bool, Fail> {
-    let mut peer = row.caller.peer(alloc, 0)?;
-    let end = row.caller.lead(alloc, &mut peer)?;
-    let told = peer.text() == row.text.as_bytes();
-    Ok(told && end == row.end && leaves(&mut peer, row.left))
+impl Row for Dialogue {
+    fn is_so(&self, alloc: Global) -> Result<bool, Fail> {
+        let mut peer = self.caller.peer(alloc, 0)?;
+        let end = self.caller.lead(alloc, &mut peer)?;
+        let told = peer.text() == self.text.as_bytes();
+        Ok(told && end == self.end && leaves(&mut peer, self.left))
+    }
 }
 
 const SAFE_TEXT: &str = "do (read)\nvalue (combo)\ndo (dial c3)\ngoal\n";
@@ -160,229 +146,174 @@ const LAWN_TEXT: &str = "do (pour)\ndo (look)\ntest (alive)\ngoal\n";
 
 const LAWN_FRONT: &str = "do (pour)\ndo (look)\ntest (alive)\n";
 
-fn safe_with(answers: &'static [&'static str]) -> Caller {
-    Caller {
-        file: SAFE,
-        depth: 2,
-        answers,
-    }
-}
-
-fn lawn_with(answers: &'static [&'static str]) -> Caller {
-    Caller {
-        file: LAWN,
-        depth: 3,
-        answers,
-    }
-}
+const LED: &[Dialogue] = &[
+    Dialogue {
+        caller: Caller(SAFE, 2, &["c3"]),
+        text: SAFE_TEXT,
+        end: Ending::Goal,
+        left: &[],
+    },
+    Dialogue {
+        caller: Caller(SAFE, 2, &["c3", "c4", BYTES_65]),
+        text: SAFE_TEXT,
+        end: Ending::Goal,
+        left: &["c4", BYTES_65],
+    },
+    Dialogue {
+        caller: Caller(SAFE, 2, &[]),
+        text: SAFE_FRONT,
+        end: Ending::Silent(1),
+        left: &[],
+    },
+    Dialogue {
+        caller: Caller(SAFE, 2, &["", "c3"]),
+        text: SAFE_FRONT,
+        end: Ending::Misfit(1),
+        left: &["c3"],
+    },
+    Dialogue {
+        caller: Caller(SAFE, 2, &["true"]),
+        text: SAFE_FRONT,
+        end: Ending::Misfit(1),
+        left: &[],
+    },
+    Dialogue {
+        caller: Caller(SAFE, 2, &[BYTES_65]),
+        text: SAFE_FRONT,
+        end: Ending::Misfit(1),
+        left: &[BYTES_65],
+    },
+    Dialogue {
+        caller: Caller(LAWN, 3, &["false"]),
+        text: LAWN_TEXT,
+        end: Ending::Goal,
+        left: &[],
+    },
+    Dialogue {
+        caller: Caller(LAWN, 3, &["true", "false"]),
+        text: LAWN_TEXT,
+        end: Ending::Goal,
+        left: &["false"],
+    },
+    Dialogue {
+        caller: Caller(LAWN, 3, &["maybe"]),
+        text: LAWN_FRONT,
+        end: Ending::Misfit(1),
+        left: &[],
+    },
+    Dialogue {
+        caller: Caller(LAWN, 3, &[]),
+        text: LAWN_FRONT,
+        end: Ending::Silent(1),
+        left: &[],
+    },
+];
 
 #[test]
 fn answers_lead_through_plans(rt: HostRuntime) -> Result<(), Fail> {
-    let rows = [
-        Row {
-            caller: safe_with(&["c3"]),
-            text: SAFE_TEXT,
-            end: Ending::Goal,
-            left: &[],
-        },
-        Row {
-            caller: safe_with(&["c3", "c4", BYTES_65]),
-            text: SAFE_TEXT,
-            end: Ending::Goal,
-            left: &["c4", BYTES_65],
-        },
-        Row {
-            caller: safe_with(&[]),
-            text: SAFE_FRONT,
-            end: Ending::Silent(1),
-            left: &[],
-        },
-        Row {
-            caller: safe_with(&["", "c3"]),
-            text: SAFE_FRONT,
-            end: Ending::Misfit(1),
-            left: &["c3"],
-        },
-        Row {
-            caller: safe_with(&["true"]),
-            text: SAFE_FRONT,
-            end: Ending::Misfit(1),
-            left: &[],
-        },
-        Row {
-            caller: safe_with(&[BYTES_65]),
-            text: SAFE_FRONT,
-            end: Ending::Misfit(1),
-            left: &[BYTES_65],
-        },
-        Row {
-            caller: lawn_with(&["false"]),
-            text: LAWN_TEXT,
-            end: Ending::Goal,
-            left: &[],
-        },
-        Row {
-            caller: lawn_with(&["true", "false"]),
-            text: LAWN_TEXT,
-            end: Ending::Goal,
-            left: &["false"],
-        },
-        Row {
-            caller: lawn_with(&["maybe"]),
-            text: LAWN_FRONT,
-            end: Ending::Misfit(1),
-            left: &[],
-        },
-        Row {
-            caller: lawn_with(&[]),
-            text: LAWN_FRONT,
-            end: Ending::Silent(1),
-            left: &[],
-        },
-    ];
-    for row in rows {
-        assert!(rt; is_led(rt.alloc(), &row)?, "{}", row.text);
-    }
-    Ok(())
+    all_so(rt.alloc(), LED)
 }
+
+const ENDED: &[Dialogue] = &[
+    Dialogue {
+        caller: Caller(DOOR, 0, &["c1"]),
+        text: "goal\n",
+        end: Ending::Goal,
+        left: &["c1"],
+    },
+    Dialogue {
+        caller: Caller(GROUPS, 1, &["true", "false"]),
+        text: "test (r)\nimpossible\n",
+        end: Ending::Impossible,
+        left: &["false"],
+    },
+    Dialogue {
+        caller: Caller(VAULT, 2, &["c3"]),
+        text: "value (combo)\ndo (press c3)\ngoal\n",
+        end: Ending::Goal,
+        left: &[],
+    },
+    Dialogue {
+        caller: Caller(VAULT, 2, &["c2", "c3"]),
+        text: "value (combo)\nno case\n",
+        end: Ending::NoCase,
+        left: &["c3"],
+    },
+    Dialogue {
+        caller: Caller(PAIR, 1, &["c2", "c1"]),
+        text: "value (left)\nvalue (right)\ndo (turn c2 c1)\ngoal\n",
+        end: Ending::Goal,
+        left: &[],
+    },
+    Dialogue {
+        caller: Caller(PAIR, 1, &["c2", "c3", "c1"]),
+        text: "value (left)\nvalue (right)\n",
+        end: Ending::Misfit(2),
+        left: &["c1"],
+    },
+    Dialogue {
+        caller: Caller(PAIR, 1, &["c2"]),
+        text: "value (left)\nvalue (right)\n",
+        end: Ending::Silent(2),
+        left: &[],
+    },
+];
 
 #[test]
 fn dialogues_end_at_each_leaf(rt: HostRuntime) -> Result<(), Fail> {
-    let rows = [
-        Row {
-            caller: Caller {
-                file: DOOR,
-                depth: 0,
-                answers: &["c1"],
-            },
-            text: "goal\n",
-            end: Ending::Goal,
-            left: &["c1"],
-        },
-        Row {
-            caller: Caller {
-                file: GROUPS,
-                depth: 1,
-                answers: &["true", "false"],
-            },
-            text: "test (r)\nimpossible\n",
-            end: Ending::Impossible,
-            left: &["false"],
-        },
-        Row {
-            caller: Caller {
-                file: VAULT,
-                depth: 2,
-                answers: &["c3"],
-            },
-            text: "value (combo)\ndo (press c3)\ngoal\n",
-            end: Ending::Goal,
-            left: &[],
-        },
-        Row {
-            caller: Caller {
-                file: VAULT,
-                depth: 2,
-                answers: &["c2", "c3"],
-            },
-            text: "value (combo)\nno case\n",
-            end: Ending::NoCase,
-            left: &["c3"],
-        },
-        Row {
-            caller: Caller {
-                file: PAIR,
-                depth: 1,
-                answers: &["c2", "c1"],
-            },
-            text: "value (left)\nvalue (right)\ndo (turn c2 c1)\ngoal\n",
-            end: Ending::Goal,
-            left: &[],
-        },
-        Row {
-            caller: Caller {
-                file: PAIR,
-                depth: 1,
-                answers: &["c2", "c3", "c1"],
-            },
-            text: "value (left)\nvalue (right)\n",
-            end: Ending::Misfit(2),
-            left: &["c1"],
-        },
-        Row {
-            caller: Caller {
-                file: PAIR,
-                depth: 1,
-                answers: &["c2"],
-            },
-            text: "value (left)\nvalue (right)\n",
-            end: Ending::Silent(2),
-            left: &[],
-        },
-    ];
-    for row in rows {
-        assert!(rt; is_led(rt.alloc(), &row)?, "{}", row.text);
-    }
-    Ok(())
+    all_so(rt.alloc(), ENDED)
 }
 
-/// Whether the dialogue with the safe ends so, where this call fails and there were so many before.
-fn breaks(
-    alloc: Global,
-    failing: u32,
-    before: usize,
-    end: Ending,
-    text: &str,
-) -> Result<bool, Fail> {
-    let caller = safe_with(&["c3"]);
-    let mut peer = caller.peer(alloc, failing)?;
-    let mut wanted = Vec::new(alloc);
-    for _ in 0..before {
-        let _ = peer.tell(b"");
-        wanted.push(b'\n')?;
+const SAFE_CALLER: Caller = Caller(SAFE, 2, &["c3"]);
+
+/// The call that fails in a dialogue with the safe, how many calls were made before, and how it ends with which text.
+struct Broken(u32, usize, Ending, &'static str);
+
+impl Row for Broken {
+    fn is_so(&self, alloc: Global) -> Result<bool, Fail> {
+        let mut peer = SAFE_CALLER.peer(alloc, self.0)?;
+        let mut wanted = Vec::new(alloc);
+        for _ in 0..self.1 {
+            let _ = peer.tell(b"");
+            wanted.push(b'\n')?;
+        }
+        wanted.extend_from_slice(self.3.as_bytes())?;
+        let end = SAFE_CALLER.lead(alloc, &mut peer)?;
+        Ok(end == self.2 && peer.text() == wanted.as_slice())
     }
-    wanted.extend_from_slice(text.as_bytes())?;
-    let ended = caller.lead(alloc, &mut peer)?;
-    Ok(ended == end && peer.text() == wanted.as_slice())
 }
+
+const AT_EACH_CALL: &[Broken] = &[
+    Broken(1, 0, Ending::Send, ""),
+    Broken(2, 0, Ending::Receive, "do (read)\n"),
+    Broken(3, 0, Ending::Send, SAFE_FRONT),
+    Broken(
+        4,
+        0,
+        Ending::Send,
+        "do (read)\nvalue (combo)\ndo (dial c3)\n",
+    ),
+    Broken(5, 0, Ending::Goal, SAFE_TEXT),
+    Broken(0, 92, Ending::Goal, SAFE_TEXT),
+    Broken(
+        0,
+        93,
+        Ending::Send,
+        "do (read)\nvalue (combo)\ndo (dial c3)\n",
+    ),
+    Broken(0, 94, Ending::Send, SAFE_FRONT),
+    Broken(0, 95, Ending::Receive, "do (read)\n"),
+    Broken(0, 96, Ending::Send, ""),
+];
 
 #[test]
 fn peers_fail_at_the_listed_call_and_behind_the_last(rt: HostRuntime) -> Result<(), Fail> {
-    let rows = [
-        (1u32, 0usize, Ending::Send, ""),
-        (2, 0, Ending::Receive, "do (read)\n"),
-        (3, 0, Ending::Send, SAFE_FRONT),
-        (
-            4,
-            0,
-            Ending::Send,
-            "do (read)\nvalue (combo)\ndo (dial c3)\n",
-        ),
-        (5, 0, Ending::Goal, SAFE_TEXT),
-        (0, 92, Ending::Goal, SAFE_TEXT),
-        (
-            0,
-            93,
-            Ending::Send,
-            "do (read)\nvalue (combo)\ndo (dial c3)\n",
-        ),
-        (0, 94, Ending::Send, SAFE_FRONT),
-        (0, 95, Ending::Receive, "do (read)\n"),
-        (0, 96, Ending::Send, ""),
-    ];
-    for (failing, before, end, text) in rows {
-        let alloc = rt.alloc();
-        assert!(rt;
-            breaks(alloc, failing, before, end, text)?,
-            "{failing} and {before}"
-        );
-    }
-    Ok(())
+    all_so(rt.alloc(), AT_EACH_CALL)
 }
 
 /// Whether a line of so many bytes is said, and one more is too much to tell and to ask, and leaves the text and the answer.
 fn says_at_most(alloc: Global, bytes: usize) -> Result<bool, AllocError> {
-    let mut peer = safe_with(&["c3"]).peer(alloc, 0)?;
+    let mut peer = SAFE_CALLER.peer(alloc, 0)?;
     let mut text = Vec::new(alloc);
     for _ in 0..bytes {
         text.push(b'a')?;

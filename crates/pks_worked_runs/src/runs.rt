@@ -1,7 +1,9 @@
 //! A run of the program over a source and a sink in memory.
+use crate::rows::Row;
 use pks_io::{MemSink, MemSource};
 use pks_run::{Status, run};
 use std::alloc::{AllocError, Global};
+use std::test::Fail;
 
 /// What ails the streams of a run.
 #[derive(Clone, Copy)]
@@ -21,20 +23,19 @@ pub(crate) const NOTHING: Ails = Ails {
     room: 600,
 };
 
-/// The program's name, a mode, and its number if there is one.
-pub(crate) fn words_of(alloc: Global, mode: &str, number: &str) -> Result<Vec<String>, AllocError> {
+/// The program's name and the words behind it.
+pub(crate) fn words_of(alloc: Global, text: &str) -> Result<Vec<String>, AllocError> {
     let mut words = Vec::new(alloc);
     words.push(String::from_str(alloc, "pks")?)?;
-    words.push(String::from_str(alloc, mode)?)?;
-    if !number.is_empty() {
-        words.push(String::from_str(alloc, number)?)?;
+    for word in text.split(' ') {
+        words.push(String::from_str(alloc, word)?)?;
     }
     Ok(words)
 }
 
 /// The input in pieces of 8 bytes.
-pub(crate) fn source_of(alloc: Global, input: &str, ails: Ails) -> Result<MemSource, AllocError> {
-    let bytes = input.as_bytes().to_vec(alloc)?;
+pub(crate) fn source_of(alloc: Global, input: &[u8], ails: Ails) -> Result<MemSource, AllocError> {
+    let bytes = input.to_vec(alloc)?;
     Ok(MemSource::new(bytes, 8, [ails.read].to_vec(alloc)?))
 }
 
@@ -46,12 +47,11 @@ pub(crate) fn sink_of(alloc: Global, ails: Ails) -> Result<MemSink, AllocError> 
 /// The status of a run, and what it wrote.
 pub(crate) fn run_over(
     alloc: Global,
-    mode: &str,
-    number: &str,
-    input: &str,
+    words: &str,
+    input: &[u8],
     ails: Ails,
 ) -> Result<(Status, Vec<u8>), AllocError> {
-    let words = words_of(alloc, mode, number)?;
+    let words = words_of(alloc, words)?;
     let mut source = source_of(alloc, input, ails)?;
     let mut sink = sink_of(alloc, ails)?;
     let status = run(alloc, words.as_slice(), &mut source, &mut sink);
@@ -61,6 +61,57 @@ pub(crate) fn run_over(
 
 /// Whether `check` says this of the input.
 pub(crate) fn is_said(alloc: Global, input: &str, text: &str) -> Result<bool, AllocError> {
-    let (_, written) = run_over(alloc, "check", "", input, NOTHING)?;
+    let (_, written) = run_over(alloc, "check", input.as_bytes(), NOTHING)?;
     Ok(written.as_slice() == text.as_bytes())
+}
+
+/// Words, a file, the status and the whole answer.
+pub(crate) struct Answered(
+    pub &'static str,
+    pub &'static str,
+    pub Status,
+    pub &'static str,
+);
+
+impl Answered {
+    /// What a run over such streams gives.
+    pub(crate) fn over(&self, alloc: Global, ails: Ails) -> Result<(Status, Vec<u8>), AllocError> {
+        run_over(alloc, self.0, self.1.as_bytes(), ails)
+    }
+
+    /// Whether this is the whole answer.
+    pub(crate) fn is_whole(&self, status: Status, written: &[u8]) -> bool {
+        status == self.2 && written == self.3.as_bytes()
+    }
+}
+
+impl Row for Answered {
+    fn is_so(&self, alloc: Global) -> Result<bool, Fail> {
+        let (status, written) = self.over(alloc, NOTHING)?;
+        Ok(self.is_whole(status, written.as_slice()))
+    }
+}
+
+/// One text behind another.
+pub(crate) fn joined(alloc: Global, front: &str, back: &str) -> Result<String, AllocError> {
+    let mut text = String::from_str(alloc, front)?;
+    text.push_str(back)?;
+    Ok(text)
+}
+
+/// Words, a file, what stands behind it, the status and the whole answer.
+pub(crate) struct Followed(
+    pub &'static str,
+    pub &'static str,
+    pub &'static str,
+    pub Status,
+    pub &'static str,
+);
+
+impl Row for Followed {
+    fn is_so(&self, alloc: Global) -> Result<bool, Fail> {
+        let input = joined(alloc, self.1, self.2)?;
+        let (status, written) = run_over(alloc, self.0, input.as_bytes(), NOTHING)?;
+        Ok(status == self.3 && written.as_slice() == self.4.as_bytes())
+    }
 }

@@ -1,10 +1,11 @@
-// Files whose answer would be another one if the search let go of too much of the past, and files that it ends with in time
-// since it lets go of some, since it keeps a table of failures, and since it doesn't look where nothing can be.
-use crate::Status;
-use crate::tests::answer_row;
+//! Files whose answer would be another one if the search let go of too much of the past, and files that it ends with in time
+//! since it lets go of some, since it keeps a table of failures, and since it doesn't look where nothing can be.
+use crate::rows::all_so;
+use crate::runs::Answered;
+use pks_run::Status::{Done, NoPlan};
 use std::test::Fail;
 
-// Whether the effect fired isn't known when it is done: a look at its condition tells it later, and so what the region has.
+/// Whether the effect fired isn't known when it is done: a look at its condition tells it later, and so what the region has.
 const OPEN_CONDITION: &str = "(pks 1)
 (domain (types t) (objects (t a b)) (predicates (q t) (c) (done))
   (action act (effects (when ((c)) (set (q a))) (set (done))) (knows (kf (done))))
@@ -30,7 +31,7 @@ false
     goal
 ";
 
-// What a place was isn't known when it is assigned, and is learnt later.
+/// What a place was isn't known when it is assigned, and is learnt later.
 const UNKNOWN_PLACE: &str = "(pks 1)
 (domain (types t) (objects (t a b d)) (predicates (q t)) (functions (h t) (f t))
   (action act (effects (assign (f) a)) (knows (kf (= (f) a)))))
@@ -48,7 +49,7 @@ case d
   goal
 ";
 
-// A condition that is so by a region alone doesn't stay so when the region is lost.
+/// A condition that is so by a region alone doesn't stay so when the region is lost.
 const LOST_REGION: &str = "(pks 1)
 (domain (types t) (objects (t a b d)) (predicates (q t) (p) (r) (done)) (functions (f t))
   (action act (effects (when ((not (q a))) (set (p)))) (knows (if ((k (not (q a)))) (kf (p)))))
@@ -68,8 +69,8 @@ false
   goal
 ";
 
-// One place may have been assigned twice, and the values that it was given aren't known: it is learnt later that they are
-// equal, and that can't be.
+/// One place may have been assigned twice, and the values that it was given aren't known: it is learnt later that they are
+/// equal, and that can't be.
 const TWO_VALUES: &str = "(pks 1)
 (domain (types t) (objects (t a b d)) (predicates (c) (done)) (functions (g t) (h t) (f t))
   (action act
@@ -91,7 +92,7 @@ false
   goal
 ";
 
-// Eight lamps: 40,320 orders in which to light them, and 256 ways in which they may be lit.
+/// Eight lamps: 40,320 orders in which to light them, and 256 ways in which they may be lit.
 const LAMPS: &str = "(pks 1)
 (domain (types lamp) (objects (lamp a b c d e f g h)) (predicates (lit lamp))
   (action light (params (?l lamp)) (effects (set (lit ?l))) (knows (kf (lit ?l)))))
@@ -114,64 +115,53 @@ const LAMPS_PLAN: &str = "plan depth 8
 goal
 ";
 
-// Eleven formulas to branch on, in any order, and a goal that none of them tells. It asks for no literal, so no bound is counted.
+/// Eleven formulas to branch on, in any order, and a goal that none of them tells. It asks for no literal, so no bound is counted.
 const ELEVEN: &str = "(pks 1)
 (domain (predicates (p1) (p2) (p3) (p4) (p5) (p6) (p7) (p8) (p9) (p10) (p11) (g)))
 (problem (init (kw (p1)) (kw (p2)) (kw (p3)) (kw (p4)) (kw (p5)) (kw (p6))
   (kw (p7)) (kw (p8)) (kw (p9)) (kw (p10)) (kw (p11))) (goal (kw (g))))
 ";
 
-// Sixteen lamps, and a goal that no action makes true.
+/// Sixteen lamps, and a goal that no action makes true.
 const NO_LAMP: &str = "(pks 1)
 (domain (types lamp) (objects (lamp a b c d e f g h i j k l m n o p)) (predicates (lit lamp) (dawn))
   (action light (params (?l lamp)) (effects (set (lit ?l))) (knows (kf (lit ?l)))))
 (problem (init) (goal (k (dawn))))
 ";
 
+const KEPT: &[Answered] = &[
+    Answered("plan 4", OPEN_CONDITION, NoPlan, "none to depth 4\n"),
+    Answered("plan 5", OPEN_CONDITION, Done, OPEN_CONDITION_PLAN),
+    Answered("plan 1", UNKNOWN_PLACE, NoPlan, "none to depth 1\n"),
+    Answered("plan 2", UNKNOWN_PLACE, Done, UNKNOWN_PLACE_PLAN),
+    Answered("plan 3", LOST_REGION, NoPlan, "none to depth 3\n"),
+    Answered("plan 4", LOST_REGION, Done, LOST_REGION_PLAN),
+    Answered("plan 2", TWO_VALUES, NoPlan, "none to depth 2\n"),
+    Answered("plan 3", TWO_VALUES, Done, TWO_VALUES_PLAN),
+];
+
 #[test]
 fn what_the_past_may_tell_is_kept(rt: HostRuntime) -> Result<(), Fail> {
-    let alloc = rt.alloc();
-    let rows = [
-        ("4", OPEN_CONDITION, Status::NoPlan, "none to depth 4\n"),
-        ("5", OPEN_CONDITION, Status::Done, OPEN_CONDITION_PLAN),
-        ("1", UNKNOWN_PLACE, Status::NoPlan, "none to depth 1\n"),
-        ("2", UNKNOWN_PLACE, Status::Done, UNKNOWN_PLACE_PLAN),
-        ("3", LOST_REGION, Status::NoPlan, "none to depth 3\n"),
-        ("4", LOST_REGION, Status::Done, LOST_REGION_PLAN),
-        ("2", TWO_VALUES, Status::NoPlan, "none to depth 2\n"),
-        ("3", TWO_VALUES, Status::Done, TWO_VALUES_PLAN),
-    ];
-    for (depth, input, status, text) in rows {
-        let (got, written) = answer_row(alloc, "plan", depth, input)?;
-        assert_eq!(rt; got, status);
-        assert_eq!(rt; written.as_slice(), text.as_bytes());
-    }
-    Ok(())
+    all_so(rt.alloc(), KEPT)
 }
+
+const SAME_ORDERS: &[Answered] = &[Answered("plan 8", LAMPS, Done, LAMPS_PLAN)];
 
 #[test]
 fn orders_that_come_to_the_same(rt: HostRuntime) -> Result<(), Fail> {
-    let alloc = rt.alloc();
-    let (got, written) = answer_row(alloc, "plan", "8", LAMPS)?;
-    assert_eq!(rt; got, Status::Done);
-    assert_eq!(rt; written.as_slice(), LAMPS_PLAN.as_bytes());
-    Ok(())
+    all_so(rt.alloc(), SAME_ORDERS)
 }
+
+const FAILED: &[Answered] = &[Answered("plan 11", ELEVEN, NoPlan, "none to depth 11\n")];
 
 #[test]
 fn what_failed_is_not_searched_again(rt: HostRuntime) -> Result<(), Fail> {
-    let alloc = rt.alloc();
-    let (got, written) = answer_row(alloc, "plan", "11", ELEVEN)?;
-    assert_eq!(rt; got, Status::NoPlan);
-    assert_eq!(rt; written.as_slice(), "none to depth 11\n".as_bytes());
-    Ok(())
+    all_so(rt.alloc(), FAILED)
 }
+
+const IMPOSSIBLE: &[Answered] = &[Answered("plan 16", NO_LAMP, NoPlan, "none to depth 16\n")];
 
 #[test]
 fn what_cannot_be_is_not_looked_for(rt: HostRuntime) -> Result<(), Fail> {
-    let alloc = rt.alloc();
-    let (got, written) = answer_row(alloc, "plan", "16", NO_LAMP)?;
-    assert_eq!(rt; got, Status::NoPlan);
-    assert_eq!(rt; written.as_slice(), "none to depth 16\n".as_bytes());
-    Ok(())
+    all_so(rt.alloc(), IMPOSSIBLE)
 }

@@ -1,8 +1,14 @@
-// The worked files, and the texts that they give.
+//! The worked files, and the texts that they give.
 
 pub const DOOR: &str = "(pks 1)
 (domain (predicates (open)))
 (problem (init (kf (open))) (goal (k (open))))
+";
+
+pub const DOOR_WORLD: &str = "(pks 1)
+(domain (predicates (open)))
+(problem (init (kf (open))) (goal (k (open))))
+(world (true (open)))
 ";
 
 pub const DOOR_WITHOUT_INIT: &str = "(pks 1)
@@ -363,6 +369,13 @@ pub const HOUSE_WORLD: &str = "(pks 1)
     ((loc box) study)))
 ";
 
+pub const USAGE: &str =
+    "usage: pks check | plan DEPTH | exec DEPTH | bench N | recall DEPTH | agent DEPTH | explain DEPTH | derive | shared DEPTH\n";
+
+pub const EMPTY_PLAN: &str = "plan depth 0
+goal
+";
+
 pub const SAFE_PLAN: &str = "plan depth 2
 (read)
 (dial (combo))
@@ -547,7 +560,7 @@ pub const LAWN_ALWAYS: &str = "(pks 2)
 (problem (init (kf (alive))) (goal (always (k (alive))) (kw (poison))))
 ";
 
-// What is seen is two moments after the pouring.
+/// What is seen is two moments after the pouring.
 pub const RESTED_LAWN: &str = "(pks 2)
 (domain
   (predicates (alive) (poison) (rested))

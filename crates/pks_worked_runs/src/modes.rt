@@ -1,7 +1,10 @@
-// What the modes beside planning and running print, by whole runs.
-use crate::Status;
-use crate::rows::{BOTH, DIG, DOOR, GROUPS, LAWN, LAWN_PLAN, LAWN_WORLD_POISON, SAFE, TUBS};
-use crate::tests::{USAGE, answer_row};
+//! What the modes beside planning and running print, by whole runs.
+use crate::files::{
+    BOTH, DIG, DOOR, GROUPS, LAWN, LAWN_PLAN, LAWN_WORLD_POISON, SAFE, TUBS, USAGE,
+};
+use crate::rows::all_so;
+use crate::runs::Answered;
+use pks_run::Status::{Done, NoPlan, Refused, Words};
 use std::test::Fail;
 
 const LAWN_RECALL: &str = "plan depth 3
@@ -54,7 +57,7 @@ moment 0
 (open)
 ";
 
-// A vault with two keys.
+/// A vault with two keys.
 const VAULT: &str = "(pks 1)
 (domain
   (types num)
@@ -100,32 +103,27 @@ moment 1
 (= (combo) c2)
 ";
 
+const RECALLED: &[Answered] = &[
+    Answered("recall 3", LAWN, Done, LAWN_RECALL),
+    Answered("recall 3", LAWN_WORLD_POISON, Done, LAWN_RECALL),
+    Answered("recall 2", LAWN, NoPlan, "none to depth 2\n"),
+    Answered("recall 1", GROUPS, Done, GROUPS_RECALL),
+    Answered("recall 0", DOOR, Done, DOOR_RECALL),
+    Answered("recall 2", VAULT, Done, VAULT_RECALL),
+    Answered("recall 3", BOTH, Refused, "refused 3:10 270\n"),
+    Answered(
+        "recall 2",
+        DIG,
+        Refused,
+        "refused 6:21 260 action dig effect 2\n",
+    ),
+    Answered("recall 17", DOOR, Words, USAGE),
+    Answered("recall", DOOR, Words, USAGE),
+];
+
 #[test]
 fn what_each_leaf_recalls(rt: HostRuntime) -> Result<(), Fail> {
-    let alloc = rt.alloc();
-    let rows = [
-        ("3", LAWN, Status::Done, LAWN_RECALL),
-        ("3", LAWN_WORLD_POISON, Status::Done, LAWN_RECALL),
-        ("2", LAWN, Status::NoPlan, "none to depth 2\n"),
-        ("1", GROUPS, Status::Done, GROUPS_RECALL),
-        ("0", DOOR, Status::Done, DOOR_RECALL),
-        ("2", VAULT, Status::Done, VAULT_RECALL),
-        ("3", BOTH, Status::Refused, "refused 3:10 270\n"),
-        (
-            "2",
-            DIG,
-            Status::Refused,
-            "refused 6:21 260 action dig effect 2\n",
-        ),
-        ("17", DOOR, Status::Words, USAGE),
-        ("", DOOR, Status::Words, USAGE),
-    ];
-    for (depth, input, status, text) in rows {
-        let (got, written) = answer_row(alloc, "recall", depth, input)?;
-        assert_eq!(rt; got, status);
-        assert_eq!(rt; written.as_slice(), text.as_bytes());
-    }
-    Ok(())
+    all_so(rt.alloc(), RECALLED)
 }
 
 const DOOR_EXPLAIN: &str = "plan depth 0
@@ -166,7 +164,7 @@ known (ajar)
 1 moment 1 (ajar) effect
 ";
 
-// The lawn, and seed that may be sown where there is known to be poison.
+/// The lawn, and seed that may be sown where there is known to be poison.
 const SOWN: &str = "(pks 1)
 (domain
   (predicates (alive) (poison))
@@ -198,34 +196,29 @@ known (alive)
 1 moment 3 (alive) effect
 ";
 
+const EXPLAINED: &[Answered] = &[
+    Answered("explain 0", DOOR, Done, DOOR_EXPLAIN),
+    Answered("explain 3", LAWN, Done, LAWN_PLAN),
+    Answered("explain 3", LAWN_WORLD_POISON, Done, LAWN_PLAN),
+    Answered("explain 2", LAWN, NoPlan, "none to depth 2\n"),
+    Answered("explain 1", GROUPS, Done, GROUPS_EXPLAIN),
+    Answered("explain 2", VAULT, Done, VAULT_EXPLAIN),
+    Answered("explain 4", SOWN, Done, SOWN_EXPLAIN),
+    Answered("explain 3", BOTH, Refused, "refused 3:10 270\n"),
+    Answered(
+        "explain 2",
+        DIG,
+        Refused,
+        "refused 6:21 260 action dig effect 2\n",
+    ),
+    Answered("explain 17", DOOR, Words, USAGE),
+    Answered("explain 03", DOOR, Words, USAGE),
+    Answered("explain", DOOR, Words, USAGE),
+];
+
 #[test]
 fn what_a_plan_rests_on(rt: HostRuntime) -> Result<(), Fail> {
-    let alloc = rt.alloc();
-    let rows = [
-        ("0", DOOR, Status::Done, DOOR_EXPLAIN),
-        ("3", LAWN, Status::Done, LAWN_PLAN),
-        ("3", LAWN_WORLD_POISON, Status::Done, LAWN_PLAN),
-        ("2", LAWN, Status::NoPlan, "none to depth 2\n"),
-        ("1", GROUPS, Status::Done, GROUPS_EXPLAIN),
-        ("2", VAULT, Status::Done, VAULT_EXPLAIN),
-        ("4", SOWN, Status::Done, SOWN_EXPLAIN),
-        ("3", BOTH, Status::Refused, "refused 3:10 270\n"),
-        (
-            "2",
-            DIG,
-            Status::Refused,
-            "refused 6:21 260 action dig effect 2\n",
-        ),
-        ("17", DOOR, Status::Words, USAGE),
-        ("03", DOOR, Status::Words, USAGE),
-        ("", DOOR, Status::Words, USAGE),
-    ];
-    for (depth, input, status, text) in rows {
-        let (got, written) = answer_row(alloc, "explain", depth, input)?;
-        assert_eq!(rt; got, status);
-        assert_eq!(rt; written.as_slice(), text.as_bytes());
-    }
-    Ok(())
+    all_so(rt.alloc(), EXPLAINED)
 }
 
 const LAWN_DERIVE: &str = "action pour
@@ -250,7 +243,7 @@ action splash
 (kf (splashed))
 ";
 
-// An action whose first effect may be undone by the second, which sets what the third sets too, and whose value isn't known.
+/// An action whose first effect may be undone by the second, which sets what the third sets too, and whose value isn't known.
 const UNDONE: &str = "(pks 1)
 (domain
   (types t)
@@ -271,30 +264,25 @@ const UNDONE_DERIVE: &str = "action act
 (kw (p b) (q))
 ";
 
+const DERIVED: &[Answered] = &[
+    Answered("derive", LAWN, Done, LAWN_DERIVE),
+    Answered("derive", DOOR, Done, ""),
+    Answered("derive", SAFE, Done, SAFE_DERIVE),
+    Answered("derive", TUBS, Done, TUBS_DERIVE),
+    Answered("derive", UNDONE, Done, UNDONE_DERIVE),
+    Answered("derive", BOTH, Refused, "refused 3:10 270\n"),
+    Answered(
+        "derive",
+        DIG,
+        Refused,
+        "refused 6:21 260 action dig effect 2\n",
+    ),
+    Answered("derive 3", LAWN, Words, USAGE),
+];
+
 #[test]
 fn what_actions_tell_by_their_text(rt: HostRuntime) -> Result<(), Fail> {
-    let alloc = rt.alloc();
-    let rows = [
-        ("", LAWN, Status::Done, LAWN_DERIVE),
-        ("", DOOR, Status::Done, ""),
-        ("", SAFE, Status::Done, SAFE_DERIVE),
-        ("", TUBS, Status::Done, TUBS_DERIVE),
-        ("", UNDONE, Status::Done, UNDONE_DERIVE),
-        ("", BOTH, Status::Refused, "refused 3:10 270\n"),
-        (
-            "",
-            DIG,
-            Status::Refused,
-            "refused 6:21 260 action dig effect 2\n",
-        ),
-        ("3", LAWN, Status::Words, USAGE),
-    ];
-    for (number, input, status, text) in rows {
-        let (got, written) = answer_row(alloc, "derive", number, input)?;
-        assert_eq!(rt; got, status);
-        assert_eq!(rt; written.as_slice(), text.as_bytes());
-    }
-    Ok(())
+    all_so(rt.alloc(), DERIVED)
 }
 
 const LAWN_SHARED: &str = "plan depth 3 nodes 4
@@ -317,22 +305,17 @@ const VAULT_SHARED: &str = "plan depth 2 nodes 4
 4 cases (combo) c1 2 c2 3
 ";
 
+const SHARED: &[Answered] = &[
+    Answered("shared 3", LAWN, Done, LAWN_SHARED),
+    Answered("shared 2", LAWN, NoPlan, "none to depth 2\n"),
+    Answered("shared 0", DOOR, Done, "plan depth 0 nodes 1\n1 goal\n"),
+    Answered("shared 1", GROUPS, Done, GROUPS_SHARED),
+    Answered("shared 2", VAULT, Done, VAULT_SHARED),
+    Answered("shared 3", BOTH, Refused, "refused 3:10 270\n"),
+    Answered("shared", DOOR, Words, USAGE),
+];
+
 #[test]
 fn plans_whose_equal_parts_stand_once(rt: HostRuntime) -> Result<(), Fail> {
-    let alloc = rt.alloc();
-    let rows = [
-        ("3", LAWN, Status::Done, LAWN_SHARED),
-        ("2", LAWN, Status::NoPlan, "none to depth 2\n"),
-        ("0", DOOR, Status::Done, "plan depth 0 nodes 1\n1 goal\n"),
-        ("1", GROUPS, Status::Done, GROUPS_SHARED),
-        ("2", VAULT, Status::Done, VAULT_SHARED),
-        ("3", BOTH, Status::Refused, "refused 3:10 270\n"),
-        ("", DOOR, Status::Words, USAGE),
-    ];
-    for (depth, input, status, text) in rows {
-        let (got, written) = answer_row(alloc, "shared", depth, input)?;
-        assert_eq!(rt; got, status);
-        assert_eq!(rt; written.as_slice(), text.as_bytes());
-    }
-    Ok(())
+    all_so(rt.alloc(), SHARED)
 }
