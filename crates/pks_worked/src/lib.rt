@@ -3,6 +3,8 @@
 #![tactic(auto)]
 
 #[cfg(test)]
+mod clashing;
+#[cfg(test)]
 mod domains;
 #[cfg(test)]
 mod occurrences;

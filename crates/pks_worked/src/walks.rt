@@ -105,7 +105,12 @@ fn chosen(alloc: Global, p: &Problem<'_>, all: &[Choice], wanted: &str) -> Resul
 }
 
 /// The choice of this line at the last moment.
-fn offered(alloc: Global, p: &Problem<'_>, h: &History, wanted: &str) -> Result<Choice, Fail>
+pub(crate) fn offered(
+    alloc: Global,
+    p: &Problem<'_>,
+    h: &History,
+    wanted: &str,
+) -> Result<Choice, Fail>
     requires { IsValidProblem p.now }
     ensures { IfOk result (λ c. IsIn (choice_of c) (choices (problem_of p.now) (last_moment h.now))) }
 {
@@ -145,7 +150,7 @@ fn longer(alloc: Global, p: &Problem<'_>, h: History, actions: &[&str]) -> Resul
 }
 
 /// The history of these actions, at most 16, from the first databases.
-fn walked(alloc: Global, p: &Problem<'_>, actions: &[&str]) -> Result<History, Fail>
+pub(crate) fn walked(alloc: Global, p: &Problem<'_>, actions: &[&str]) -> Result<History, Fail>
     requires valid { IsValidProblem p.now }
     requires justified { AllJustified (problem_of p.now) }
     ensures moments { IfOk result (λ g. AreMomentsOf (problem_of p.now) g) }
