@@ -59,6 +59,7 @@ impl Ahead {
         ensures byte { GivesByte (coming self.old (S.left source.old)) (coming self.new (S.left source.new)) result }
         ensures cause { HasCause (S.faults source.old) (S.faults source.new) result }
         ensures quiet { OnOk result (S.faults source.new ≡ S.faults source.old) }
+        ensures spared { (ahead_of self.old ≡ [] → ⊥) → source.new ≡ source.old }
     {
         match self.pop() {
             Some(byte) => Ok(Some(byte)),

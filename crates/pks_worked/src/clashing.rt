@@ -4,13 +4,14 @@ ghost use Rattle.pks_terms.specs.ValidProblems.{IsValidProblem};
 ghost use Rattle.pks_terms.specs.Views.{problem_of};
 ghost use Rattle.pks_terms.specs.Moments.{AreMomentsOf};
 
-use crate::walks::{offered, read, walked};
-use pks_choices::Choice;
+use crate::domains::SUNNY_LAWN;
+use crate::walks::{offered, read, text, walked};
+use pks_choices::{Choice, Side};
 use pks_history::histories::History;
 use pks_progress::progressing::progress;
 use pks_query::databases::Step;
 use pks_terms::problem::Problem;
-use pks_walk::states::{State, start};
+use pks_walk::states::{State, start, taking};
 use std::alloc::Global;
 use std::test::Fail;
 
@@ -64,6 +65,33 @@ fn is_stopped(alloc: Global, text: &str) -> Result<bool, Fail> {
     }
 }
 
+/// Whether a plan can't go on at the false side of a branch.
+fn is_closed(alloc: Global, p: &Problem<'_>, h: &History, wanted: &str) -> Result<bool, Fail>
+    requires valid { IsValidProblem p.now }
+    requires moments { AreMomentsOf (problem_of p.now) h.now }
+{
+    let c = offered(alloc, p, h, wanted)?;
+    let Choice::Branch(_) = c else {
+        return Err(Fail::new("the choice is no branch"));
+    };
+    match taking(alloc, p, h, &c, Side::False)? {
+        State::Stopped => Ok(true),
+        State::At(_) => Ok(false),
+    }
+}
+
+/// The same after actions, in a file.
+fn is_closed_after(
+    alloc: Global,
+    text: &str,
+    actions: &[&str],
+    wanted: &str,
+) -> Result<bool, Fail> {
+    let p = read(alloc, text)?;
+    let h = walked(alloc, &p, actions)?;
+    is_closed(alloc, &p, &h, wanted)
+}
+
 #[test]
 fn an_action_after_which_nothing_can_be(rt: HostRuntime) -> Result<(), Fail> {
     assert!(rt; clashes_in(rt.alloc(), SPOT, "(mark)")?);
@@ -73,5 +101,13 @@ fn an_action_after_which_nothing_can_be(rt: HostRuntime) -> Result<(), Fail> {
 #[test]
 fn a_start_that_could_not_be(rt: HostRuntime) -> Result<(), Fail> {
     assert!(rt; is_stopped(rt.alloc(), BOTH)?);
+    Ok(())
+}
+
+#[test]
+fn a_side_whose_past_could_not_be(rt: HostRuntime) -> Result<(), Fail> {
+    let text = text(rt.alloc(), &SUNNY_LAWN, "(kf (alive))")?;
+    let actions = &["(pour)", "(look)"];
+    assert!(rt; is_closed_after(rt.alloc(), &text, actions, "branch (alive)")?);
     Ok(())
 }

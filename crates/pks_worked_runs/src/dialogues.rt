@@ -116,6 +116,26 @@ fn questions_go_out_before_answers_are_read(rt: HostRuntime) -> Result<(), Fail>
     Ok(())
 }
 
+/// An answer of 65 bytes, which is given in one piece with the file; the call behind it is for what follows.
+fn is_refused_at_once(alloc: Global, file: &str) -> Result<bool, AllocError> {
+    let mut input = joined(alloc, file, ".\n")?;
+    for _ in 0..65 {
+        input.push_str("c")?;
+    }
+    let Ok(piece) = u32::try_from(input.len()) else {
+        return Ok(false);
+    };
+    let (status, written) = led_until(alloc, input.as_str(), piece, 2)?;
+    Ok(status == Refused
+        && written.as_slice() == b"do (read)\nvalue (combo)\nrefused 13:1 320\n".as_slice())
+}
+
+#[test]
+fn nothing_is_read_behind_a_long_answer(rt: HostRuntime) -> Result<(), Fail> {
+    assert!(rt; is_refused_at_once(rt.alloc(), SAFE)?);
+    Ok(())
+}
+
 /// Whether each fault of the sink leaves a front of the dialogue.
 fn writes_fronts(alloc: Global, text: &[u8]) -> Result<bool, AllocError> {
     let input = joined(alloc, SAFE, ".\nc3\n")?;
