@@ -32,14 +32,15 @@ NEEDED = ("STORE", "Crate", "Kept", "edits_of", "free", "in_lanes", "main", "nee
 # What the slow crates take, and what each other one is taken for, in processor seconds: for the order alone. (`pks_agent`, of which
 # little stands above, is to be done when the last but one begins.)
 SECONDS = {
-    "pks": 150, "pks_agent": 250, "pks_answer": 140, "pks_branch": 140, "pks_checker": 130, "pks_cited": 160,
-    "pks_closing": 220, "pks_dag": 90, "pks_derive": 100, "pks_derived": 110, "pks_domain": 160, "pks_effects": 120,
-    "pks_exec": 100, "pks_explain": 170, "pks_facts": 110, "pks_initial": 80, "pks_lines": 230, "pks_meaning": 100,
-    "pks_moment": 190, "pks_needs": 130, "pks_plan": 120, "pks_pmap": 210, "pks_postdict": 120, "pks_progress": 180,
-    "pks_query": 100, "pks_replay": 190, "pks_run": 120, "pks_search": 150, "pks_settled_past": 100, "pks_stated": 260,
-    "pks_step_rules": 150, "pks_uses": 90,
+    "pks": 150, "pks_adds": 80, "pks_agent": 250, "pks_answer": 130, "pks_branch": 130, "pks_checker": 130, "pks_cited": 140,
+    "pks_closing": 240, "pks_dag": 90, "pks_derive": 110, "pks_derived": 90, "pks_domain": 150, "pks_effects": 120,
+    "pks_exec": 100, "pks_explain": 170, "pks_facts": 100, "pks_history": 70, "pks_initial": 70, "pks_justify": 70,
+    "pks_lines": 220, "pks_meaning": 110, "pks_moment": 150, "pks_needs": 100, "pks_normal": 80, "pks_plan": 110,
+    "pks_pmap": 220, "pks_postdict": 110, "pks_progress": 170, "pks_query": 90, "pks_recall": 80, "pks_replay": 200,
+    "pks_run": 110, "pks_search": 160, "pks_settled_past": 100, "pks_stated": 200, "pks_step_rules": 130, "pks_terms": 70,
+    "pks_uses": 70, "pks_witness": 80, "pks_words": 70, "pks_world": 90,
 }
-SECONDS_OF_OTHERS = 50
+SECONDS_OF_OTHERS = 30
 
 # Seconds for those crates to begin that begin with another.
 MOMENT = 0.2
