@@ -126,8 +126,10 @@ fn is_refused_at_once(alloc: Global, file: &str) -> Result<bool, AllocError> {
         return Ok(false);
     };
     let (status, written) = led_until(alloc, input.as_str(), piece, 2)?;
-    Ok(status == Refused
-        && written.as_slice() == b"do (read)\nvalue (combo)\nrefused 13:1 320\n".as_slice())
+    Ok(
+        status == Refused
+            && written.as_slice() == b"do (read)\nvalue (combo)\nrefused 13:1 320\n".as_slice(),
+    )
 }
 
 #[test]
