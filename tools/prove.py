@@ -9,7 +9,8 @@ there are processors and memory, first those with the longest chain above them. 
 of another's proofs.
 
 The program goes through the steps of `rt ci`, but for edits, tests and its second compiler: each crate is proved over the statements of those below,
-and what is proved is kept where `rt ci` keeps it, so that the gate takes what this proved, and this what the gate proved.
+and libraries are kept where `rt ci` keeps them, so that the gate takes those that this proved, and this all that the gate proved.
+The program, which one compiler alone has built, isn't kept there.
 `rt check` and `rt try` keep libraries of their own, whole ones, in each crate's out/. The first fault ends either.
 """
 
