@@ -37,7 +37,7 @@ fail() {
 }
 
 build() {
-    say "proving and building the program: two processor hours from nothing, half an hour or more on four cores. Later calls run it at once."
+    say "proving and building the program: one and a half to two processor hours from nothing, about half an hour on four cores. Later calls run it at once."
     say "./pks try WORDS < FILE runs it unproved, in about a minute."
     rm -f "$program"
     python3 "$top/tools/prove.py" pks </dev/null || fail

@@ -6,4 +6,3 @@ pub mod Leading
 pub mod Memory
 pub mod Rooms
 pub mod Streams
-pub mod Wires

@@ -1,5 +1,5 @@
 //! A source and a sink as a peer.
-ghost use Rattle.std.specs.Prelude.{◌≡◌, ◌≤◌, [], ◌∷◌, IfOk, IfSome, OnOk, OnErr, length, vec_len};
+ghost use Rattle.std.specs.Prelude.{◌≡◌, ◌≤◌, [], ◌∷◌, IfSome, OnOk, OnErr, length};
 ghost use Rattle.std.specs.Io.KnownBytes.{Appends};
 ghost use Rattle.pks_io.specs.Causes.{HasCause};
 ghost use Rattle.pks_io.specs.Writing.{AppendsFront};
@@ -10,22 +10,19 @@ ghost use Rattle.pks_plan.specs.TreeViews.{tree_of};
 ghost use Rattle.pks_agent.specs.Leading.{Led, HasTalkCause};
 ghost use Rattle.pks_agent.specs.Rooms.{IsRoomOf};
 ghost use Rattle.pks_agent.specs.Streams.{coming, answers_coming};
-ghost use Rattle.pks_agent.specs.Wires.{BeginsWith};
 ghost use Rattle.pks_agent.specs.declared.ahead.Ahead.{Ahead};
 
 use crate::ahead::Ahead;
 use crate::answers::Answer;
 use crate::dialogue::converse;
 use crate::ends::TalkEnd;
-use crate::files::read_file_text;
 use crate::hearing::hear;
 use crate::peers::{Heard, Peer, PeerFault};
 use crate::rooms::Room;
 use pks_exec::End;
-use pks_io::{ReadEnd, Sink, SinkFailed, Source, write_all};
+use pks_io::{Sink, SinkFailed, Source, write_all};
 use pks_plan::Tree;
 use pks_terms::problem::Problem;
-use std::alloc::Global;
 
 /// A caller who is told lines through a sink and whose answers come from a source, each up to a line feed. A line is given to the sink
 /// whole, and only then is the source asked for the answer.
@@ -50,8 +47,8 @@ fn say<K: Sink>(sink: &mut K, text: &[u8]) -> Result<(), SinkFailed>
 }
 
 impl<'a, 'b, S: Source, K: Sink> Wire<'a, 'b, S, K> {
-    /// A dialogue whose answers begin with what was read ahead.
-    pub(crate) fn over(ahead: Ahead, source: &'a mut S, sink: &'b mut K) -> Wire<'a, 'b, S, K>
+    /// A caller at the source and the sink, whose answers begin with what `read_file_text` read ahead from that source.
+    pub fn over(ahead: Ahead, source: &'a mut S, sink: &'b mut K) -> Wire<'a, 'b, S, K>
         ensures ahead { result.ahead ≡ ahead }
         ensures same_source { result.source.ghost_name ≡ source.entry.ghost_name }
         ensures source { result.source.now ≡ source.old }
@@ -88,28 +85,6 @@ impl<S: Source, K: Sink> Peer for Wire<'_, '_, S, K> {
         match say(self.sink, text) {
             Ok(()) => hear(&mut self.ahead, self.source, into),
             Err(_) => Err(PeerFault::Send),
-        }
-    }
-}
-
-impl<'a, 'b, S: Source, K: Sink> Wire<'a, 'b, S, K> {
-    /// Reads the file of a dialogue, and hands it back with the wire over which the dialogue can be led. The errors are those of
-    /// [`read_file_text`].
-    pub fn begin(
-        alloc: Global,
-        source: &'a mut S,
-        sink: &'b mut K,
-    ) -> Result<(Vec<u8>, Wire<'a, 'b, S, K>), ReadEnd>
-        ensures told { IfSome (S.left source.old) (BeginsWith 262144 S.left result) }
-        ensures bound { IfOk result (λ r. vec_len r.0 ≤ 262144) }
-        ensures same_source { IfOk result (λ r. r.1.source.ghost_name ≡ source.entry.ghost_name) }
-        ensures same_sink { IfOk result (λ r. r.1.sink.ghost_name ≡ sink.entry.ghost_name) }
-        ensures sink { IfOk result (λ r. r.1.sink.now ≡ sink.old) }
-        ensures quiet { IfOk result (λ r. S.faults r.1.source.now ≡ S.faults source.old) }
-    {
-        match read_file_text(alloc, source) {
-            Ok((text, ahead)) => Ok((text, Wire::over(ahead, source, sink))),
-            Err(end) => Err(end),
         }
     }
 }
