@@ -1,5 +1,5 @@
 //! The room for the lines of actions.
-ghost use Rattle.std.specs.Prelude.{◌≡◌, ◌≤◌, ◌+◌, ◌*◌, ◌++◌, ◌∷◌, map, length, codes, vec_len, vec_capacity, IfOk, OnOk};
+ghost use Rattle.std.specs.Prelude.{◌≡◌, ◌≤◌, ◌+◌, ◌*◌, ◌++◌, ◌∷◌, map, length, vec_len, vec_capacity, IfOk, OnOk};
 ghost use Rattle.std.specs.List.{flat_map};
 ghost use Rattle.pks_terms.specs.Sets.{Each};
 ghost use Rattle.pks_terms.specs.Printed.{inner_text};
@@ -7,9 +7,8 @@ ghost use Rattle.pks_terms.specs.Talk.{do_text};
 ghost use Rattle.pks_terms.specs.Views.{inner_of, names_of};
 ghost use Rattle.pks_agent.specs.Rooms.{IsSpoken, FitsActions, IsDesk, IsLongest};
 
-use crate::fit::object_name;
-use pks_plan::action_name;
 use pks_terms::ids::ActId;
+use pks_terms::lookup::{action_name, object_name};
 use pks_terms::problem::Problem;
 use pks_terms::schema::Schema;
 use pks_terms::term::Inner;

@@ -1,7 +1,6 @@
 //! The dialogue of a plan.
 ghost use Rattle.std.specs.Prelude.{◌≡◌, ◌≤◌, ◌<◌, ◌+◌, ◌*◌, ◌^◌, ℕ, IfSome, IfOk, OnOk, length};
 ghost use Rattle.pks_terms.specs.Trees.{depth, chain_depth};
-ghost use Rattle.pks_terms.specs.Printed.{end_text};
 ghost use Rattle.pks_terms.specs.Talk.{ending, talk, talk_from, talk_case};
 ghost use Rattle.pks_terms.specs.Views.{instance_of, signature_of, names_of};
 ghost use Rattle.pks_plan.specs.TreeViews.{tree_of, chain_of};
@@ -15,7 +14,7 @@ use crate::ends::TalkEnd;
 use crate::peers::Peer;
 use crate::questions::{behind, behind_arguments};
 use crate::rooms::Room;
-use pks_exec::End;
+use pks_exec::{End, end_words};
 use pks_plan::{CaseChain, Tree};
 use pks_terms::ids::ObjId;
 use pks_terms::problem::Problem;
@@ -32,22 +31,11 @@ fn tell<P: Peer>(peer: &mut P, text: &[u8]) -> Result<(), TalkEnd>
     }
 }
 
-/// The line of an end.
-fn end_line(end: End) -> &'static str
-    ensures { result.now ≡ end_text (ending_of end) }
-{
-    match end {
-        End::Goal => "goal",
-        End::Impossible => "impossible",
-        End::NoCase => "no case",
-    }
-}
-
 /// Tells an end, and ends with it.
 fn tell_end<P: Peer>(end: End, peer: &mut P) -> Result<End, TalkEnd>
     ensures { IsLed (moment P.answers P.said P.sends P.receipts P.kept peer.old) (moment P.answers P.said P.sends P.receipts P.kept peer.new) result (ending (ending_of end)) }
 {
-    match tell(peer, end_line(end).as_bytes()) {
+    match tell(peer, end_words(end).as_bytes()) {
         Ok(()) => Ok(end),
         Err(stop) => Err(stop),
     }

@@ -8,6 +8,7 @@ ghost use Rattle.pks_terms.specs.Views.{object_of, types_of, signature_of, names
 ghost use Rattle.pks_terms.specs.Jobs.{same_text};
 
 use pks_terms::ids::{FnId, ObjId, TypeId};
+use pks_terms::lookup::object_name;
 use pks_terms::problem::Problem;
 use pks_terms::term::Term;
 
@@ -28,16 +29,6 @@ pub(crate) fn truth(answer: &[u8]) -> Option<bool>
         Some(false)
     } else {
         None
-    }
-}
-
-/// The name of an object, or no text where it isn't declared.
-pub(crate) fn object_name<'s>(p: &Problem<'s>, object: ObjId) -> &'s str
-    ensures { result.now ≡ name_in (names_of p.now).objects object.0 }
-{
-    match p.names.objects.as_slice().get(usize::from(object.0)) {
-        Some(name) => *name,
-        None => "",
     }
 }
 

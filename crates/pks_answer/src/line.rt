@@ -8,9 +8,9 @@ ghost use Rattle.pks_file.specs.Views.{IsWhole};
 ghost use Rattle.pks_answer.specs.Accepting.{rest_of, printed_of};
 
 use pks_file::{InputFile, place};
-use pks_plan::action_name;
 use pks_reader::{Extra, Refusal};
 use pks_terms::ids::{ActId, ItemNo};
+use pks_terms::lookup::action_name;
 use pks_terms::problem::Problem;
 use std::alloc::{AllocError, Global};
 

@@ -7,11 +7,11 @@ ghost use Rattle.pks_terms.specs.Branching.{as_inner, candidates};
 ghost use Rattle.pks_terms.specs.Views.{object_of, inner_of, term_of, terms_of, signature_of};
 ghost use Rattle.pks_normal.specs.Fives.{five_of};
 
-use pks_derived::ranges::object_is_of;
 use pks_kv::Kv;
 use pks_normal::five::Five;
 use pks_normal::normals::objects;
 use pks_terms::ids::{ObjId, TypeId};
+use pks_terms::lookup::object_is_of;
 use pks_terms::problem::Signature;
 use pks_terms::sequence::Sequence;
 use pks_terms::term::{Inner, Term};

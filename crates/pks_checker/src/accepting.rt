@@ -1,15 +1,15 @@
 //! Which proofs are accepted. `docs/REASONS.md` has the rules.
-ghost use Rattle.std.specs.Prelude.{◌≡◌, ◌^◌, ◌≤◌, ◌<◌, ◌+◌, ◌-◌, ◌&&◌, ◌||◌, ◌==◌, map, length, slice_get, true};
+ghost use Rattle.std.specs.Prelude.{◌≡◌, ◌^◌, ◌≤◌, ◌<◌, ◌+◌, ◌-◌, ◌&&◌, ◌||◌, ◌==◌, length, slice_get, true};
 ghost use Rattle.std.specs.List.{list_any, list_all};
 ghost use Rattle.std.specs.Option.{option_map};
 ghost use Rattle.pks_terms.specs.Worlds.{World, true_in};
-ghost use Rattle.pks_terms.specs.Problems.{schema_of, StartAlike};
+ghost use Rattle.pks_terms.specs.Problems.{StartAlike};
 ghost use Rattle.pks_terms.specs.Branching.{numbered};
 ghost use Rattle.pks_terms.specs.Settling.{effects_of};
 ghost use Rattle.pks_terms.specs.Knowledge.{after_actions, ground_actions};
 ghost use Rattle.pks_terms.specs.Remembering.{SeenAlong};
 ghost use Rattle.pks_terms.specs.Typed.{IsTyped};
-ghost use Rattle.pks_terms.specs.Views.{literal_of, instance_of, effect_of, problem_of};
+ghost use Rattle.pks_terms.specs.Views.{literal_of, instance_of, problem_of};
 ghost use Rattle.pks_terms.specs.Proofs.{FactLit, deeds, final_moment, nth, GoesAlong, IsPathOf};
 ghost use Rattle.pks_terms.specs.Reasons.{is_kept, is_from_later, is_effect, is_needed, is_failed, is_grown, is_cleared};
 ghost use Rattle.pks_terms.specs.Judging.{fact_eq};
@@ -31,8 +31,8 @@ use pks_cited::swapping::is_swapped;
 use pks_lcw::Entry;
 use pks_proof::lines::same_fact;
 use pks_proof::{Fact, Line, Path, Proof, Reason, Turn};
-use pks_terms::ids::ActId;
 use pks_terms::literal::Literal;
+use pks_terms::lookup::written_effects;
 use pks_terms::problem::Problem;
 use pks_terms::schema::{Effect, Instance};
 
@@ -55,15 +55,6 @@ fn deed_at(path: &[Turn], moment: u64) -> Option<&Instance>
     None
 }
 
-fn written_of<'a>(p: &'a Problem<'_>, act: ActId) -> &'a [Effect]
-    ensures { map effect_of result.now ≡ (schema_of (problem_of p.now) act.0).effects }
-{
-    match p.schemas.as_slice().get(usize::from(act.0)) {
-        Some(schema) => schema.effects.as_slice(),
-        None => &[],
-    }
-}
-
 /// The action with its arguments, and what is cited before it.
 fn deed_of<'a>(p: &'a Problem<'_>, before: Cited<'a>, instance: &'a Instance) -> Deed<'a>
     ensures effects { effects_by result ≡ effects_of (problem_of p.now) (instance_of instance.now) }
@@ -73,7 +64,7 @@ fn deed_of<'a>(p: &'a Problem<'_>, before: Cited<'a>, instance: &'a Instance) ->
     Deed {
         before,
         instance,
-        effects: written_of(p, instance.act),
+        effects: written_effects(p, instance.act),
     }
 }
 

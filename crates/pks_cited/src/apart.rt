@@ -1,25 +1,13 @@
 //! Terms that differ: two objects, or terms that are cited to differ.
 ghost use Rattle.std.specs.Prelude.{◌≡◌, map};
 ghost use Rattle.std.specs.Option.{option_map};
-ghost use Rattle.pks_terms.specs.Syntax.{term_of as lifted, are_two_objects};
+ghost use Rattle.pks_terms.specs.Syntax.{term_of as lifted};
 ghost use Rattle.pks_terms.specs.Views.{inner_of, term_of, terms_of};
 ghost use Rattle.pks_terms.specs.Reasons.{are_cited_apart, some_cited_apart, fixed_cited_apart};
 ghost use Rattle.pks_cited.specs.CitedViews.{judge_of};
 
 use crate::cited::Cited;
-use pks_terms::term::{Inner, Term};
-
-fn are_two_objects(t: &Term, u: &Term) -> bool
-    ensures { result ≡ are_two_objects (term_of t.now) (term_of u.now) }
-{
-    match t {
-        Term::Param(_) | Term::App { .. } => false,
-        Term::Obj(d) => match u {
-            Term::Obj(e) => d.0 != e.0,
-            Term::Param(_) | Term::App { .. } => false,
-        },
-    }
-}
+use pks_terms::term::{Inner, Term, are_two_objects};
 
 fn are_apart(c: &Cited<'_>, t: &Term, u: &Term) -> bool
     ensures { result ≡ are_cited_apart (judge_of c.now) c.now.moment (term_of t.now) (term_of u.now) }

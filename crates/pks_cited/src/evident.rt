@@ -12,32 +12,11 @@ ghost use Rattle.pks_terms.specs.Views.{term_of, types_of, literal_of, signature
 ghost use Rattle.pks_cited.specs.CitedViews.{judge_of};
 
 use crate::cited::Cited;
-use pks_terms::ids::{FnId, ObjId, TypeId};
+use pks_terms::ids::{ObjId, TypeId};
 use pks_terms::literal::{Atom, Literal};
+use pks_terms::lookup::{is_foreign, object_is_of};
 use pks_terms::problem::Signature;
 use pks_terms::term::Term;
-
-/// Whether the object is one of the type: its own type fits it.
-#[tactic(auto, unfolding(pks_terms::specs::Signatures::object_is_of))]
-fn object_is_of(s: &Signature, of: TypeId, d: ObjId) -> bool
-    ensures { result ≡ object_is_of (signature_of s.now) of.0 d.0 }
-{
-    match s.objects.as_slice().get(d.0 as usize) {
-        None => false,
-        Some(own) => s.fits(*own, of),
-    }
-}
-
-/// Whether the object is not one of the function's result type.
-#[tactic(auto, unfolding(pks_terms::specs::Signatures::is_foreign))]
-fn is_foreign(s: &Signature, fun: FnId, d: ObjId) -> bool
-    ensures { result ≡ is_foreign (signature_of s.now) fun.0 d.0 }
-{
-    match s.functions.as_slice().get(fun.0 as usize) {
-        None => false,
-        Some(shape) => !object_is_of(s, shape.result, d),
-    }
-}
 
 /// Whether the terms are two different objects, or an application and an object that isn't one of its result type.
 fn are_different(s: &Signature, t: &Term, u: &Term) -> bool

@@ -1,12 +1,12 @@
 //! Values that are the only ones left.
-ghost use Rattle.std.specs.Prelude.{◌≡◌, ℕ, ◌<◌, ◌≤◌, ◌+◌, ◌==◌, ◌||◌, ◌&&◌, IsTrue, false, List, [], ◌∷◌, ◌++◌, map, take, length, Some, None, IfOk, OnOk};
-ghost use Rattle.std.specs.List.{flat_map, list_all, filter};
-ghost use Rattle.pks_terms.specs.Syntax.{object, place};
+ghost use Rattle.std.specs.Prelude.{◌≡◌, ℕ, ◌<◌, ◌≤◌, ◌+◌, ◌==◌, ◌||◌, ◌&&◌, IsTrue, false, [], ◌∷◌, ◌++◌, map, length, IfOk, OnOk};
+ghost use Rattle.std.specs.List.{flat_map, filter};
+ghost use Rattle.pks_terms.specs.Syntax.{object};
 ghost use Rattle.pks_terms.specs.Sets.{set_of};
 ghost use Rattle.pks_terms.specs.Databases.{normal, holds};
 ghost use Rattle.pks_terms.specs.Orders.{inequation, term_cmp};
 ghost use Rattle.pks_terms.specs.Closure.{is_last_left, by_range, applications_in, is_application};
-ghost use Rattle.pks_terms.specs.Views.{object_of, inner_of, term_of, terms_of, literal_of, sides_of, signature_of};
+ghost use Rattle.pks_terms.specs.Views.{object_of, inner_of, term_of, terms_of, literal_of, signature_of};
 ghost use Rattle.pks_kf.specs.Known.{literals_of};
 ghost use Rattle.pks_normal.specs.Fives.{five_of};
 ghost use Rattle.pks_closing.specs.Reading.{value_is, argument_term, occurring};
@@ -15,10 +15,10 @@ ghost use Rattle.pks_closing.specs.Possible.{may_be, IsOther};
 use pks_derived::derived::Derived;
 use pks_derived::ranges::range_of;
 use pks_set::set::SetOf;
-use pks_terms::ids::{FnId, ObjId};
+use pks_terms::ids::ObjId;
 use pks_terms::literal::{Literal, equation};
 use pks_terms::problem::Signature;
-use pks_terms::term::{Inner, Term, front};
+use pks_terms::term::{Inner, Term, applied, front};
 use std::alloc::{AllocError, Global};
 
 /// Which objects of a range are not shut out.
@@ -156,17 +156,6 @@ fn put_by_range(
 {
     let objects = range_of(alloc, s, t)?;
     put_last(to, s, d, t, objects.as_slice())
-}
-
-/// The application as a term.
-fn applied(fun: FnId, n: u8, args: &[ObjId; 2]) -> Term
-    ensures { term_of result ≡ place fun.0 (map object_of (take n args.now)) }
-{
-    Term::App {
-        fun,
-        n,
-        args: [Inner::Obj(args[0]), Inner::Obj(args[1])],
-    }
 }
 
 /// Puts the argument after the others, where it is an application.

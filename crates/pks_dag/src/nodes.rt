@@ -1,6 +1,6 @@
 //! The nodes of a plan whose equal parts stand once.
 
-ghost use Rattle.std.specs.Prelude.{◌≡◌, map, fold};
+ghost use Rattle.std.specs.Prelude.{◌≡◌, map};
 ghost use Rattle.std.specs.Ordering.{on, is_eq};
 ghost use Rattle.std.specs.Cmp.{partial_equiv_from_equiv};
 ghost use Rattle.std.specs.Cmp.Lexicographic.{pointwise};
@@ -11,11 +11,12 @@ ghost use Rattle.pks_dag.specs.NodeViews.{link_of, node_of};
 ghost use Rattle.pks_dag.specs.NodeEquality.{same_link, same_node, same_node_is, same_node_equivalence};
 
 use crate::hashing::write_node;
+use pks_plan::instance_cmp;
 use pks_terms::ids::ObjId;
 use pks_terms::literal::Conj;
 use pks_terms::schema::Instance;
 use pks_terms::sequence::Sequence;
-use pks_terms::term::{Term, front};
+use pks_terms::term::Term;
 use std::cmp::Ordering;
 use std::hash::{Hash, Hasher};
 
@@ -50,19 +51,11 @@ pub enum Node {
 /// Nodes with numbers from 1 on.
 pub type Dag = Sequence<Node>;
 
-/// By action, then by arguments from the left.
-fn step_cmp(i: &Instance, j: &Instance) -> Ordering
-    ensures { result ≡ instance_cmp (instance_of i.now) (instance_of j.now) }
-{
-    let arguments = front(&i.args, i.n).cmp(&front(&j.args, j.n));
-    i.act.0.cmp(&j.act.0).then(arguments)
-}
-
 /// The same action with the same arguments.
 fn same_step(i: &Instance, j: &Instance) -> bool
     ensures { result ≡ is_eq (instance_cmp (instance_of i.now) (instance_of j.now)) }
 {
-    step_cmp(i, j) == Ordering::Equal
+    instance_cmp(i, j) == Ordering::Equal
 }
 
 /// Object by object and number by number.

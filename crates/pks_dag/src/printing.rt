@@ -1,6 +1,6 @@
 //! The text of the nodes of a plan.
 
-ghost use Rattle.std.specs.Prelude.{◌≡◌, ◌≤◌, ◌<◌, ◌+◌, ◌^◌, ◌++◌, ◌∷◌, List, [], map, length, codes, decimal, unwrap_or, IfOk, OnOk};
+ghost use Rattle.std.specs.Prelude.{◌≡◌, ◌≤◌, ◌<◌, ◌+◌, ◌^◌, ◌++◌, ◌∷◌, [], map, length, codes, decimal, unwrap_or, IfOk, OnOk};
 ghost use Rattle.pks_terms.specs.Sets.{Each};
 ghost use Rattle.pks_terms.specs.Nodes.{at_number, deepest, node_depth, last_depth, node_text, shared_text};
 ghost use Rattle.pks_terms.specs.Printed.{line};
@@ -9,28 +9,10 @@ ghost use Rattle.pks_dag.specs.NodeViews.{link_of, node_of, nodes_of};
 ghost use Rattle.pks_dag.specs.Lines.{links_text, node_lines};
 
 use crate::nodes::{CaseNode, Dag, Node};
-use itoa::Buffer;
-use pks_plan::{print_conj, print_instance, print_term};
+use pks_plan::{print_conj, print_instance, print_term, put, put_number};
 use pks_terms::problem::Problem;
 use pks_terms::term::Term;
 use std::alloc::{AllocError, Global};
-
-/// Appends the bytes.
-fn put(out: &mut Vec<u8>, bytes: &[u8]) -> Result<(), AllocError>
-    ensures { OnOk result (out.new.items ≡ out.old.items ++ bytes.now) }
-{
-    out.extend_from_slice(bytes)?;
-    Ok(())
-}
-
-/// Appends the number's digits.
-fn put_number(out: &mut Vec<u8>, n: u64) -> Result<(), AllocError>
-    ensures { OnOk result (out.new.items ≡ out.old.items ++ decimal n) }
-{
-    let mut buffer = Buffer::new();
-    put(out, buffer.format(n).as_bytes())?;
-    Ok(())
-}
 
 /// The depth of the node with this number, or 0 where there is none.
 fn depth_at(depths: &[u64], number: u64) -> u64

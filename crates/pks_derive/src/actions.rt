@@ -1,6 +1,6 @@
 //! What is derived of each action, as text.
 
-ghost use Rattle.std.specs.Prelude.{◌≡◌, ◌≤◌, ◌+◌, ◌++◌, ℕ, List, [], map, length, option_map, unwrap_or, slice_get, IfOk, OnOk};
+ghost use Rattle.std.specs.Prelude.{◌≡◌, ◌≤◌, ◌+◌, ◌++◌, [], map, length, option_map, unwrap_or, slice_get, IfOk, OnOk};
 ghost use Rattle.std.specs.List.{flat_map};
 ghost use Rattle.pks_terms.specs.Branching.{numbered};
 ghost use Rattle.pks_terms.specs.Printed.{line, add_text};
@@ -11,11 +11,11 @@ ghost use Rattle.pks_justify.specs.Cases.{adds_of, schemas_of};
 ghost use Rattle.pks_justify.specs.Places.{AssignToPlaces, AllAssignToPlaces};
 ghost use Rattle.pks_derive.specs.Parameters.{parameters_of};
 
-use crate::bytes::put;
 use crate::offering::derived_adds;
 use crate::text::print_add;
-use pks_plan::action_name;
+use pks_plan::put;
 use pks_terms::ids::ActId;
+use pks_terms::lookup::action_name;
 use pks_terms::problem::{NameList, Problem};
 use pks_terms::schema::{Adds, Schema};
 use std::alloc::{AllocError, Global};

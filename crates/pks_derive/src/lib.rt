@@ -2,7 +2,6 @@
 #![tactic(auto)]
 
 mod actions;
-mod bytes;
 pub mod laws;
 mod offering;
 mod parts;

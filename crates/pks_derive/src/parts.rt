@@ -5,7 +5,7 @@ ghost use Rattle.std.specs.List.{flat_map};
 ghost use Rattle.pks_terms.specs.Printed.{listed};
 ghost use Rattle.pks_terms.specs.Views.{names_of};
 
-use crate::bytes::put;
+use pks_plan::put;
 use pks_terms::problem::Problem;
 use std::alloc::AllocError;
 

@@ -1,18 +1,18 @@
 //! What the text of an action shows of what is known after it.
 
-ghost use Rattle.std.specs.Prelude.{◌≡◌, map, take, Some, option_map, [], ◌∷◌};
+ghost use Rattle.std.specs.Prelude.{◌≡◌, map, Some, [], ◌∷◌};
 ghost use Rattle.pks_terms.specs.Queries.{Know};
-ghost use Rattle.pks_terms.specs.Syntax.{Named, affirmed};
+ghost use Rattle.pks_terms.specs.Syntax.{affirmed};
 ghost use Rattle.pks_terms.specs.Actions.{Assign};
-ghost use Rattle.pks_terms.specs.Justified.{target_literal};
 ghost use Rattle.pks_terms.specs.Orders.{number_of, arguments_of};
 ghost use Rattle.pks_terms.specs.Shapes.{asking, plainly, made_known, known_by_condition, kept_known, done_plainly, without_condition, sense_shapes};
 ghost use Rattle.pks_terms.specs.ValidProblems.{IsApplication, AssignsToPlace};
-ghost use Rattle.pks_terms.specs.Views.{term_of, terms_of, literal_of, literals_in, conj_of, atom_of, target_of, effect_of, sense_of, query_of, item_of, add_of};
+ghost use Rattle.pks_terms.specs.Views.{term_of, literals_in, conj_of, atom_of, target_of, effect_of, sense_of, query_of, item_of, add_of};
 ghost use Rattle.pks_derive.specs.Offering.{made};
 
+use pks_justify::literal_of_target;
 use pks_terms::ids::Span;
-use pks_terms::literal::{Atom, Conj, Literal, PredAtom, equation};
+use pks_terms::literal::{Conj, Literal, PredAtom, atom_literal};
 use pks_terms::schema::{Adds, Effect, Item, Query, Sense, Target};
 use pks_terms::term::{Term, front};
 
@@ -35,29 +35,6 @@ fn plainly(item: Item) -> Adds
     added(0, [Query::default(); 4], item)
 }
 
-/// The atom or its negation.
-fn atom_literal(a: &PredAtom, positive: bool) -> Literal
-    ensures { literal_of result ≡ record { relation = Named a.now.pred.0; arguments = terms_of (take a.now.n a.now.args); positive = positive } }
-{
-    Literal {
-        atom: Atom::Pred(*a),
-        positive,
-    }
-}
-
-/// What is so after the effect fires.
-fn made_literal(target: &Target) -> Option<Literal>
-    requires { AssignsToPlace target.now }
-    ensures { option_map literal_of result ≡ target_literal (target_of target.now) }
-{
-    match target {
-        Target::Set(a) => Some(atom_literal(a, true)),
-        Target::Unset(a) => Some(atom_literal(a, false)),
-        Target::Clear(_) => None,
-        Target::Assign { place, value } => Some(equation(place, value, true)),
-    }
-}
-
 /// `k` of each literal.
 fn each_known(literals: &[Literal; 4]) -> [Query; 4]
     ensures { map query_of result ≡ map (λ l. asking (Know l)) (literals_in literals.now) }
@@ -76,7 +53,7 @@ pub(crate) fn made_known(e: &Effect) -> Option<Adds>
     requires { AssignsToPlace e.now.target }
     ensures { made result ≡ made_known (effect_of e.now) }
 {
-    match made_literal(&e.target) {
+    match literal_of_target(&e.target) {
         Some(l) => Some(added(e.cond.n, each_known(&e.cond.literals), Item::Kf(l))),
         None => None,
     }

@@ -1,49 +1,20 @@
 //! The text of adds.
 
-ghost use Rattle.std.specs.Prelude.{◌≡◌, ◌++◌, ◌∷◌, [], map, take, option_map, OnOk};
+ghost use Rattle.std.specs.Prelude.{◌≡◌, ◌++◌, ◌∷◌, [], map, option_map, OnOk};
 ghost use Rattle.std.specs.List.{join_with_byte};
 ghost use Rattle.std.specs.Option.{option_map_or};
-ghost use Rattle.pks_terms.specs.Printed.{name_in, relation_text, listed, lifted_term_text, lifted_literal_text, lifted_pattern_text, plain_text, query_text, item_text, given_text, add_text};
+ghost use Rattle.pks_terms.specs.Printed.{name_in, relation_text, listed, lifted_term_text, lifted_literal_text, lifted_pattern_text, plain_text, query_text, item_text, add_text};
 ghost use Rattle.pks_terms.specs.Views.{names_of, term_of, relation_of, sides_of, literal_of, pattern_of, query_of, item_of, add_of};
 
-use crate::bytes::put;
 use crate::parts::{Part, print_list, print_parts};
-use pks_terms::ids::{FnId, ObjId, PredId};
+use pks_plan::put;
+use pks_terms::ids::ObjId;
 use pks_terms::literal::{Atom, Literal, Pattern};
+use pks_terms::lookup::{function_name, object_name, predicate_name, relation_text};
 use pks_terms::problem::Problem;
 use pks_terms::schema::{Adds, Item, Query};
 use pks_terms::term::{Inner, Term, front};
 use std::alloc::AllocError;
-
-/// The name of an object, or no text where it isn't declared.
-fn object_name<'s>(p: &Problem<'s>, object: ObjId) -> &'s str
-    ensures { result.now ≡ name_in (names_of p.now).objects object.0 }
-{
-    match p.names.objects.as_slice().get(usize::from(object.0)) {
-        Some(name) => *name,
-        None => "",
-    }
-}
-
-/// The name of a predicate, or no text where it isn't declared.
-fn predicate_name<'s>(p: &Problem<'s>, pred: PredId) -> &'s str
-    ensures { result.now ≡ name_in (names_of p.now).predicates pred.0 }
-{
-    match p.names.predicates.as_slice().get(usize::from(pred.0)) {
-        Some(name) => *name,
-        None => "",
-    }
-}
-
-/// The name of a function, or no text where it isn't declared.
-fn function_name<'s>(p: &Problem<'s>, fun: FnId) -> &'s str
-    ensures { result.now ≡ name_in (names_of p.now).functions fun.0 }
-{
-    match p.names.functions.as_slice().get(usize::from(fun.0)) {
-        Some(name) => *name,
-        None => "",
-    }
-}
 
 /// The name of a parameter, or no text where there is none.
 fn parameter_name<'s>(parameters: &[&'s str], parameter: u8) -> &'s str
@@ -161,16 +132,6 @@ impl Part for Option<Term> {
             None => put(out, b"_")?,
         }
         Ok(())
-    }
-}
-
-/// The predicate's name, or the sign of equality.
-fn relation_text<'s>(p: &Problem<'s>, atom: &Atom) -> &'s str
-    ensures { result.now ≡ relation_text (names_of p.now) (relation_of atom.now) }
-{
-    match atom {
-        Atom::Pred(a) => predicate_name(p, a.pred),
-        Atom::Eq { .. } => "=",
     }
 }
 

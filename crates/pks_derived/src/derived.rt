@@ -1,12 +1,12 @@
 //! Looking up literals. `docs/RULES.md` has the rule.
-ghost use Rattle.std.specs.Prelude.{◌≡◌, ◌||◌, List, [], ◌∷◌, map, Some, None, is_some, take, IfOk, IsTrue, false};
+ghost use Rattle.std.specs.Prelude.{◌≡◌, ◌||◌, [], ◌∷◌, map, Some, None, is_some, IfOk, IsTrue, false};
 ghost use Rattle.std.specs.Option.{option_map};
 ghost use Rattle.std.specs.List.{list_any, list_all};
-ghost use Rattle.pks_terms.specs.Syntax.{Equality, are_two_objects, negated};
+ghost use Rattle.pks_terms.specs.Syntax.{Equality, negated};
 ghost use Rattle.pks_terms.specs.Databases.{told, normal, is_known, is_evident, is_plain, differ, some_differ, fits, is_shut_out, is_closed_off, holds};
 ghost use Rattle.pks_terms.specs.Orders.{inequation, literal_cmp};
 ghost use Rattle.pks_terms.specs.Sets.{insert_in};
-ghost use Rattle.pks_terms.specs.Views.{object_of, term_of, terms_of, literal_of, literals_in, atom_of, arguments_in, places_of, relation_of, signature_of};
+ghost use Rattle.pks_terms.specs.Views.{term_of, terms_of, literal_of, literals_in, atom_of, signature_of};
 ghost use Rattle.pks_kf.specs.Known.{literals_of};
 ghost use Rattle.pks_lcw.specs.Entries.{atoms_of, entry_of, entries_of};
 ghost use Rattle.pks_normal.specs.Fives.{five_of};
@@ -15,15 +15,15 @@ ghost use Rattle.pks_derived.specs.Apart.{are_apart};
 ghost use Rattle.pks_derived.specs.Forms.{HasItsForms};
 
 use crate::forms::forms_of;
-use crate::ranges::is_foreign;
 use pks_kf::Kf;
 use pks_lcw::{AtomSet, Entry};
 use pks_normal::five::Five;
 use pks_normal::literals::gives_value;
 use pks_normal::normals::Normals;
-use pks_terms::literal::{Arguments, Atom, Literal, PredAtom, equation};
+use pks_terms::literal::{Atom, Literal, PredAtom, equation};
+use pks_terms::lookup::is_foreign;
 use pks_terms::problem::Signature;
-use pks_terms::term::{Term, front};
+use pks_terms::term::{Term, are_two_objects, front};
 use std::alloc::{AllocError, Global};
 use std::marker::Model;
 
@@ -74,16 +74,6 @@ fn is_evident_of(s: &Signature, left: &Term, right: &Term, positive: bool) -> bo
         (Term::Obj(d), Term::Obj(e)) => *d != *e,
         (Term::Obj(d), Term::App { fun, .. }) => is_foreign(s, *fun, *d),
         (Term::App { fun, .. }, Term::Obj(d)) => is_foreign(s, *fun, *d),
-        _ => false,
-    }
-}
-
-/// Whether the terms are two different objects.
-fn are_two_objects(t: &Term, u: &Term) -> bool
-    ensures { result ≡ are_two_objects (term_of t.now) (term_of u.now) }
-{
-    match (t, u) {
-        (Term::Obj(d), Term::Obj(e)) => d.0 != e.0,
         _ => false,
     }
 }

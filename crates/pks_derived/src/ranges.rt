@@ -1,34 +1,12 @@
 //! The objects that a term may have as its value.
-ghost use Rattle.std.specs.Prelude.{◌≡◌, ◌≤◌, List, [], ◌∷◌, map, length, IfOk};
-ghost use Rattle.pks_terms.specs.Signatures.{is_foreign, object_is_of, range_of};
+ghost use Rattle.std.specs.Prelude.{◌≡◌, ◌≤◌, [], ◌∷◌, map, length, IfOk};
+ghost use Rattle.pks_terms.specs.Signatures.{range_of};
 ghost use Rattle.pks_terms.specs.Views.{object_of, term_of, signature_of};
 
-use pks_terms::ids::{FnId, ObjId, TypeId};
+use pks_terms::ids::ObjId;
 use pks_terms::problem::Signature;
 use pks_terms::term::Term;
 use std::alloc::{AllocError, Global};
-
-/// Whether the object is one of the type: its own type fits it. It takes no memory.
-#[tactic(auto, unfolding(pks_terms::specs::Signatures::object_is_of))]
-pub fn object_is_of(s: &Signature, of: TypeId, d: ObjId) -> bool
-    ensures { result ≡ object_is_of (signature_of s.now) of.0 d.0 }
-{
-    match s.objects.as_slice().get(d.0 as usize) {
-        None => false,
-        Some(own) => s.fits(*own, of),
-    }
-}
-
-/// Whether the object is not one of the function's result type. It takes no memory.
-#[tactic(auto, unfolding(pks_terms::specs::Signatures::is_foreign))]
-pub fn is_foreign(s: &Signature, fun: FnId, d: ObjId) -> bool
-    ensures { result ≡ is_foreign (signature_of s.now) fun.0 d.0 }
-{
-    match s.functions.as_slice().get(fun.0 as usize) {
-        None => false,
-        Some(shape) => !object_is_of(s, shape.result, d),
-    }
-}
 
 /// The objects that may be the value of the term, in order: itself, or those of the function's result type.
 /// It asks for at most 65,536 objects.

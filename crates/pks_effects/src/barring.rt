@@ -5,7 +5,7 @@ use crate::firing::{Firing, Step};
 use crate::parts::Parts;
 use pks_lines::{Lines, unequal};
 use pks_terms::literal::Literal;
-use pks_terms::term::Term;
+use pks_terms::term::{Term, are_two_objects};
 use std::alloc::AllocError;
 
 /// A step, and the lines of what stands at its moments. What it is asked gives the literals on which its yes rests.
@@ -40,17 +40,19 @@ pub(crate) fn note(bar: Bar, noted: &mut Vec<Literal>) -> Result<bool, AllocErro
     }
 }
 
-/// Whether the terms are two different objects.
-fn are_two_objects(t: &Option<Term>, u: &Option<Term>) -> bool {
+/// Whether the places have two different objects.
+fn have_two_objects(t: &Option<Term>, u: &Option<Term>) -> bool {
     match (t, u) {
-        (Some(Term::Obj(d)), Some(Term::Obj(e))) => d.0 != e.0,
+        (Some(t), Some(u)) => are_two_objects(t, u),
         _ => false,
     }
 }
 
 /// Whether at some place the terms are two different objects.
 fn some_two_objects(x: &Parts, y: &Parts) -> bool {
-    are_two_objects(&x[0], &y[0]) || are_two_objects(&x[1], &y[1]) || are_two_objects(&x[2], &y[2])
+    have_two_objects(&x[0], &y[0])
+        || have_two_objects(&x[1], &y[1])
+        || have_two_objects(&x[2], &y[2])
 }
 
 impl<'a, 'p> Tests<'a, 'p> {

@@ -4,17 +4,9 @@ ghost use Rattle.pks_terms.specs.ValidProblems.{AssignsToPlace};
 
 use pks_justify::{makes_so, queries_of};
 use pks_lines::equal;
-use pks_terms::literal::{Atom, Literal, PredAtom};
+use pks_terms::literal::{Atom, Literal, PredAtom, atom_literal};
 use pks_terms::schema::{Adds, Instance, Schema, Target};
 use pks_terms::term::Term;
-
-/// The atom or its negation.
-fn atom_literal(a: &PredAtom, positive: bool) -> Literal {
-    Literal {
-        atom: Atom::Pred(*a),
-        positive,
-    }
-}
 
 /// The target that makes the atom true, or false.
 fn target_of(a: &PredAtom, positive: bool) -> Target {

@@ -1,4 +1,3 @@
-pub mod Arguments
 pub mod Breaking
 pub mod Ending
 pub mod Listing

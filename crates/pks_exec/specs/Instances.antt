@@ -1,5 +1,5 @@
 -- What the start lists, and going through the instances of a pattern.
-use Rattle.std.specs.Prelude.{ℕ, Bool, false, not, ◌||◌, List, [], ◌∷◌, ◌++◌, take, Option, Some, None}
+use Rattle.std.specs.Prelude.{ℕ, Bool, false, not, ◌||◌, List, [], ◌∷◌, ◌++◌, Option, Some, None}
 use Rattle.std.specs.List.{list_any, list_all}
 use Rattle.std.specs.Option.{option_map_or}
 use Rattle.std.specs.Ordering.{is_eq}
@@ -9,11 +9,6 @@ use Rattle.pks_terms.specs.Worlds.{World, value_of}
 use Rattle.pks_terms.specs.Meaning.{is_value_of}
 use Rattle.pks_terms.specs.Problems.{Start, StartKf, StartKw, StartKv, StartKx, StartLcw, Problem, known_start, atom_on}
 use Rattle.pks_terms.specs.Printed.{numbers_from}
-use Rattle.pks_exec.specs.declared.compatibility.Few.{Few}
-
--- up to three objects
-abbrev pub few_of : Few → List ℕ
-few_of x = take x.n (x.first.0 ∷ x.second.0 ∷ x.third.0 ∷ [])
 
 -- the literal is an atom whose value is p at the objects
 abbrev pub is_value : World → ℕ → List ℕ → Literal → Bool

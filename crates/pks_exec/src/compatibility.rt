@@ -9,92 +9,15 @@ ghost use Rattle.pks_terms.specs.Meaning.{IsWorld, Meets};
 ghost use Rattle.pks_terms.specs.Problems.{initial_entry, initial, IsCompatible};
 ghost use Rattle.pks_terms.specs.Answers.{Keeps, IsFirstBroken};
 ghost use Rattle.pks_terms.specs.Views.{term_of, terms_of, atom_of, literal_of, literals_in, pattern_of, start_of, signature_of, problem_of};
-ghost use Rattle.pks_world.specs.Contents.{ground, world_of};
-ghost use Rattle.pks_exec.specs.Instances.{few_of, is_value, lists, is_listed, is_told, is_region, all_instances};
+ghost use Rattle.pks_world.specs.Contents.{world_of};
+ghost use Rattle.pks_world.specs.Few.{few_of};
+ghost use Rattle.pks_exec.specs.Instances.{is_value, lists, is_listed, is_told, is_region, all_instances};
 
 use pks_terms::ids::{ItemNo, ObjId, PredId};
-use pks_terms::literal::{Atom, Literal, Pattern, PredAtom};
+use pks_terms::literal::{Atom, Literal, Pattern, PredAtom, affirmed};
 use pks_terms::problem::{Init, InitItem, Problem};
 use pks_terms::term::{Term, front};
-use pks_world::World;
-
-/// Up to three objects.
-#[derive(Clone, Copy)]
-pub(crate) struct Few {
-    n: u8,
-    first: ObjId,
-    second: ObjId,
-    third: ObjId,
-}
-
-impl Few {
-    /// No object.
-    fn none() -> Few
-        ensures objects { few_of result ≡ [] }
-        ensures count { result.n ≡ 0 }
-    {
-        let filler = ObjId(0);
-        Few {
-            n: 0,
-            first: filler,
-            second: filler,
-            third: filler,
-        }
-    }
-
-    /// These objects and one more.
-    fn with(&self, d: ObjId) -> Few
-        requires { self.now.n < 3 }
-        ensures objects { few_of result ≡ few_of self.now ++ d.0 ∷ [] }
-        ensures count { result.n ≡ self.now.n + 1 }
-    {
-        match self.n {
-            0 => Few {
-                n: 1,
-                first: d,
-                second: d,
-                third: d,
-            },
-            1 => Few {
-                n: 2,
-                first: self.first,
-                second: d,
-                third: d,
-            },
-            _ => Few {
-                n: 3,
-                first: self.first,
-                second: self.second,
-                third: d,
-            },
-        }
-    }
-
-    /// The predicate at these objects.
-    fn atom(&self, pred: PredId) -> PredAtom
-        ensures { atom_of result ≡ ground pred.0 (few_of self.now) }
-    {
-        PredAtom {
-            pred,
-            n: self.n,
-            args: [
-                Term::Obj(self.first),
-                Term::Obj(self.second),
-                Term::Obj(self.third),
-            ],
-        }
-    }
-}
-
-/// The atom as a literal.
-fn affirmed(a: &PredAtom) -> Literal
-    ensures { literal_of result ≡ affirmed (atom_of a.now) }
-{
-    Literal {
-        atom: Atom::Pred(*a),
-        positive: true,
-    }
-}
+use pks_world::{Few, World};
 
 /// Whether the terms have the same values, one by one.
 fn same_values(w: &World, ts: &[Term], us: &[Term]) -> bool

@@ -8,6 +8,6 @@ mod running;
 mod runs;
 
 pub use compatibility::compatible;
-pub use print::print_run;
+pub use print::{end_words, print_run};
 pub use running::exec;
 pub use runs::{End, Event, Run};

@@ -2,28 +2,21 @@
 ghost use Rattle.std.specs.Prelude.{◌≡◌, ◌∷◌, ◌++◌, map, codes, IfOk, OnOk};
 ghost use Rattle.std.specs.List.{flat_map};
 ghost use Rattle.pks_terms.specs.Syntax.{affirmed};
-ghost use Rattle.pks_terms.specs.Printed.{name_in, listed, line, truth_text, inner_text, objects_text, term_text, conj_text, instance_text, seen_text, end_text, event_text, run_text};
+ghost use Rattle.pks_terms.specs.Printed.{name_in, line, truth_text, inner_text, objects_text, term_text, conj_text, instance_text, seen_text, end_text, event_text, run_text};
 ghost use Rattle.pks_terms.specs.Views.{term_of, literal_of, conj_of, names_of};
 ghost use Rattle.pks_world.specs.Contents.{ground};
 ghost use Rattle.pks_world.specs.Observed.{objects_in, seen_of};
 ghost use Rattle.pks_exec.specs.Runs.{argument_of, ending_of, event_of};
 
 use crate::runs::{End, Event, Run};
-use pks_plan::{action_name, print_conj, print_literal, print_pattern, print_term};
+use pks_plan::{print_conj, print_literal, print_pattern, print_term, put};
 use pks_terms::ids::{ActId, ObjId, PredId};
 use pks_terms::literal::{Atom, Conj, Literal, PredAtom};
+use pks_terms::lookup::action_name;
 use pks_terms::problem::Problem;
 use pks_terms::term::Term;
 use pks_world::Seen;
 use std::alloc::{AllocError, Global};
-
-/// Appends the bytes.
-fn put(out: &mut Vec<u8>, bytes: &[u8]) -> Result<(), AllocError>
-    ensures { OnOk result (out.new.items ≡ out.old.items ++ bytes.now) }
-{
-    out.extend_from_slice(bytes)?;
-    Ok(())
-}
 
 /// A truth value.
 fn truth_word(b: bool) -> &'static str
@@ -32,8 +25,8 @@ fn truth_word(b: bool) -> &'static str
     if b { "true" } else { "false" }
 }
 
-/// How the run ended.
-fn end_words(end: End) -> &'static str
+/// How a run ended, as it is printed. It takes no memory.
+pub fn end_words(end: End) -> &'static str
     ensures { result.now ≡ end_text (ending_of end) }
 {
     match end {

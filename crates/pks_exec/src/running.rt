@@ -1,12 +1,11 @@
 //! The run of a plan in a world.
 ghost use Rattle.std.specs.Prelude.{◌≡◌, ◌≤◌, [], ◌∷◌, ◌++◌, map, length, IfOk, OnOk};
-ghost use Rattle.pks_terms.specs.Worlds.{inner_value};
 ghost use Rattle.pks_terms.specs.Knowledge.{Did, Saw, AtGoal, grounded, observations, run_of, run_cases};
 ghost use Rattle.pks_terms.specs.Problems.{IsCompatible};
 ghost use Rattle.pks_terms.specs.Trees.{IsPlan};
 ghost use Rattle.pks_terms.specs.Answers.{unjustified};
 ghost use Rattle.pks_terms.specs.Valid.{IsValid};
-ghost use Rattle.pks_terms.specs.Views.{inner_of, instance_of, problem_of};
+ghost use Rattle.pks_terms.specs.Views.{instance_of, problem_of};
 ghost use Rattle.pks_world.specs.Contents.{world_of};
 ghost use Rattle.pks_plan.specs.TreeViews.{tree_of, chain_of};
 ghost use Rattle.pks_exec.specs.Runs.{argument_of, event_of, EndsWith};
@@ -17,32 +16,9 @@ use pks_terms::ids::{ObjId, ObjList};
 use pks_terms::problem::Problem;
 use pks_terms::schema::Instance;
 use pks_terms::sequence::Sequence;
-use pks_terms::term::{Inner, front};
-use pks_world::World;
+use pks_terms::term::front;
+use pks_world::{World, argument_value, grounded};
 use std::alloc::{AllocError, Global};
-
-/// The value of an argument.
-fn argument_value(w: &World, t: &Inner) -> ObjId
-    ensures { result.0 ≡ inner_value (world_of w.now) (inner_of t.now) }
-{
-    w.value(&t.as_term())
-}
-
-/// The action with the values of its arguments in their place.
-fn grounded(w: &World, i: &Instance) -> Instance
-    ensures { instance_of result ≡ grounded (world_of w.now) (instance_of i.now) }
-{
-    Instance {
-        act: i.act,
-        n: i.n,
-        args: [
-            Inner::Obj(argument_value(w, &i.args[0])),
-            Inner::Obj(argument_value(w, &i.args[1])),
-            Inner::Obj(argument_value(w, &i.args[2])),
-            Inner::Obj(argument_value(w, &i.args[3])),
-        ],
-    }
-}
 
 /// The values of the arguments.
 fn argument_values(alloc: Global, w: &World, i: &Instance) -> Result<ObjList, AllocError>

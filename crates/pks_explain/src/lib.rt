@@ -1,7 +1,6 @@
 //! Explanations: what a tree owes, with a proof of each, and their text.
 #![tactic(auto)]
 
-mod bytes;
 pub mod entries;
 pub mod explaining;
 mod owing;

@@ -1,17 +1,16 @@
 //! The text of explanations.
-ghost use Rattle.std.specs.Prelude.{◌≡◌, ◌++◌, ◌∷◌, map, codes, decimal, OnOk, IfOk};
+ghost use Rattle.std.specs.Prelude.{◌≡◌, ◌++◌, ◌∷◌, map, decimal, OnOk, IfOk};
 ghost use Rattle.std.specs.List.{flat_map};
 ghost use Rattle.pks_terms.specs.Branching.{numbered};
 ghost use Rattle.pks_terms.specs.Printed.{line, literal_text, atom_text};
-ghost use Rattle.pks_terms.specs.Views.{names_of, literal_of, literals_in, atom_of};
+ghost use Rattle.pks_terms.specs.Views.{names_of, literals_in, atom_of};
 ghost use Rattle.pks_terms.specs.Explained.{known_fact_text, reason_text, cites_text, proof_line_text, entry_text, explained_text};
 ghost use Rattle.pks_lcw.specs.Entries.{atoms_of};
 ghost use Rattle.pks_proof.specs.ProofViews.{fact_of, reason_of, line_of, lines_of};
 ghost use Rattle.pks_explain.specs.EntryViews.{entry_of, entries_of};
 
-use crate::bytes::{put, put_number};
 use crate::entries::{Entry, Explained};
-use pks_plan::{print_literal, print_pattern};
+use pks_plan::{print_literal, print_pattern, put, put_number};
 use pks_proof::{Fact, Line, Reason};
 use pks_terms::literal::{Atom, Literal, PredAtom};
 use pks_terms::problem::Problem;
@@ -76,7 +75,7 @@ fn print_fact(p: &Problem<'_>, f: &Fact, out: &mut Vec<u8>) -> Result<(), AllocE
 
 /// Appends a word, a blank and a number.
 #[tactic(auto, using(crate::proofs::Texts::appended))]
-fn put_numbered(out: &mut Vec<u8>, word: &[u8], n: usize) -> Result<(), AllocError>
+fn put_numbered(out: &mut Vec<u8>, word: &[u8], n: u64) -> Result<(), AllocError>
     ensures { OnOk result (out.new.items ≡ out.old.items ++ (word.now ++ decimal n)) }
 {
     put(out, word)?;
@@ -90,8 +89,8 @@ fn print_reason(reason: &Reason, out: &mut Vec<u8>) -> Result<(), AllocError>
     ensures { OnOk result (out.new.items ≡ out.old.items ++ reason_text (reason_of reason.now)) }
 {
     match reason {
-        Reason::Given(n) => put_numbered(out, b"given ", n.0 as usize)?,
-        Reason::Side(n) => put_numbered(out, b"side ", *n as usize)?,
+        Reason::Given(n) => put_numbered(out, b"given ", n.0 as u64)?,
+        Reason::Side(n) => put_numbered(out, b"side ", *n as u64)?,
         Reason::Same => put(out, b"same")?,
         Reason::Swap => put(out, b"swap")?,
         Reason::Only => put(out, b"only")?,
@@ -115,7 +114,7 @@ fn print_numbers(numbers: &[u32], out: &mut Vec<u8>) -> Result<(), AllocError>
 {
     for n in numbers {
         put(out, b" ")?;
-        put_number(out, *n as usize)?;
+        put_number(out, *n as u64)?;
     }
     Ok(())
 }
@@ -145,8 +144,8 @@ fn print_words(
 ) -> Result<(), AllocError>
     ensures { OnOk result (out.new.items ≡ out.old.items ++ proof_line_text (names_of p.now) number (line_of x.now)) }
 {
-    put_number(out, number)?;
-    put_numbered(out, b" moment ", x.moment as usize)?;
+    put_number(out, number as u64)?;
+    put_numbered(out, b" moment ", x.moment as u64)?;
     put(out, b" ")?;
     print_fact(p, &x.fact, out)?;
     put(out, b" ")?;

@@ -1,9 +1,9 @@
 //! The world of a file.
-ghost use Rattle.std.specs.Prelude.{◌≡◌, None, Some, Option, map, IfOk, IfErr, OnOk, slice_get, option_map};
+ghost use Rattle.std.specs.Prelude.{◌≡◌, None, Some, map, IfOk, IfErr, OnOk};
 ghost use Rattle.pks_terms.specs.Valid.{IsValidSignature};
 ghost use Rattle.pks_terms.specs.Views.{signature_of};
 ghost use Rattle.pks_text.specs.FormViews.{form_view, forms_view};
-ghost use Rattle.pks_grammar.specs.Files.{or_else, world_shape_fault};
+ghost use Rattle.pks_grammar.specs.Files.{world_shape_fault};
 ghost use Rattle.pks_meaning.specs.Scopes.{signature_in};
 ghost use Rattle.pks_meaning.specs.Parts.{behind_head};
 ghost use Rattle.pks_meaning.specs.Views.{scope_view};
@@ -21,7 +21,7 @@ use crate::places::is_full;
 use indexmap::IndexMap;
 use pks_domain::declarations;
 use pks_grammar::report::{Refusal, Turned};
-use pks_grammar::shape::{version_of, world_shape_fault};
+use pks_grammar::shape::{top_at, version_of, world_shape_fault};
 use pks_meaning::parts::behind_head;
 use pks_meaning::report::Report;
 use pks_meaning::scope::{Declared, Scope};
@@ -35,13 +35,6 @@ fn refused(at: u32, code: u16) -> Turned
     ensures { IsRefusal (Some (at, code)) result }
 {
     Turned::Refused(Refusal::plain(at, code))
-}
-
-// The top form with a number, counted from 0.
-fn top_at<'f, 's>(top: &'f [Form<'s>], i: usize) -> Option<&'f Form<'s>>
-    ensures { option_map (λ f. form_view f.now) result ≡ slice_get (map form_view top.now) i }
-{
-    top.get(i)
 }
 
 // The parts behind its head.

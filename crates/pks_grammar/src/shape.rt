@@ -1,6 +1,6 @@
 //! The shape of a whole file (`docs/FORMAT.md`).
 
-ghost use Rattle.std.specs.Prelude.{◌≡◌, ◌↔◌, ◌∷◌, [], IsNone, codes, map, option_map, slice_get, List, ℕ};
+ghost use Rattle.std.specs.Prelude.{◌≡◌, ◌↔◌, ◌∷◌, [], IsNone, map, option_map, slice_get, List};
 ghost use Rattle.pks_text.specs.Forms.{place_of};
 ghost use Rattle.pks_text.specs.FormViews.{form_view, forms_view};
 ghost use Rattle.pks_grammar.specs.Files.{is_word, are_words, is_list_of, stated, is_version, version_of, number_of, or_else, top_fault, rest_fault, shape_fault, walk_fault, world_shape_fault};
@@ -144,7 +144,8 @@ fn rest_fault(fourth: Option<&Form<'_>>, fifth: Option<&Form<'_>>) -> Option<Ref
     }
 }
 
-fn top_at<'f, 's>(top: &'f [Form<'s>], i: usize) -> Option<&'f Form<'s>>
+/// The top form with a number, counted from 0, or nothing where there are fewer. It takes no memory.
+pub fn top_at<'f, 's>(top: &'f [Form<'s>], i: usize) -> Option<&'f Form<'s>>
     ensures { option_map (λ f. form_view f.now) result ≡ slice_get (map form_view top.now) i }
 {
     top.get(i)

@@ -1,21 +1,20 @@
 // What unconditional effects, and the one effect on a predicate, justify.
-ghost use Rattle.std.specs.Prelude.{◌≡◌, false, Option, Some, option_map, map, take, length, ◌==◌};
-ghost use Rattle.std.specs.List.{list_any, list_all, filter};
-ghost use Rattle.std.specs.Option.{option_map_or};
+ghost use Rattle.std.specs.Prelude.{◌≡◌, false, Some, ◌==◌};
+ghost use Rattle.std.specs.List.{list_any};
 ghost use Rattle.pks_terms.specs.Sets.{with_later};
-ghost use Rattle.pks_terms.specs.Syntax.{Term as Value, negated};
-ghost use Rattle.pks_terms.specs.Justified.{is_target_on, is_unconditional, is_about, decides, single, is_decided_by, is_plain_value, is_place, value_assigned, assigns_known, is_set_on, is_clear_of, clears_all, is_given_either_way};
-ghost use Rattle.pks_terms.specs.Views.{term_of, literal_of, literals_in, relation_of, conj_of, pattern_of, target_of, effect_of};
+ghost use Rattle.pks_terms.specs.Syntax.{negated};
+ghost use Rattle.pks_terms.specs.Justified.{is_target_on, is_unconditional, is_about, decides, is_decided_by, is_plain_value, assigns_known, is_set_on, is_clear_of, clears_all};
+ghost use Rattle.pks_terms.specs.Views.{term_of, literal_of, relation_of, pattern_of, target_of, effect_of};
 ghost use Rattle.pks_terms.specs.ValidProblems.{AssignsToPlace};
 ghost use Rattle.pks_justify.specs.Places.{AssignToPlaces};
 ghost use Rattle.pks_justify.specs.Asked.{given_view};
 ghost use Rattle.pks_justify.specs.Effects.{effects_of, is_this_or_negation, knows_condition, only_one};
 
-use crate::fitting::{atom_literal, is_plain_term, is_same};
+use crate::fitting::{is_plain_term, is_same};
 use crate::given::Given;
 use crate::undoing::may_be_undone;
 use pks_terms::ids::PredId;
-use pks_terms::literal::{Atom, Literal, Pattern, PredAtom};
+use pks_terms::literal::{Atom, Literal, Pattern, atom_literal};
 use pks_terms::schema::{Effect, Target};
 use pks_terms::term::{Term, front};
 

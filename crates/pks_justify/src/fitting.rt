@@ -1,12 +1,10 @@
 // What effects and senses justify, each for one kind of add.
-ghost use Rattle.std.specs.Prelude.{◌≡◌, false, Option, option_map, map, take, length, ◌==◌};
-ghost use Rattle.pks_terms.specs.Syntax.{Named};
+ghost use Rattle.std.specs.Prelude.{◌≡◌, false, Option, option_map, ◌==◌};
 ghost use Rattle.pks_terms.specs.Orders.{term_eq, literal_eq};
-ghost use Rattle.std.specs.List.{list_any, list_all, filter};
+ghost use Rattle.std.specs.List.{list_any};
 ghost use Rattle.std.specs.Option.{option_map_or};
-ghost use Rattle.pks_terms.specs.Sets.{with_later};
-ghost use Rattle.pks_terms.specs.Justified.{target_literal, makes_so, is_made_so, is_plain_term, covers, senses_all, senses_whether, senses_value, is_target_on, is_unconditional, is_about, decides, single, is_decided_by, is_plain_value, is_place, value_assigned, assigns_known, is_set_on, is_clear_of, clears_all, is_given_either_way};
-ghost use Rattle.pks_terms.specs.Views.{term_of, terms_of, literal_of, literals_in, relation_of, conj_of, pattern_of, target_of, effect_of, sense_of};
+ghost use Rattle.pks_terms.specs.Justified.{target_literal, makes_so, is_made_so, is_plain_term, covers, senses_all, senses_whether, senses_value};
+ghost use Rattle.pks_terms.specs.Views.{term_of, terms_of, literal_of, relation_of, conj_of, target_of, effect_of, sense_of};
 ghost use Rattle.pks_terms.specs.ValidProblems.{AssignsToPlace};
 ghost use Rattle.pks_justify.specs.Places.{AssignToPlaces};
 ghost use Rattle.pks_justify.specs.Asked.{given_view};
@@ -14,22 +12,13 @@ ghost use Rattle.pks_justify.specs.Effects.{slots_of, effects_of, senses_of};
 
 use crate::given::Given;
 use crate::undoing::may_be_undone;
-use pks_terms::ids::PredId;
-use pks_terms::literal::{Atom, Conj, Literal, Pattern, PredAtom, equation};
+use pks_terms::literal::{Atom, Conj, Literal, atom_literal, equation};
 use pks_terms::schema::{Effect, Sense, Target};
 use pks_terms::term::{Term, front};
 
-pub fn atom_literal(a: &PredAtom, positive: bool) -> Literal
-    ensures { literal_of result ≡ record { relation = Named a.now.pred.0; arguments = terms_of (take a.now.n a.now.args); positive = positive } }
-{
-    Literal {
-        atom: Atom::Pred(*a),
-        positive,
-    }
-}
-
-// What is so after the effect fires.
-fn literal_of_target(target: &Target) -> Option<Literal>
+/// What is so after an effect with this target fires, or nothing where it clears. It asks that what is assigned to is an application. It
+/// takes no memory.
+pub fn literal_of_target(target: &Target) -> Option<Literal>
     requires { AssignsToPlace target.now }
     ensures { option_map literal_of result ≡ target_literal (target_of target.now) }
 {

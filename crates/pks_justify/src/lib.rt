@@ -8,5 +8,5 @@ mod given;
 mod undoing;
 
 pub use cases::{Case, Unjustified, case_in, case_of, case_with, justify};
-pub use fitting::{is_same, makes_so};
+pub use fitting::{is_same, literal_of_target, makes_so};
 pub use given::{Given, queries_of};

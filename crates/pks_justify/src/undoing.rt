@@ -1,7 +1,7 @@
 // Which later effect may undo an earlier one.
 ghost use Rattle.std.specs.Prelude.{◌≡◌, map};
 ghost use Rattle.std.specs.List.{list_any};
-ghost use Rattle.pks_terms.specs.Syntax.{Term as Value, term_of as lifted, are_two_objects};
+ghost use Rattle.pks_terms.specs.Syntax.{Term as Value, term_of as lifted};
 ghost use Rattle.pks_terms.specs.Justified.{apart, some_apart, some_fixed_apart, may_undo};
 ghost use Rattle.pks_terms.specs.Orders.{number_of, arguments_of};
 ghost use Rattle.pks_terms.specs.Actions.{Set, Unset, Assign};
@@ -12,19 +12,7 @@ ghost use Rattle.pks_justify.specs.Effects.{slots_of, inners_of, effects_of};
 use crate::given::Given;
 use pks_terms::literal::{PredAtom, equation};
 use pks_terms::schema::{Effect, Target};
-use pks_terms::term::{Inner, Term, front};
-
-fn are_two_objects(t: &Term, u: &Term) -> bool
-    ensures { result ≡ are_two_objects (term_of t.now) (term_of u.now) }
-{
-    match t {
-        Term::Obj(d) => match u {
-            Term::Obj(e) => d.0 != e.0,
-            Term::Param(_) | Term::App { .. } => false,
-        },
-        Term::Param(_) | Term::App { .. } => false,
-    }
-}
+use pks_terms::term::{Inner, Term, are_two_objects, front};
 
 #[tactic(auto, unfolding(pks_terms::specs::Justified::apart))]
 fn are_apart(g: &Given<'_>, t: &Term, u: &Term) -> bool

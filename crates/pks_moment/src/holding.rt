@@ -2,11 +2,11 @@
 
 use crate::moment::Moment;
 use crate::placing::unequal;
-use pks_derived::ranges::is_foreign;
 use pks_lcw::Entry;
 use pks_terms::literal::{Atom, Literal, Pattern, PredAtom};
+use pks_terms::lookup::is_foreign;
 use pks_terms::problem::Signature;
-use pks_terms::term::{Term, front};
+use pks_terms::term::{Term, are_two_objects, front};
 
 /// The greatest number of arguments of an atom.
 pub(crate) const MOST_ARGUMENTS: usize = 3;
@@ -30,14 +30,6 @@ pub fn is_evident(s: &Signature, l: &Literal) -> bool {
                 are_evidently_different(s, left, right)
             }
         }
-    }
-}
-
-/// Whether the terms are two different objects.
-pub(crate) fn are_other_objects(t: &Term, u: &Term) -> bool {
-    match (t, u) {
-        (Term::Obj(d), Term::Obj(e)) => *d != *e,
-        _ => false,
     }
 }
 
@@ -70,7 +62,7 @@ impl Moment {
 
     /// Whether the terms are known to be different. It takes no memory.
     pub fn are_different(&self, s: &Signature, t: &Term, u: &Term) -> bool {
-        are_other_objects(t, u) || self.holds_plainly(s, &unequal(t, u))
+        are_two_objects(t, u) || self.holds_plainly(s, &unequal(t, u))
     }
 
     /// The difference of the arguments at this position, if it is known.

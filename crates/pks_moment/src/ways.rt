@@ -1,13 +1,13 @@
 //! The way from an atom that a region shuts out to the region's own terms, and differences of atoms.
 
-use crate::holding::{MOST_ARGUMENTS, are_other_objects, argument, pair_at};
+use crate::holding::{MOST_ARGUMENTS, argument, pair_at};
 use crate::moment::Moment;
 use crate::normalizing::{Link, Step, first_of_chain};
 use crate::placing::{with_arguments, with_term};
 use crate::pushing::push;
 use pks_terms::literal::{Atom, Literal, Pattern, PredAtom};
 use pks_terms::problem::Signature;
-use pks_terms::term::{Term, front};
+use pks_terms::term::{Term, are_two_objects, front};
 use std::alloc::{AllocError, Global};
 
 /// The denial of the atom.
@@ -40,7 +40,7 @@ pub fn with_fixed(a: &PredAtom, p: &Pattern) -> PredAtom {
 /// Whether the atoms have two different objects at this position.
 fn are_apart_at(a: &PredAtom, b: &PredAtom, position: usize) -> bool {
     match pair_at(a, b, position) {
-        Some((t, u)) => are_other_objects(&t, &u),
+        Some((t, u)) => are_two_objects(&t, &u),
         None => false,
     }
 }

@@ -1,19 +1,17 @@
 -- What the program's levels and ground actions say.
 use Rattle.std.specs.Prelude.{ℕ, Bool, true, false, not, ◌||◌, ◌==◌, ◌≡◌, ◌⊎◌, List, [], ◌∷◌, map, take, if◌then◌else◌}
 use Rattle.std.specs.List.{list_any, flat_map}
-use Rattle.pks_terms.specs.declared.schema.Effect.{Effect as DEffect}
 use Rattle.pks_terms.specs.Sets.{Each, IsIn}
 use Rattle.pks_terms.specs.Syntax.{Term, place, affirmed, Atom}
 use Rattle.pks_terms.specs.Orders.{term_eq}
 use Rattle.pks_terms.specs.Worlds.{World, value_of, true_in}
 use Rattle.pks_terms.specs.Actions.{Instance}
 use Rattle.pks_terms.specs.Problems.{Problem, schema_of}
-use Rattle.pks_terms.specs.ValidProblems.{AssignsToPlace}
+use Rattle.pks_terms.specs.ValidProblems.{ArePlaced}
 use Rattle.pks_terms.specs.Views.{term_of, atom_of, literals_in, effect_of}
 use Rattle.pks_world.specs.Contents.{ground, is_listed}
 use Rattle.pks_bound.specs.Runs.{MayBeDone}
 use Rattle.pks_bound.specs.Levels.{Chances}
-use Rattle.pks_needs.specs.declared.objects.Few.{Few}
 use Rattle.pks_needs.specs.declared.objects.Pair.{Pair}
 use Rattle.pks_needs.specs.declared.gains.Gains.{Gains}
 use Rattle.pks_needs.specs.declared.gains.Given.{Given}
@@ -22,10 +20,6 @@ use Rattle.pks_needs.specs.declared.news.New.TheVariants as news_is
 use Rattle.pks_needs.specs.declared.deeds.Deed.{Deed as DDeed}
 use Rattle.pks_needs.specs.declared.deeds.Deeds.{Deeds}
 use Rattle.pks_needs.specs.Relaxed.{New, NewTruth, NewValue, NewFalse, Deed, deed_of_instance, Leads}
-
--- up to three objects
-abbrev pub few_of : Few → List ℕ
-few_of x = take x.n (x.first.0 ∷ x.second.0 ∷ x.third.0 ∷ [])
 
 -- up to two
 abbrev pub pair_of : Pair → List ℕ
@@ -71,10 +65,6 @@ has_new w g (NewFalse p) = is_cleared g p
 -- a ground action
 abbrev pub deed_of : DDeed → Deed
 deed_of x = record { pre = literals_in x.pre.items; effects = map effect_of x.effects.items }
-
--- each of them that assigns does so to a function at arguments
-abbrev pub ArePlaced : List DEffect → Type 0
-ArePlaced es = Each (λ e. AssignsToPlace e.target) es
 
 -- among the ground actions is each that does something and may be done in a world that others lead to
 pub record AreDeeds (p : Problem) (x : Deeds) (w : World) : Type 0 where

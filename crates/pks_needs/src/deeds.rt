@@ -4,16 +4,16 @@ ghost use Rattle.std.specs.List.{flat_map};
 ghost use Rattle.pks_terms.specs.Sets.{Each};
 ghost use Rattle.pks_terms.specs.Syntax.{Object};
 ghost use Rattle.pks_terms.specs.Worlds.{World};
-ghost use Rattle.pks_terms.specs.Actions.{target_at, effect_at};
-ghost use Rattle.pks_terms.specs.ValidProblems.{AssignsToPlace, IsValidProblem};
-ghost use Rattle.pks_terms.specs.Views.{object_of, inner_of, given_of, types_of, literals_in, target_of, effect_of, query_of, schema_of, signature_of, problem_of};
+ghost use Rattle.pks_terms.specs.ValidProblems.{IsValidProblem, ArePlaced};
+ghost use Rattle.pks_terms.specs.Views.{object_of, inner_of, given_of, types_of, literals_in, query_of, schema_of, signature_of, problem_of};
 ghost use Rattle.pks_needs.specs.Relaxed.{asked_at, deed_with, deeds_from, all_deeds};
-ghost use Rattle.pks_needs.specs.Gained.{deed_of, ArePlaced, AreDeeds};
+ghost use Rattle.pks_needs.specs.Gained.{deed_of, AreDeeds};
 
 use pks_terms::ids::{ActId, ObjId, TypeId};
 use pks_terms::literal::Literal;
 use pks_terms::problem::{Problem, Signature};
-use pks_terms::schema::{Effect, Instance, Query, Schema, Target};
+use pks_terms::putting::effects_at;
+use pks_terms::schema::{Effect, Instance, Query, Schema};
 use pks_terms::term::Inner;
 use std::alloc::{AllocError, Global};
 
@@ -45,48 +45,6 @@ fn add_asked(pre: &[Query], i: &Instance, to: &mut Vec<Literal>) -> Result<(), A
         add_asked(rest, i, to)?;
     }
     Ok(())
-}
-
-/// The target with the instance's arguments put in.
-fn target_at(x: &Target, i: &Instance) -> Target
-    requires { AssignsToPlace x.now }
-    ensures says { target_of result ≡ target_at (given_of i.now) (target_of x.now) }
-    ensures placed { AssignsToPlace result }
-{
-    match x {
-        Target::Set(a) => Target::Set(a.at(i)),
-        Target::Unset(a) => Target::Unset(a.at(i)),
-        Target::Clear(y) => Target::Clear(y.at(i)),
-        Target::Assign { place, value } => Target::Assign {
-            place: place.at(i),
-            value: value.at(i),
-        },
-    }
-}
-
-/// The effect with the instance's arguments put in.
-fn effect_at(e: &Effect, i: &Instance) -> Effect
-    requires { AssignsToPlace e.now.target }
-    ensures says { effect_of result ≡ effect_at (given_of i.now) (effect_of e.now) }
-    ensures placed { AssignsToPlace result.target }
-{
-    Effect {
-        cond: e.cond.at(i),
-        target: target_at(&e.target, i),
-    }
-}
-
-/// The effects with the instance's arguments put in.
-fn effects_at(alloc: Global, written: &[Effect], i: &Instance) -> Result<Vec<Effect>, AllocError>
-    requires { ArePlaced written.now }
-    ensures says { IfOk result (λ v. map effect_of v.items ≡ map (effect_at (given_of i.now)) (map effect_of written.now)) }
-    ensures placed { IfOk result (λ v. ArePlaced v.items) }
-{
-    let mut effects = Vec::new(alloc);
-    for e in written {
-        effects.push(effect_at(e, i))?;
-    }
-    Ok(effects)
 }
 
 /// The ground action.

@@ -2,12 +2,12 @@
 ghost use Rattle.std.specs.Prelude.{◌≡◌, ◌==◌, map, ◌++◌, OnOk, true, false};
 ghost use Rattle.std.specs.List.{list_any, flat_map};
 ghost use Rattle.pks_terms.specs.Syntax.{affirmed};
-ghost use Rattle.pks_terms.specs.Views.{object_of, term_of, atom_of, literal_of};
+ghost use Rattle.pks_terms.specs.Views.{object_of, term_of, atom_of};
 ghost use Rattle.pks_world.specs.Contents.{world_of};
 ghost use Rattle.pks_needs.specs.Gained.{given_of, given_to, is_cleared, may_be, values_at};
 
 use pks_terms::ids::{ObjId, PredId};
-use pks_terms::literal::{Atom, Literal, PredAtom};
+use pks_terms::literal::{PredAtom, affirmed};
 use pks_terms::term::Term;
 use pks_world::World;
 use std::alloc::{AllocError, Global};
@@ -28,16 +28,6 @@ pub(crate) struct Gains {
     pub(crate) falses: BTreeSet<PredAtom>,
     pub(crate) cleared: Vec<PredId>,
     pub(crate) values: Vec<Given>,
-}
-
-/// The atom as a literal.
-fn affirmed(a: &PredAtom) -> Literal
-    ensures { literal_of result ≡ affirmed (atom_of a.now) }
-{
-    Literal {
-        atom: Atom::Pred(*a),
-        positive: true,
-    }
 }
 
 /// Whether the predicate is one of these.

@@ -3,19 +3,19 @@ ghost use Rattle.std.specs.Prelude.{◌≡◌, ◌≤◌, ◌==◌, map, take, l
 ghost use Rattle.std.specs.List.{list_any, list_all};
 ghost use Rattle.pks_terms.specs.Syntax.{Named, Equality};
 ghost use Rattle.pks_terms.specs.Worlds.{signed};
-ghost use Rattle.pks_terms.specs.Views.{object_of, term_of, terms_of, atom_of, literal_of, literals_in, aim_of};
+ghost use Rattle.pks_terms.specs.Views.{object_of, term_of, atom_of, literal_of, literals_in, aim_of};
 ghost use Rattle.pks_world.specs.Contents.{world_of};
-ghost use Rattle.pks_needs.specs.Relaxed.{tuples, term_values, may_relate, may, aim_may};
-ghost use Rattle.pks_needs.specs.Gained.{few_of, chances_of};
+ghost use Rattle.pks_needs.specs.Relaxed.{may_relate, may, aim_may};
+ghost use Rattle.pks_world.specs.Few.{few_of};
+ghost use Rattle.pks_needs.specs.Gained.{chances_of};
 
 use crate::gains::Gains;
-use crate::objects::Few;
 use pks_terms::ids::{ObjId, PredId};
 use pks_terms::literal::{Atom, Literal, PredAtom};
 use pks_terms::problem::Aim;
 use pks_terms::schema::Query;
 use pks_terms::term::{Term, front};
-use pks_world::World;
+use pks_world::{Few, World};
 use std::alloc::{AllocError, Global};
 
 /// The truth as it is, or turned round.

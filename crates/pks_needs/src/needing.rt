@@ -6,7 +6,8 @@ ghost use Rattle.pks_terms.specs.Views.{problem_of};
 ghost use Rattle.pks_world.specs.Contents.{world_of};
 ghost use Rattle.pks_bound.specs.Levels.{Grows, IsBound};
 ghost use Rattle.pks_needs.specs.Relaxed.{deed_news, IsNewIn};
-ghost use Rattle.pks_needs.specs.Gained.{chances_of, deed_of, ArePlaced, AreDeeds};
+ghost use Rattle.pks_terms.specs.ValidProblems.{ArePlaced};
+ghost use Rattle.pks_needs.specs.Gained.{chances_of, deed_of, AreDeeds};
 
 use crate::deeds::Deeds;
 use crate::gains::Gains;

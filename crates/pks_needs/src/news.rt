@@ -3,23 +3,24 @@ ghost use Rattle.std.specs.Prelude.{◌≡◌, ◌++◌, map, OnOk, IfOk};
 ghost use Rattle.std.specs.List.{flat_map};
 ghost use Rattle.pks_terms.specs.Orders.{number_of, arguments_of};
 ghost use Rattle.pks_terms.specs.Syntax.{place};
-ghost use Rattle.pks_terms.specs.Views.{object_of, inner_of, term_of, terms_of, atom_of, target_of, effect_of};
+ghost use Rattle.pks_terms.specs.Views.{object_of, term_of, atom_of, target_of, effect_of};
 ghost use Rattle.pks_terms.specs.ValidProblems.{IsApplication, AssignsToPlace};
 ghost use Rattle.pks_terms.specs.Sets.{Each};
 ghost use Rattle.pks_world.specs.Contents.{ground, world_of};
 ghost use Rattle.pks_needs.specs.Relaxed.{NewTruth, NewValue, atom_news, place_news, news, effect_news, deed_news};
-ghost use Rattle.pks_needs.specs.Gained.{few_of, pair_of, chances_of, new_of, deed_of};
+ghost use Rattle.pks_world.specs.Few.{few_of};
+ghost use Rattle.pks_needs.specs.Gained.{pair_of, chances_of, new_of, deed_of};
 
 use crate::deeds::Deed;
 use crate::gains::Gains;
 use crate::may::terms_in;
-use crate::objects::{Few, Pair};
+use crate::objects::Pair;
 use crate::values::inners_in;
 use pks_terms::ids::{FnId, ObjId, PredId};
 use pks_terms::literal::PredAtom;
 use pks_terms::schema::{Effect, Target};
 use pks_terms::term::{Term, front};
-use pks_world::World;
+use pks_world::{Few, World};
 use std::alloc::{AllocError, Global};
 
 /// What may become so: the truth of an atom at objects, a value of a place, that each atom of a predicate is false.

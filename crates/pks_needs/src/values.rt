@@ -4,13 +4,14 @@ ghost use Rattle.std.specs.List.{flat_map};
 ghost use Rattle.pks_terms.specs.Views.{object_of, inner_of, term_of, terms_of};
 ghost use Rattle.pks_world.specs.Contents.{world_of};
 ghost use Rattle.pks_needs.specs.Relaxed.{tuples, inner_values, term_values};
-ghost use Rattle.pks_needs.specs.Gained.{few_of, pair_of, chances_of};
+ghost use Rattle.pks_world.specs.Few.{few_of};
+ghost use Rattle.pks_needs.specs.Gained.{pair_of, chances_of};
 
 use crate::gains::Gains;
-use crate::objects::{Few, Pair};
+use crate::objects::Pair;
 use pks_terms::ids::{FnId, ObjId};
 use pks_terms::term::{Inner, Term, front};
-use pks_world::World;
+use pks_world::{Few, World};
 use std::alloc::{AllocError, Global};
 
 /// The arguments in use.

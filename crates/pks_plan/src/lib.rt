@@ -5,14 +5,13 @@ mod body;
 mod bytes;
 pub mod laws;
 mod lines;
-mod names;
 mod order;
 mod parts;
 mod text;
 mod trees;
 
 pub use body::print_tree;
-pub use names::action_name;
-pub use order::{action_cost, better, cost};
+pub use bytes::{put, put_number};
+pub use order::{action_cost, better, cost, instance_cmp};
 pub use text::{print_conj, print_instance, print_literal, print_pattern, print_term};
 pub use trees::{CaseChain, Tree, depth};

@@ -124,7 +124,7 @@ pub(crate) fn depth_line(depth: u32, out: &mut Vec<u8>) -> Result<(), AllocError
     ensures err { OnErr result (AppendsPart out.old.items out.new.items (line (codes "plan depth " ++ decimal depth))) }
 {
     put(out, b"plan depth ")?;
-    put_number(out, depth)?;
+    put_number(out, depth as u64)?;
     put(out, b"\n")?;
     Ok(())
 }

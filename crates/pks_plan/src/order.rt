@@ -78,8 +78,8 @@ fn kind(t: &Tree) -> u8
     }
 }
 
-/// By action, then by arguments from the left.
-fn instance_cmp(i: &Instance, j: &Instance) -> Ordering
+/// The order of instances: by action, then by arguments from the left. It takes no memory.
+pub fn instance_cmp(i: &Instance, j: &Instance) -> Ordering
     ensures { result ≡ instance_cmp (instance_of i.now) (instance_of j.now) }
 {
     let arguments = front(&i.args, i.n).cmp(&front(&j.args, j.n));

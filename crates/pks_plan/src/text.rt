@@ -6,10 +6,10 @@ ghost use Rattle.pks_terms.specs.Views.{names_of, inner_of, term_of, relation_of
 ghost use Rattle.pks_plan.specs.Appending.{AppendsPart};
 
 use crate::bytes::put;
-use crate::names::{action_name, function_name, object_name, predicate_name};
 use crate::parts::{Part, print_list, print_parts};
 use pks_terms::ids::ObjId;
 use pks_terms::literal::{Atom, Conj, Literal, Pattern};
+use pks_terms::lookup::{action_name, function_name, object_name, predicate_name, relation_text};
 use pks_terms::problem::Problem;
 use pks_terms::schema::Instance;
 use pks_terms::term::{Inner, Term, front};
@@ -109,16 +109,6 @@ impl Part for Literal {
             print_list(p, b"not", &[self.atom], out)?;
         }
         Ok(())
-    }
-}
-
-/// The predicate's name, or the sign of equality.
-fn relation_text<'s>(p: &Problem<'s>, atom: &Atom) -> &'s str
-    ensures { result.now ≡ relation_text (names_of p.now) (relation_of atom.now) }
-{
-    match atom {
-        Atom::Pred(a) => predicate_name(p, a.pred),
-        Atom::Eq { .. } => "=",
     }
 }
 

@@ -1,7 +1,6 @@
 //! What each leaf of a plan knows of every moment, and its text.
 #![tactic(auto)]
 
-mod bytes;
 pub mod laws;
 mod leaves;
 mod print;

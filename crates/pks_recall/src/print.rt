@@ -10,10 +10,9 @@ ghost use Rattle.pks_kf.specs.Known.{literals_of};
 ghost use Rattle.pks_normal.specs.Fives.{five_of};
 ghost use Rattle.pks_walk.specs.Walking.{state_of};
 
-use crate::bytes::{put, put_number};
 use pks_history::histories::History;
 use pks_kf::Kf;
-use pks_plan::print_literal;
+use pks_plan::{print_literal, put, put_number};
 use pks_query::databases::Db;
 use pks_terms::literal::Literal;
 use pks_terms::problem::Problem;
@@ -44,7 +43,7 @@ fn print_moment(p: &Problem<'_>, number: u32, d: &Db, out: &mut Vec<u8>) -> Resu
     ensures { OnOk result (out.new.items ≡ out.old.items ++ moment_text (names_of p.now) (number, five_of d.now)) }
 {
     put(out, b"moment ")?;
-    put_number(out, number as usize)?;
+    put_number(out, number as u64)?;
     put(out, b"\n")?;
     print_known(p, &d.parts().kf, out)?;
     Ok(())
@@ -81,7 +80,7 @@ fn print_leaf(
     ensures { OnOk result (out.new.items ≡ out.old.items ++ leaf_text (names_of p.now) (number, state_of x.now)) }
 {
     put(out, b"leaf ")?;
-    put_number(out, number)?;
+    put_number(out, number as u64)?;
     put(out, b"\n")?;
     print_state(p, x, out)?;
     Ok(())

@@ -1,65 +1,25 @@
 //! The effects of an instance, its arguments put in, and what they surely do.
 ghost use Rattle.std.specs.Prelude.{◌≡◌, ◌&&◌, ◌||◌, false, map, IfOk};
 ghost use Rattle.std.specs.List.{list_all, list_any};
-ghost use Rattle.std.specs.Option.{option_map, option_map_or};
-ghost use Rattle.pks_terms.specs.Actions.{target_at, effect_at};
+ghost use Rattle.std.specs.Option.{option_map};
 ghost use Rattle.pks_terms.specs.Orders.{literal_eq};
 ghost use Rattle.pks_terms.specs.Settling.{effects_of};
 ghost use Rattle.pks_terms.specs.Syntax.{negated};
-ghost use Rattle.pks_terms.specs.ValidProblems.{AssignsToPlace, IsValidProblem};
-ghost use Rattle.pks_terms.specs.Views.{given_of, term_of, literal_of, literals_in, target_of, effect_of, instance_of, problem_of};
+ghost use Rattle.pks_terms.specs.ValidProblems.{AssignsToPlace, IsValidProblem, ArePlaced};
+ghost use Rattle.pks_terms.specs.Views.{term_of, literal_of, literals_in, target_of, effect_of, instance_of, problem_of};
 ghost use Rattle.pks_kf.specs.Known.{literals_of};
 ghost use Rattle.pks_normal.specs.Fives.{five_of};
 ghost use Rattle.pks_cut.specs.Testing.{has, made_by, tells, had_value, fires_surely, fires_never, is_written, assigns, is_assigned};
-ghost use Rattle.pks_settled_past.specs.Placed.{ArePlaced, writes};
+ghost use Rattle.pks_settled_past.specs.Placed.{writes};
 
 use crate::objects::gives_value;
 use pks_normal::five::Five;
 use pks_terms::literal::{Atom, Literal, equation};
 use pks_terms::problem::Problem;
+use pks_terms::putting::effects_at;
 use pks_terms::schema::{Effect, Instance, Target};
 use pks_terms::term::{Term, front};
 use std::alloc::{AllocError, Global};
-
-/// The target with the instance's arguments put in.
-fn target_at(x: &Target, i: &Instance) -> Target
-    requires { AssignsToPlace x.now }
-    ensures says { target_of result ≡ target_at (given_of i.now) (target_of x.now) }
-    ensures placed { AssignsToPlace result }
-{
-    match x {
-        Target::Set(a) => Target::Set(a.at(i)),
-        Target::Unset(a) => Target::Unset(a.at(i)),
-        Target::Clear(y) => Target::Clear(y.at(i)),
-        Target::Assign { place, value } => Target::Assign {
-            place: place.at(i),
-            value: value.at(i),
-        },
-    }
-}
-
-fn effect_at(e: &Effect, i: &Instance) -> Effect
-    requires { AssignsToPlace e.now.target }
-    ensures says { effect_of result ≡ effect_at (given_of i.now) (effect_of e.now) }
-    ensures placed { AssignsToPlace result.target }
-{
-    Effect {
-        cond: e.cond.at(i),
-        target: target_at(&e.target, i),
-    }
-}
-
-fn effects_at(alloc: Global, written: &[Effect], i: &Instance) -> Result<Vec<Effect>, AllocError>
-    requires { ArePlaced written.now }
-    ensures says { IfOk result (λ v. map effect_of v.items ≡ map (effect_at (given_of i.now)) (map effect_of written.now)) }
-    ensures placed { IfOk result (λ v. ArePlaced v.items) }
-{
-    let mut effects = Vec::new(alloc);
-    for e in written {
-        effects.push(effect_at(e, i))?;
-    }
-    Ok(effects)
-}
 
 /// The effects of the instance's action, its arguments put in. The error is want of memory.
 pub(crate) fn effects_of(

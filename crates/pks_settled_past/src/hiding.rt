@@ -2,12 +2,11 @@
 //! past is.
 ghost use Rattle.std.specs.Prelude.{◌≡◌, ◌&&◌, ◌||◌, map, IfOk};
 ghost use Rattle.std.specs.List.{list_all};
-ghost use Rattle.pks_terms.specs.ValidProblems.{AssignsToPlace, IsValidProblem};
+ghost use Rattle.pks_terms.specs.ValidProblems.{AssignsToPlace, IsValidProblem, ArePlaced};
 ghost use Rattle.pks_terms.specs.Views.{literal_of, effect_of, instance_of, problem_of};
 ghost use Rattle.pks_normal.specs.Fives.{five_of};
 ghost use Rattle.pks_cut.specs.Transparent.{gives_value};
 ghost use Rattle.pks_cut.specs.Testing.{has, had_value, fires_surely, is_decided_to, is_decided, hides_nothing};
-ghost use Rattle.pks_settled_past.specs.Placed.{ArePlaced};
 
 use crate::effects::{effects_of, fires_never, fires_surely, had_value, has, made_by};
 use crate::kept::{groups_last, literals_last, regions_last};

@@ -1,12 +1,12 @@
 //! What of databases is kept by a step, or surely changed. The effects are those of the step, its arguments put in.
-ghost use Rattle.std.specs.Prelude.{◌≡◌, ◌&&◌, ◌||◌, is_some, map};
+ghost use Rattle.std.specs.Prelude.{◌≡◌, ◌&&◌, ◌||◌, map};
 ghost use Rattle.std.specs.List.{list_all, list_any, flat_map};
 ghost use Rattle.std.specs.Option.{option_map};
 ghost use Rattle.std.specs.Ordering.{is_eq};
 ghost use Rattle.pks_terms.specs.Databases.{entry_cmp};
 ghost use Rattle.pks_terms.specs.Orders.{conj_cmp};
 ghost use Rattle.pks_terms.specs.Progress.{fixed_terms, entry_terms};
-ghost use Rattle.pks_terms.specs.Syntax.{as_object, negated};
+ghost use Rattle.pks_terms.specs.Syntax.{negated};
 ghost use Rattle.pks_terms.specs.Views.{term_of, literal_of, literals_in, effect_of};
 ghost use Rattle.pks_kf.specs.Known.{literals_of};
 ghost use Rattle.pks_kx.specs.Groups.{groups_of};
@@ -14,7 +14,7 @@ ghost use Rattle.pks_lcw.specs.Entries.{atoms_of, entry_of, entries_of};
 ghost use Rattle.pks_normal.specs.Fives.{five_of};
 ghost use Rattle.pks_cut.specs.Transparent.{gives_value, left_of, is_elsewhere};
 ghost use Rattle.pks_cut.specs.Testing.{has, are_objects, is_of_objects, is_written, is_assigned, is_untouched, is_kept, lasts_as_group, lasts_as_region};
-ghost use Rattle.pks_settled_past.specs.Placed.{ArePlaced};
+ghost use Rattle.pks_terms.specs.ValidProblems.{ArePlaced};
 
 use crate::effects::{has, is_assigned, is_written};
 use crate::objects::{are_objects, are_of_objects, gives_value, is_object, is_of_objects};

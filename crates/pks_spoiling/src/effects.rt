@@ -1,11 +1,10 @@
 //! The effects of an action with its arguments. `docs/RULES.md` has the rule on actions.
-ghost use Rattle.std.specs.Prelude.{◌≡◌, map};
-ghost use Rattle.pks_terms.specs.Problems.{schema_of};
+ghost use Rattle.std.specs.Prelude.{◌≡◌};
 ghost use Rattle.pks_terms.specs.Settling.{effects_of};
-ghost use Rattle.pks_terms.specs.Views.{effect_of, instance_of, problem_of};
+ghost use Rattle.pks_terms.specs.Views.{instance_of, problem_of};
 ghost use Rattle.pks_spoiling.specs.EffectViews.{effects_in};
 
-use pks_terms::ids::ActId;
+use pks_terms::lookup::written_effects;
 use pks_terms::problem::Problem;
 use pks_terms::schema::{Effect, Instance};
 
@@ -18,21 +17,12 @@ pub struct Effects<'a> {
     pub instance: &'a Instance,
 }
 
-fn written_of<'a>(p: &'a Problem<'_>, act: ActId) -> &'a [Effect]
-    ensures { map effect_of result.now ≡ (schema_of (problem_of p.now) act.0).effects }
-{
-    match p.schemas.as_slice().get(usize::from(act.0)) {
-        Some(schema) => schema.effects.as_slice(),
-        None => &[],
-    }
-}
-
 /// The effects of the instance's action, none where it isn't declared. It takes no memory.
 pub fn effects_of<'a>(p: &'a Problem<'_>, i: &'a Instance) -> Effects<'a>
     ensures { effects_in result ≡ effects_of (problem_of p.now) (instance_of i.now) }
 {
     Effects {
-        written: written_of(p, i.act),
+        written: written_effects(p, i.act),
         instance: i,
     }
 }

@@ -1,9 +1,8 @@
 -- Words for the forms of targets, and for what comes of the effects one by one.
 use Rattle.std.specs.Prelude.{Bool, ◌&&◌, List, [], ◌∷◌, ◌++◌, map, cond}
 use Rattle.std.specs.List.{list_any, list_all, filter, flat_map}
-use Rattle.pks_terms.specs.declared.schema.Effect.{Effect as DEffect}
-use Rattle.pks_terms.specs.Sets.{Each, with_others, with_later}
-use Rattle.pks_terms.specs.Syntax.{Form, Object, Parameter, Apply, Term, Literal, negated}
+use Rattle.pks_terms.specs.Sets.{with_others, with_later}
+use Rattle.pks_terms.specs.Syntax.{Object, Parameter, Apply, Term, Literal, negated}
 use Rattle.pks_terms.specs.Orders.{number_of, arguments_of, equation}
 use Rattle.pks_terms.specs.Signatures.{Signature}
 use Rattle.pks_terms.specs.Databases.{Five, holds}
@@ -11,7 +10,6 @@ use Rattle.pks_terms.specs.Actions.{Target, Effect}
 use Rattle.pks_terms.specs.Spoiling.{may_fire, may_change, is_stable}
 use Rattle.pks_terms.specs.Progress.{has_stable_arguments}
 use Rattle.pks_terms.specs.Settling.{term_forms, target_forms, assigns_alike, lasting, lasted, fired, must_have_fired, cannot_have_fired}
-use Rattle.pks_terms.specs.ValidProblems.{AssignsToPlace}
 
 -- the forms of a term that are stable
 abbrev pub stable_terms : Signature → Five → List Effect → Term → List Term
@@ -26,10 +24,6 @@ IsPlace (Apply f ts) = Unit {0}
 -- the equations of the places whose arguments are stable with the values
 abbrev pub equations_at : Signature → Five → List Effect → List Term → List Term → List Literal
 equations_at s d es places values = flat_map (λ t. map (equation t) values) (filter (has_stable_arguments s d es) places)
-
--- each effect that assigns does so to a function at arguments
-abbrev pub ArePlaced : List DEffect → Type 0
-ArePlaced es = Each (λ e. AssignsToPlace e.target) es
 
 -- the effect may fire and may assign to the place a value that isn't different from this one
 abbrev pub assigns_so : Signature → Five → Term → Term → Effect → Bool

@@ -1,37 +1,24 @@
 //! What a moment gives the next one, and what it gets from it. `docs/RULES.md` has the rules on settling.
-ghost use Rattle.std.specs.Prelude.{◌≡◌, ◌++◌, map, IfOk, OnOk};
-ghost use Rattle.pks_terms.specs.Problems.{schema_of};
+ghost use Rattle.std.specs.Prelude.{◌≡◌, ◌++◌, IfOk, OnOk};
 ghost use Rattle.pks_terms.specs.Settling.{forward, backward, effects_of};
-ghost use Rattle.pks_terms.specs.ValidProblems.{IsValidProblem};
-ghost use Rattle.pks_terms.specs.Views.{effect_of, instance_of, problem_of, signature_of};
+ghost use Rattle.pks_terms.specs.ValidProblems.{IsValidProblem, ArePlaced};
+ghost use Rattle.pks_terms.specs.Views.{instance_of, problem_of, signature_of};
 ghost use Rattle.pks_kf.specs.Known.{literals_of};
 ghost use Rattle.pks_normal.specs.Fives.{five_of};
 ghost use Rattle.pks_step_rules.specs.Changes.{signature_in, before_in, effects_by};
 ghost use Rattle.pks_step_rules.specs.News.{Completes};
-ghost use Rattle.pks_step_rules.specs.Targets.{ArePlaced, given_forward, given_by_conditions, given_backward};
+ghost use Rattle.pks_step_rules.specs.Targets.{given_forward, given_by_conditions, given_backward};
 
 use crate::change::Change;
 use crate::firing::{put_all_cannot_have_fired, put_all_fired, put_all_must_have_fired};
 use crate::lasting::{put_lasted, put_lasted_news, put_lasting, put_lasting_news};
 use pks_derived::derived::Derived;
 use pks_spoiling::effects::Effects;
-use pks_terms::ids::ActId;
 use pks_terms::literal::Literal;
+use pks_terms::lookup::written_effects;
 use pks_terms::problem::Problem;
-use pks_terms::schema::{Effect, Instance};
+use pks_terms::schema::Instance;
 use std::alloc::{AllocError, Global};
-
-/// The effects of the action as written, none where it isn't declared.
-fn written_of<'a>(p: &'a Problem<'_>, act: ActId) -> &'a [Effect]
-    requires { IsValidProblem p.now }
-    ensures says { map effect_of result.now ≡ (schema_of (problem_of p.now) act.0).effects }
-    ensures placed { ArePlaced result.now }
-{
-    match p.schemas.as_slice().get(usize::from(act.0)) {
-        Some(schema) => schema.effects.as_slice(),
-        None => &[],
-    }
-}
 
 /// The effects of the instance, judged by the databases before.
 fn change_of<'a>(p: &'a Problem<'_>, i: &'a Instance, before: &'a Derived) -> Change<'a>
@@ -42,7 +29,7 @@ fn change_of<'a>(p: &'a Problem<'_>, i: &'a Instance, before: &'a Derived) -> Ch
     ensures placed { ArePlaced result.effects.written.now }
 {
     let effects = Effects {
-        written: written_of(p, i.act),
+        written: written_effects(p, i.act),
         instance: i,
     };
     Change {

@@ -4,6 +4,7 @@ use Rattle.std.specs.List.{list_all}
 use Rattle.std.specs.Char.{is_ascii_alphabetic, is_ascii_alphanumeric}
 use Rattle.pks_terms.specs.declared.term.Term as term
 use Rattle.pks_terms.specs.declared.term.Term.TheVariants as term_is
+use Rattle.pks_terms.specs.declared.schema.Effect.{Effect}
 use Rattle.pks_terms.specs.declared.schema.Target as target
 use Rattle.pks_terms.specs.declared.schema.Target.TheVariants as target_is
 use Rattle.pks_terms.specs.declared.problem.Problem.{Problem}
@@ -51,6 +52,10 @@ AssignsToPlace (target_is.Set a) = Unit {0}
 AssignsToPlace (target_is.Unset a) = Unit {0}
 AssignsToPlace (target_is.Clear x) = Unit {0}
 AssignsToPlace (target_is.Assign place value) = IsApplication place
+
+-- each effect that assigns does so to a function at arguments
+abbrev pub ArePlaced : List Effect → Type 0
+ArePlaced es = Each (λ e. AssignsToPlace e.target) es
 
 -- ---- problems
 

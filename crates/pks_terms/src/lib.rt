@@ -4,6 +4,7 @@
 pub mod group;
 pub mod ids;
 pub mod literal;
+pub mod lookup;
 pub mod problem;
 pub mod putting;
 pub mod schema;

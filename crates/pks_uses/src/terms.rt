@@ -1,24 +1,13 @@
 //! Terms, and the terms that stand within them.
-ghost use Rattle.std.specs.Prelude.{◌≡◌, List, [], ◌∷◌, ◌++◌, map, take, OnOk};
+ghost use Rattle.std.specs.Prelude.{◌≡◌, [], ◌∷◌, ◌++◌, map, OnOk};
 ghost use Rattle.std.specs.List.{flat_map};
-ghost use Rattle.pks_terms.specs.Syntax.{Object, place};
+ghost use Rattle.pks_terms.specs.Syntax.{Object};
 ghost use Rattle.pks_terms.specs.Views.{object_of, inner_of, term_of, terms_of};
 ghost use Rattle.pks_uses.specs.Occurring.{terms_within, terms_in};
 
-use pks_terms::ids::{FnId, ObjId};
-use pks_terms::term::{Inner, Term, front};
+use pks_terms::ids::ObjId;
+use pks_terms::term::{Inner, Term, applied, front};
 use std::alloc::AllocError;
-
-/// The application as a term.
-fn applied(fun: FnId, n: u8, args: &[ObjId; 2]) -> Term
-    ensures { term_of result ≡ place fun.0 (map object_of (take n args.now)) }
-{
-    Term::App {
-        fun,
-        n,
-        args: [Inner::Obj(args[0]), Inner::Obj(args[1])],
-    }
-}
 
 /// Puts the objects as terms after the others.
 #[tactic(auto, using(crate::proofs::Lists::read))]

@@ -3,26 +3,15 @@ ghost use Rattle.std.specs.Prelude.{◌≡◌, map};
 ghost use Rattle.std.specs.List.{list_all};
 ghost use Rattle.pks_terms.specs.Syntax.{affirmed};
 ghost use Rattle.pks_terms.specs.Actions.{effect_at};
-ghost use Rattle.pks_terms.specs.Problems.{schema_of};
-ghost use Rattle.pks_terms.specs.Views.{atom_of, literal_of, given_of, instance_of, target_of, effect_of, problem_of};
+ghost use Rattle.pks_terms.specs.Views.{given_of, instance_of, target_of, effect_of, problem_of};
 ghost use Rattle.pks_world.specs.Contents.{world_of};
 ghost use Rattle.pks_witness.specs.Idle.{is_written, is_idle, are_idle};
 
-use pks_terms::ids::ActId;
-use pks_terms::literal::{Atom, Literal, PredAtom};
+use pks_terms::literal::affirmed;
+use pks_terms::lookup::written_effects;
 use pks_terms::problem::Problem;
 use pks_terms::schema::{Effect, Instance, Target};
 use pks_world::World;
-
-/// The atom as a literal.
-fn affirmed(a: &PredAtom) -> Literal
-    ensures { literal_of result ≡ affirmed (atom_of a.now) }
-{
-    Literal {
-        atom: Atom::Pred(*a),
-        positive: true,
-    }
-}
 
 /// Whether what the target makes so is so already, as far as it is looked at.
 fn is_written(w: &World, target: &Target) -> bool
@@ -52,19 +41,9 @@ fn are_idle(w: &World, effects: &[Effect], i: &Instance) -> bool
     }
 }
 
-/// The effects of the action, none where it isn't declared.
-fn effects_of<'a>(p: &'a Problem<'_>, act: ActId) -> &'a [Effect]
-    ensures { map effect_of result.now ≡ (schema_of (problem_of p.now) act.0).effects }
-{
-    match p.schemas.as_slice().get(usize::from(act.0)) {
-        Some(schema) => schema.effects.as_slice(),
-        None => &[],
-    }
-}
-
 /// Whether the ground action leaves the world as it is, as far as it is looked at.
 pub(crate) fn is_idle(p: &Problem<'_>, w: &World, i: &Instance) -> bool
     ensures { result ≡ are_idle (problem_of p.now) (world_of w.now) (instance_of i.now) }
 {
-    are_idle(w, effects_of(p, i.act), i)
+    are_idle(w, written_effects(p, i.act), i)
 }

@@ -6,19 +6,9 @@ ghost use Rattle.pks_witness.specs.Typing.{is_object_of, are_objects_of, is_type
 
 use pks_terms::ids::{FnId, ObjId, TypeId};
 use pks_terms::literal::PredAtom;
+use pks_terms::lookup::object_is_of;
 use pks_terms::problem::Signature;
 use pks_terms::term::{Inner, Term, front};
-
-/// Whether the object is one of the type.
-#[tactic(auto, unfolding(pks_terms::specs::Signatures::object_is_of))]
-fn object_is_of(s: &Signature, of: TypeId, d: ObjId) -> bool
-    ensures { result ≡ object_is_of (signature_of s.now) of.0 d.0 }
-{
-    match s.objects.as_slice().get(usize::from(d.0)) {
-        Some(own) => s.fits(*own, of),
-        None => false,
-    }
-}
 
 /// Whether the term is an object of the type.
 fn term_is_of(s: &Signature, of: TypeId, t: &Term) -> bool

@@ -1,10 +1,9 @@
 //! A world that may be the present one, and a bound on the actions that it is away from the goal.
-ghost use Rattle.std.specs.Prelude.{◌≡◌, ◌<◌, map, take, IfOk, IsTrue};
-ghost use Rattle.pks_terms.specs.Worlds.{inner_value, value_of, all_true_in};
+ghost use Rattle.std.specs.Prelude.{◌≡◌, ◌<◌, IfOk, IsTrue};
+ghost use Rattle.pks_terms.specs.Worlds.{value_of, all_true_in};
 ghost use Rattle.pks_terms.specs.Knowledge.{grounded, after_action};
 ghost use Rattle.pks_terms.specs.Valid.{IsValid};
-ghost use Rattle.pks_terms.specs.Syntax.{Object};
-ghost use Rattle.pks_terms.specs.Views.{inner_of, term_of, conj_of, instance_of, problem_of};
+ghost use Rattle.pks_terms.specs.Views.{term_of, conj_of, instance_of, problem_of};
 ghost use Rattle.pks_world.specs.Contents.{world_of};
 ghost use Rattle.pks_needs.specs.Gained.{AreDeeds};
 ghost use Rattle.pks_witness.specs.Near.{world_in, is_beyond, IsCounted};
@@ -15,8 +14,8 @@ use pks_terms::ids::ObjId;
 use pks_terms::literal::Conj;
 use pks_terms::problem::Problem;
 use pks_terms::schema::Instance;
-use pks_terms::term::{Inner, Term};
-use pks_world::World;
+use pks_terms::term::Term;
+use pks_world::{World, grounded};
 use std::alloc::{AllocError, Global};
 use std::rc::Rc;
 
@@ -26,29 +25,6 @@ use std::rc::Rc;
 pub struct Witness {
     pub(crate) world: Rc<World>,
     pub(crate) needs: Option<u32>,
-}
-
-/// The value of an argument.
-fn argument_value(w: &World, t: &Inner) -> ObjId
-    ensures { result.0 ≡ inner_value (world_of w.now) (inner_of t.now) }
-{
-    w.value(&t.as_term())
-}
-
-/// The action with the values of its arguments in their place.
-fn grounded(w: &World, i: &Instance) -> Instance
-    ensures { instance_of result ≡ grounded (world_of w.now) (instance_of i.now) }
-{
-    Instance {
-        act: i.act,
-        n: i.n,
-        args: [
-            Inner::Obj(argument_value(w, &i.args[0])),
-            Inner::Obj(argument_value(w, &i.args[1])),
-            Inner::Obj(argument_value(w, &i.args[2])),
-            Inner::Obj(argument_value(w, &i.args[3])),
-        ],
-    }
 }
 
 impl Witness {

@@ -6,3 +6,4 @@ pub mod Writing
 pub mod Effects
 pub mod Gathering
 pub mod Instances
+pub mod Arguments

@@ -1,4 +1,5 @@
 pub mod Contents
+pub mod Few
 pub mod First
 pub mod Applied
 pub mod Observed

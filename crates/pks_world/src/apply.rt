@@ -1,5 +1,5 @@
 //! What an action does to a world.
-ghost use Rattle.std.specs.Prelude.{◌≡◌, ◌<◌, ℕ, IsSome, IfSome, Bool, true, false, List, [], ◌∷◌, map, IfOk, OnOk, option_map, if◌then◌else◌};
+ghost use Rattle.std.specs.Prelude.{◌≡◌, ◌<◌, IsSome, IfSome, true, false, [], ◌∷◌, map, IfOk, OnOk, option_map, if◌then◌else◌};
 ghost use Rattle.pks_terms.specs.Syntax.{place};
 ghost use Rattle.pks_terms.specs.Orders.{number_of, arguments_of};
 ghost use Rattle.pks_terms.specs.Worlds.{inner_value, value_of, all_true_in};
@@ -14,12 +14,13 @@ ghost use Rattle.pks_world.specs.Contents.{world_of, places_of, ground, with_tru
 ghost use Rattle.pks_world.specs.Applied.{is_of_pattern, written_to, written_by, IsNumbered, StayListed, AreArguments};
 ghost use Rattle.pks_world.specs.First.{IsWorldOf};
 
-use crate::worlds::{World, place};
-use pks_terms::ids::{ActId, FnId, ObjId};
+use crate::worlds::World;
+use pks_terms::ids::{FnId, ObjId};
 use pks_terms::literal::{Conj, Pattern, PredAtom};
+use pks_terms::lookup::written_effects;
 use pks_terms::problem::Problem;
 use pks_terms::schema::{Effect, Instance, Target};
-use pks_terms::term::{Term, front};
+use pks_terms::term::{Term, applied, front};
 use std::alloc::AllocError;
 
 impl World {
@@ -98,12 +99,12 @@ impl World {
         ensures numbered { number_of (term_of at.now) < 256 → IsSome result }
     {
         match at {
-            Term::App { fun, n, args } => Some(place(*fun, *n, &self.inner_values(args))),
+            Term::App { fun, n, args } => Some(applied(*fun, *n, &self.inner_values(args))),
             Term::Obj(d) => match u8::try_from(d.0) {
-                Ok(number) => Some(place(FnId(number), 0, &[ObjId(0), ObjId(0)])),
+                Ok(number) => Some(applied(FnId(number), 0, &[ObjId(0), ObjId(0)])),
                 Err(_) => None,
             },
-            Term::Param(number) => Some(place(FnId(*number), 0, &[ObjId(0), ObjId(0)])),
+            Term::Param(number) => Some(applied(FnId(*number), 0, &[ObjId(0), ObjId(0)])),
         }
     }
 
@@ -180,17 +181,7 @@ impl World {
         ensures of_signature { IsValid (problem_of p.now) → AreArguments (signature_of p.now.signature) (world_of self.now) (schema_of (problem_of p.now) i.now.act.0).parameters (given_of i.now) → IsWorldOf (signature_of p.now.signature) self.now → IfOk result (IsWorldOf (signature_of p.now.signature)) }
     {
         let mut next = self.copied()?;
-        next.write_all(self, effects_of(p, i.act), i)?;
+        next.write_all(self, written_effects(p, i.act), i)?;
         Ok(next)
-    }
-}
-
-/// The effects of the action, none where it isn't declared.
-fn effects_of<'a>(p: &'a Problem<'_>, act: ActId) -> &'a [Effect]
-    ensures { map effect_of result.now ≡ (schema_of (problem_of p.now) act.0).effects }
-{
-    match p.schemas.as_slice().get(usize::from(act.0)) {
-        Some(schema) => schema.effects.as_slice(),
-        None => &[],
     }
 }

@@ -1,19 +1,18 @@
 //! The first world of a problem.
-ghost use Rattle.std.specs.Prelude.{◌≡◌, ◌≤◌, ◌^◌, ℕ, List, [], ◌∷◌, map, take, true, IsTrue, IfOk, OnOk, length, option_map, Some, if◌then◌else◌};
-ghost use Rattle.std.specs.List.{list_any};
-ghost use Rattle.pks_terms.specs.Syntax.{Object, place};
+ghost use Rattle.std.specs.Prelude.{◌≡◌, ◌≤◌, ◌^◌, [], ◌∷◌, map, true, IfOk, OnOk, length, Some, if◌then◌else◌};
+ghost use Rattle.pks_terms.specs.Syntax.{place};
 ghost use Rattle.pks_terms.specs.Orders.{term_eq};
 ghost use Rattle.pks_terms.specs.Sets.{Each};
 ghost use Rattle.pks_terms.specs.Signatures.{objects_of};
 ghost use Rattle.pks_terms.specs.Valid.{IsValidSignature};
 ghost use Rattle.pks_terms.specs.Views.{object_of, term_of, types_of, shape_of, signature_of};
-ghost use Rattle.pks_world.specs.Contents.{world_of, places_of, has_place, kept_at, value_elsewhere};
-ghost use Rattle.pks_world.specs.First.{first_of, least_value, first_world, AreAllPlaces, IsWorldOf, Writes, is_in_row, is_in_rows, argument_range, WritesOnly, WritesAll, AreLeast, AreFilled};
+ghost use Rattle.pks_world.specs.Contents.{world_of};
+ghost use Rattle.pks_world.specs.First.{first_of, first_world, IsWorldOf, Writes, is_in_row, is_in_rows, argument_range, WritesOnly, WritesAll, AreLeast, AreFilled};
 
-use crate::worlds::{World, place};
+use crate::worlds::World;
 use pks_terms::ids::{FnId, ObjId, TypeId};
-use pks_terms::problem::{Problem, Shape, Signature};
-use pks_terms::term::{Term, front};
+use pks_terms::problem::{Problem, Signature};
+use pks_terms::term::{Term, applied, front};
 use std::alloc::{AllocError, Global};
 use std::collections::{BTreeMap, BTreeSet};
 
@@ -86,7 +85,7 @@ fn keep_row(
     ensures { OnOk result (Writes (is_in_row fun.0 n first seconds.now) d.0 values.old.entries values.new.entries) }
 {
     for second in seconds {
-        keep(values, place(fun, n, &[first, *second]), d)?;
+        keep(values, applied(fun, n, &[first, *second]), d)?;
     }
     Ok(())
 }

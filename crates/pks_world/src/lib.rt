@@ -2,9 +2,13 @@
 #![tactic(auto)]
 
 mod apply;
+mod few;
 mod first;
+mod grounding;
 mod observe;
 mod worlds;
 
+pub use few::Few;
+pub use grounding::{argument_value, grounded};
 pub use observe::{Obs, Seen};
 pub use worlds::World;

@@ -1,6 +1,6 @@
 //! Worlds: which atoms are true, and the value at each place.
 ghost use Rattle.std.specs.Prelude.{◌≡◌, ℕ, [], map, take, true, IsTrue, OnOk, OnErr, option_map};
-ghost use Rattle.pks_terms.specs.Syntax.{Object, object, place};
+ghost use Rattle.pks_terms.specs.Syntax.{object, place};
 ghost use Rattle.pks_terms.specs.Orders.{number_of, arguments_of};
 ghost use Rattle.pks_terms.specs.Signatures.{Signature};
 ghost use Rattle.pks_terms.specs.Actions.{Set, Assign};
@@ -12,7 +12,7 @@ ghost use Rattle.pks_world.specs.First.{IsWorldOf};
 
 use pks_terms::ids::{FnId, ObjId};
 use pks_terms::literal::{Atom, Literal, PredAtom};
-use pks_terms::term::{Inner, Term};
+use pks_terms::term::{Inner, Term, applied};
 use std::alloc::AllocError;
 use std::collections::{BTreeMap, BTreeSet};
 
@@ -23,17 +23,6 @@ pub struct World {
     pub(crate) atoms: BTreeSet<PredAtom>,
     pub(crate) values: BTreeMap<Term, ObjId>,
     pub(crate) others: Vec<ObjId>,
-}
-
-/// The function at these objects.
-pub(crate) fn place(fun: FnId, n: u8, args: &[ObjId; 2]) -> Term
-    ensures { term_of result ≡ place fun.0 (map object_of (take n args.now)) }
-{
-    Term::App {
-        fun,
-        n,
-        args: [Inner::Obj(args[0]), Inner::Obj(args[1])],
-    }
 }
 
 /// The value that is kept for the place.
@@ -60,7 +49,7 @@ impl World {
     fn at(&self, fun: FnId, n: u8, args: &[ObjId; 2]) -> ObjId
         ensures { result.0 ≡ (world_of self.now).value fun.0 (map object_of (take n args.now)) }
     {
-        match kept(&self.values, &place(fun, n, args)) {
+        match kept(&self.values, &applied(fun, n, args)) {
             Some(d) => d,
             None => elsewhere(&self.others, fun),
         }

@@ -4,7 +4,8 @@ use Rattle.std.specs.Option.{option_map}
 use Rattle.pks_terms.specs.Printed.{numbers_from}
 use Rattle.pks_terms.specs.Views.{term_of, problem_of}
 use Rattle.pks_world.specs.Contents.{world_of}
-use Rattle.pks_exec.specs.Instances.{few_of, is_told, all_instances}
+use Rattle.pks_world.specs.Few.{few_of}
+use Rattle.pks_exec.specs.Instances.{is_told, all_instances}
 use Rattle.pks_exec.proofs.Meeting.{numbers_more}
 use Rattle.pks_exec.proofs.compatibility.+instances.Goals as goal
 

@@ -2,7 +2,8 @@ use Rattle.std.proofs.Common.{◌||◌, not, sym, ap, ◌∙◌}
 use Rattle.pks_terms.specs.Worlds.{true_in}
 use Rattle.pks_terms.specs.Views.{atom_of, problem_of}
 use Rattle.pks_world.specs.Contents.{world_of}
-use Rattle.pks_exec.specs.Instances.{few_of, is_listed}
+use Rattle.pks_world.specs.Few.{few_of}
+use Rattle.pks_exec.specs.Instances.{is_listed}
 use Rattle.pks_exec.proofs.Listing.{true_of, listed_of}
 use Rattle.pks_exec.proofs.compatibility.is_told.Goals as goal
 

@@ -15,6 +15,6 @@ returns-in_ok-print_atoms-in-All c =
     c.in_ok-print_atoms-in-All.ensures
     ∙ (ap (λ text. text ++ atoms) c.in_ok-print_pattern-in-All.ensures.ok
     ∙ (append_assoc c.put-in-All.new.out.items pattern atoms
-    ∙ (ap (λ text. text ++ (pattern ++ atoms)) c.in_ok-put-in-All.ensures
+    ∙ (ap (λ text. text ++ (pattern ++ atoms)) c.in_ok-put-in-All.ensures.ok
     ∙ (append_assoc before (codes "all ") (pattern ++ atoms)
     ∙ (ap (λ others. before ++ (codes "all " ++ (pattern ++ found others))) c.as_slice.ensures ∙ ap (λ seen. before ++ seen_text names (seen_of seen)) (sym c.in-All.is))))))

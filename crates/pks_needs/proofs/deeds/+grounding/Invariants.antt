@@ -3,7 +3,8 @@ use Rattle.pks_terms.specs.Sets.{Each}
 use Rattle.pks_terms.specs.Syntax.{Object}
 use Rattle.pks_terms.specs.Views.{object_of, given_of, types_of, schema_of, signature_of}
 use Rattle.pks_needs.specs.Relaxed.{deeds_from}
-use Rattle.pks_needs.specs.Gained.{deed_of, ArePlaced}
+use Rattle.pks_terms.specs.ValidProblems.{ArePlaced}
+use Rattle.pks_needs.specs.Gained.{deed_of}
 use Rattle.pks_needs.proofs.Lists.{AddedFrom}
 use Rattle.pks_needs.proofs.deeds.+grounding.Given as goal
 

@@ -1,7 +1,8 @@
 use Rattle.std.proofs.Common.{◌≡◌, ◌++◌, map, take}
 use Rattle.pks_world.specs.Contents.{ground}
 use Rattle.pks_needs.specs.Relaxed.{NewTruth}
-use Rattle.pks_needs.specs.Gained.{few_of, new_of}
+use Rattle.pks_world.specs.Few.{few_of}
+use Rattle.pks_needs.specs.Gained.{new_of}
 use Rattle.pks_needs.proofs.news.add_truths.Given as goal
 
 abbrev pub invariant-loop-ds : goal.invariant-loop-ds

@@ -11,7 +11,7 @@ pub loop-second-preserved : goal.loop-second-preserved
 loop-second-preserved c =
     let p = λ (e : ObjId). term_eq (place c.args.fun.0 (map object_of (take c.args.n (c.args.first ∷ e ∷ [])))) in
     kept_more p c.args.seconds.now c.args.d.0 c.args.values.now.entries c.loop-second.second-index _ c.loop-second.values.entries c.keep.new.values.entries c.loop-second-test.true
-    (subst (λ (t : Term). Writes (term_eq t) c.args.d.0 c.loop-second.values.entries c.keep.new.values.entries) c.place.ensures c.in_ok-keep.ensures)
+    (subst (λ (t : Term). Writes (term_eq t) c.args.d.0 c.loop-second.values.entries c.keep.new.values.entries) c.applied.ensures c.in_ok-keep.ensures)
     c.loop-second.invariant
 
 pub returns : goal.returns

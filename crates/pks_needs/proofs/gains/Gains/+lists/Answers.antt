@@ -2,7 +2,8 @@ use Rattle.std.proofs.Common.{ℕ, List, ◌++◌, ◌∷◌, [], map, ap, ◌�
 use Rattle.pks_terms.specs.Views.{object_of, terms_of}
 use Rattle.pks_world.specs.Contents.{world_of}
 use Rattle.pks_needs.specs.Relaxed.{tuples, term_values}
-use Rattle.pks_needs.specs.Gained.{few_of, chances_of}
+use Rattle.pks_world.specs.Few.{few_of}
+use Rattle.pks_needs.specs.Gained.{chances_of}
 use Rattle.pks_needs.proofs.Lists.{added_more, added_all}
 use Rattle.pks_needs.proofs.gains.Gains.+lists.Goals as goal
 

@@ -1,7 +1,8 @@
 use Rattle.std.proofs.Common.{◌≡◌, map, drop}
 use Rattle.std.specs.List.{list_any}
 use Rattle.pks_world.specs.Contents.{world_of}
-use Rattle.pks_needs.specs.Gained.{few_of, chances_of}
+use Rattle.pks_world.specs.Few.{few_of}
+use Rattle.pks_needs.specs.Gained.{chances_of}
 use Rattle.pks_needs.proofs.gains.Gains.some_may_be.Given as goal
 
 abbrev pub invariant-loop-ds : goal.invariant-loop-ds

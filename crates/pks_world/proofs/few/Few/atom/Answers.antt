@@ -1,5 +1,5 @@
 use Rattle.pks_world.proofs.Gathering.{three_viewed}
-use Rattle.pks_exec.proofs.compatibility.Few.atom.Goals as goal
+use Rattle.pks_world.proofs.few.Few.atom.Goals as goal
 
 pub returns : goal.returns
 returns c =

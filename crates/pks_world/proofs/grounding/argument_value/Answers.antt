@@ -3,7 +3,7 @@ use Rattle.pks_terms.specs.Worlds.{value_of}
 use Rattle.pks_terms.specs.Views.{inner_of}
 use Rattle.pks_world.specs.Contents.{world_of}
 use Rattle.pks_laws.proofs.Changing.{value_of-term_of}
-use Rattle.pks_witness.proofs.witness.argument_value.Goals as goal
+use Rattle.pks_world.proofs.grounding.argument_value.Goals as goal
 
 pub returns : goal.returns
 returns c =

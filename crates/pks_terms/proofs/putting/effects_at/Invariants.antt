@@ -1,8 +1,8 @@
 use Rattle.std.proofs.Common.{◌≡◌, map, take}
 use Rattle.pks_terms.specs.Actions.{effect_at}
 use Rattle.pks_terms.specs.Views.{given_of, effect_of}
-use Rattle.pks_needs.specs.Gained.{ArePlaced}
-use Rattle.pks_needs.proofs.deeds.effects_at.Given as goal
+use Rattle.pks_terms.specs.ValidProblems.{ArePlaced}
+use Rattle.pks_terms.proofs.putting.effects_at.Given as goal
 
 abbrev pub invariant-loop-e : goal.invariant-loop-e
 invariant-loop-e l = record {

@@ -4,7 +4,7 @@ use Rattle.pks_terms.specs.declared.ids.ObjId.{ObjId}
 use Rattle.pks_terms.specs.Views.{object_of, inner_of}
 use Rattle.pks_terms.proofs.ListLaws.{map-map}
 use Rattle.pks_terms.proofs.Fronts.{taken_two}
-use Rattle.pks_closing.proofs.ranges.applied.Goals as goal
+use Rattle.pks_terms.proofs.term.applied.Goals as goal
 
 pub returns : goal.returns
 returns c =

@@ -1,8 +1,8 @@
 use Rattle.std.proofs.Common.{◌≡◌, length, rules}
 use Rattle.pks_terms.specs.declared.term.Inner.TheVariants as inner_is
 use Rattle.pks_world.specs.Contents.{world_of}
-use Rattle.pks_exec.proofs.Arguments.{first_values}
-use Rattle.pks_exec.proofs.running.grounded.Goals as goal
+use Rattle.pks_world.proofs.Arguments.{first_values}
+use Rattle.pks_world.proofs.grounding.grounded.Goals as goal
 
 pub returns : goal.returns
 returns c =

@@ -1,7 +1,0 @@
-use Rattle.pks_world.proofs.Gathering.{three_viewed}
-use Rattle.pks_needs.proofs.objects.Few.atom.Goals as goal
-
-pub returns : goal.returns
-returns c =
-    let objects = c.args.self.now in
-    λ i. record { predicate = c.args.pred.0; arguments = three_viewed objects.n objects.first objects.second objects.third i }
