@@ -7,7 +7,7 @@ use Rattle.pks_terms.specs.Databases.{Five}
 use Rattle.pks_terms.specs.Problems.{Problem}
 use Rattle.pks_terms.specs.Views.{instance_of}
 use Rattle.pks_terms.specs.declared.schema.Instance.{Instance as DInstance}
-use Rattle.pks_choices.specs.ChoiceViews.{choices_of}
+use Rattle.pks_terms.specs.ChoiceViews.{choices_of}
 use Rattle.pks_branch.specs.Walks.{begun}
 use Rattle.pks_branch.specs.declared.taking.Walk.{Walk}
 

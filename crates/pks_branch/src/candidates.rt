@@ -5,11 +5,11 @@ ghost use Rattle.pks_terms.specs.Syntax.{Object};
 ghost use Rattle.pks_terms.specs.Signatures.{has_type};
 ghost use Rattle.pks_terms.specs.Branching.{as_inner, candidates};
 ghost use Rattle.pks_terms.specs.Views.{object_of, inner_of, term_of, terms_of, signature_of};
-ghost use Rattle.pks_normal.specs.Fives.{five_of};
+ghost use Rattle.pks_query_lookup.specs.Fives.{five_of};
 
 use pks_kv::Kv;
-use pks_normal::five::Five;
-use pks_normal::normals::objects;
+use pks_query_lookup::five::Five;
+use pks_query_lookup::normals::objects;
 use pks_terms::ids::{ObjId, TypeId};
 use pks_terms::lookup::object_is_of;
 use pks_terms::problem::Signature;

@@ -8,16 +8,16 @@ ghost use Rattle.pks_terms.specs.Branching.{BranchOn, CasesOn, is_undecided, may
 ghost use Rattle.pks_terms.specs.ValidProblems.{IsValidProblem};
 ghost use Rattle.pks_terms.specs.Views.{literals_in, conj_of, terms_of, signature_of, problem_of};
 ghost use Rattle.pks_kw.specs.Formulas.{formulas_of};
-ghost use Rattle.pks_normal.specs.Fives.{five_of};
-ghost use Rattle.pks_choices.specs.ChoiceViews.{choices_of};
+ghost use Rattle.pks_query_lookup.specs.Fives.{five_of};
+ghost use Rattle.pks_terms.specs.ChoiceViews.{choices_of};
 ghost use Rattle.pks_branch.specs.ChoiceOrder.{choice_cmp};
 
 use crate::leaving::may_split;
 use crate::taking::Walk;
-use pks_choices::{Choice, ChoiceList};
 use pks_kv::Kv;
 use pks_kw::Kw;
 use pks_query::databases::Db;
+use pks_terms::choices::{Choice, ChoiceList};
 use pks_terms::literal::{Conj, Literal};
 use pks_terms::problem::{Problem, Signature};
 use pks_terms::schema::Instance;

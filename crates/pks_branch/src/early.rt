@@ -2,7 +2,7 @@
 ghost use Rattle.std.specs.Prelude.{◌≡◌, ◌≤◌, map, take, length};
 ghost use Rattle.std.specs.List.{list_all};
 ghost use Rattle.pks_terms.specs.Views.{inner_of, term_of, literal_of, literals_in, query_of, given_of, signature_of};
-ghost use Rattle.pks_normal.specs.Fives.{five_of};
+ghost use Rattle.pks_query_lookup.specs.Fives.{five_of};
 ghost use Rattle.pks_branch.specs.Early.{inner_is_early, term_is_early, literal_is_early, plain_is_early, is_barred_by, is_barred};
 
 use pks_query::databases::Db;

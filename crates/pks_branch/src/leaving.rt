@@ -7,10 +7,10 @@ ghost use Rattle.pks_terms.specs.Databases.{holds};
 ghost use Rattle.pks_terms.specs.Branching.{left, may_split};
 ghost use Rattle.pks_terms.specs.ValidProblems.{IsValidProblem};
 ghost use Rattle.pks_terms.specs.Views.{object_of, term_of, signature_of, problem_of};
-ghost use Rattle.pks_normal.specs.Fives.{five_of};
+ghost use Rattle.pks_query_lookup.specs.Fives.{five_of};
 
-use pks_derived::ranges::range_of;
 use pks_query::databases::Db;
+use pks_query_lookup::ranges::range_of;
 use pks_terms::ids::{ObjId, ObjList};
 use pks_terms::literal::equation;
 use pks_terms::problem::{Problem, Signature};

@@ -12,4 +12,5 @@ mod walking;
 pub use assuming::assume;
 pub use choosing::choices;
 pub use leaving::left;
+pub use pks_terms::choices::{Choice, Side};
 pub use taking::Walk;

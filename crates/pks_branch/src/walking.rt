@@ -7,7 +7,7 @@ ghost use Rattle.pks_terms.specs.Queries.{answers};
 ghost use Rattle.pks_terms.specs.Branching.{candidates, numbered};
 ghost use Rattle.pks_terms.specs.ValidProblems.{IsValidProblem};
 ghost use Rattle.pks_terms.specs.Views.{inner_of, given_of, instance_of, query_of, schema_of, types_of, signature_of, problem_of};
-ghost use Rattle.pks_normal.specs.Fives.{five_of};
+ghost use Rattle.pks_query_lookup.specs.Fives.{five_of};
 ghost use Rattle.pks_branch.specs.WalkViews.{beginnings_of};
 ghost use Rattle.pks_branch.specs.Walks.{allowed_at, begun, bare, longer, GoesOn, IsNext};
 

@@ -1,6 +1,6 @@
 //! The entries of an explanation.
 
-use pks_proof::{Path, Proof};
+use pks_proof_lines::{Path, Proof};
 use pks_terms::literal::Literal;
 use pks_terms::sequence::Sequence;
 

@@ -6,13 +6,13 @@ ghost use Rattle.pks_terms.specs.Problems.{schema_of};
 ghost use Rattle.pks_terms.specs.Views.{literal_of, literals_in, query_of, aim_of, instance_of, term_of, problem_of};
 ghost use Rattle.pks_terms.specs.Explained.{literal_needed, needed_before, literal_aimed, at_end, owed, owed_in};
 ghost use Rattle.pks_plan.specs.TreeViews.{tree_of, chain_of};
-ghost use Rattle.pks_proof.specs.ProofViews.{turn_of, path_of};
+ghost use Rattle.pks_proof_lines.specs.ProofViews.{turn_of, path_of};
 ghost use Rattle.pks_explain.specs.EntryViews.{owed_of};
 
 use crate::entries::Owed;
-use pks_choices::{Choice, Side};
 use pks_plan::{CaseChain, Tree};
-use pks_proof::{Path, Turn};
+use pks_proof_lines::{Path, Turn};
+use pks_terms::choices::{Choice, Side};
 use pks_terms::ids::ActId;
 use pks_terms::literal::Literal;
 use pks_terms::problem::{Aim, Problem};

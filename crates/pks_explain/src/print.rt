@@ -6,12 +6,12 @@ ghost use Rattle.pks_terms.specs.Printed.{line, literal_text, atom_text};
 ghost use Rattle.pks_terms.specs.Views.{names_of, literals_in, atom_of};
 ghost use Rattle.pks_terms.specs.Explained.{known_fact_text, reason_text, cites_text, proof_line_text, entry_text, explained_text};
 ghost use Rattle.pks_lcw.specs.Entries.{atoms_of};
-ghost use Rattle.pks_proof.specs.ProofViews.{fact_of, reason_of, line_of, lines_of};
+ghost use Rattle.pks_proof_lines.specs.ProofViews.{fact_of, reason_of, line_of, lines_of};
 ghost use Rattle.pks_explain.specs.EntryViews.{entry_of, entries_of};
 
 use crate::entries::{Entry, Explained};
 use pks_plan::{print_literal, print_pattern, put, put_number};
-use pks_proof::{Fact, Line, Reason};
+use pks_proof_lines::{Fact, Line, Reason};
 use pks_terms::literal::{Atom, Literal, PredAtom};
 use pks_terms::problem::Problem;
 use std::alloc::{AllocError, Global};

@@ -6,20 +6,20 @@ ghost use Rattle.pks_terms.specs.Trees.{Do, IsPlan, depth};
 ghost use Rattle.pks_terms.specs.ValidProblems.{IsValidProblem};
 ghost use Rattle.pks_terms.specs.Views.{problem_of, instance_of, term_of};
 ghost use Rattle.pks_plan.specs.TreeViews.{tree_of, chain_of};
-ghost use Rattle.pks_choices.specs.ChoiceViews.{choice_of, side_of};
-ghost use Rattle.pks_walk.specs.Walking.{state_of, IsReady, AreReady, IsSideReady};
+ghost use Rattle.pks_terms.specs.ChoiceViews.{choice_of, side_of};
+ghost use Rattle.pks_history_replay.specs.Walking.{state_of, IsReady, AreReady, IsSideReady};
 
 use crate::owing::{literals_aimed, needed_before};
-use pks_choices::{Choice, Side};
+use pks_explain_replay::{Kept, Replay};
 use pks_history::histories::History;
+use pks_history_replay::{State, after, history, start, taking};
 use pks_plan::{CaseChain, Tree};
-use pks_proof::Proof;
-use pks_replay::{Kept, Replay};
+use pks_proof_lines::Proof;
+use pks_terms::choices::{Choice, Side};
 use pks_terms::literal::Literal;
 use pks_terms::problem::Problem;
 use pks_terms::schema::Instance;
 use pks_terms::term::Term;
-use pks_walk::{State, after, history, start, taking};
 use std::alloc::{AllocError, Global};
 
 /// A walk along a tree: what is known on the path to where it stands, with its reasons, and the proofs found so far.

@@ -6,7 +6,7 @@ use Rattle.std.proofs.lemmas.Option.{slice_get-map}
 use Rattle.pks_terms.specs.Databases.{Five}
 use Rattle.pks_terms.specs.Actions.{Instance}
 use Rattle.pks_terms.specs.Views.{instance_of}
-use Rattle.pks_normal.specs.Fives.{five_of}
+use Rattle.pks_query_lookup.specs.Fives.{five_of}
 use Rattle.pks_history.specs.declared.histories.Moment.{Moment}
 use Rattle.pks_history.specs.Moments.{moment_of, moments_of}
 

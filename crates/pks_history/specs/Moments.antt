@@ -5,7 +5,7 @@ use Rattle.pks_terms.specs.Actions.{Instance}
 use Rattle.pks_terms.specs.Settling.{History}
 use Rattle.pks_terms.specs.Aims.{moments}
 use Rattle.pks_terms.specs.Views.{instance_of}
-use Rattle.pks_normal.specs.Fives.{five_of}
+use Rattle.pks_query_lookup.specs.Fives.{five_of}
 use Rattle.pks_history.specs.declared.histories.Moment.{Moment}
 
 -- a later moment: the instance that led to it, and its databases

@@ -4,7 +4,7 @@ ghost use Rattle.pks_terms.specs.Sets.{Each};
 ghost use Rattle.pks_terms.specs.Databases.{AreSets};
 ghost use Rattle.pks_terms.specs.Settling.{pushed, last_moment, last_of};
 ghost use Rattle.pks_terms.specs.Views.{instance_of};
-ghost use Rattle.pks_normal.specs.Fives.{five_of};
+ghost use Rattle.pks_query_lookup.specs.Fives.{five_of};
 ghost use Rattle.pks_history.specs.Moments.{moment_of, moments_of, databases_at, instance_after, IsWithoutFirst};
 
 use pks_query::databases::Db;
@@ -32,7 +32,7 @@ impl Model for History {
     ghost use Rattle.std.specs.Prelude.{◌≤◌, length};
     ghost use Rattle.std.specs.Rc.{rc_slice_items};
     ghost use Rattle.pks_terms.specs.Settling.{History};
-    ghost use Rattle.pks_normal.specs.Fives.{five_of};
+    ghost use Rattle.pks_query_lookup.specs.Fives.{five_of};
     ghost use Rattle.pks_history.specs.Moments.{moments_of};
 
     ghost Value = { History };
@@ -43,7 +43,7 @@ impl Model for History {
 }
 
 /// The same moments, whose databases are shared.
-#[tactic(auto, using(pks_closing::proofs::Lists::read))]
+#[tactic(auto, using(pks_query_closing::proofs::Lists::read))]
 fn shared(alloc: Global, moments: &[Moment]) -> Result<Vec<Moment>, AllocError>
     ensures { IfOk result (λ v. moments_of v.items ≡ moments_of moments.now) }
 {

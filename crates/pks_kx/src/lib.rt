@@ -9,10 +9,10 @@ ghost use Rattle.pks_terms.specs.Orders.{conj_cmp};
 ghost use Rattle.pks_terms.specs.Views.{literals_in};
 ghost use Rattle.pks_terms.specs.Sets.{IsOrdered, insert_in, added};
 ghost use Rattle.pks_pmap.specs.Keeping.{Keeps};
-ghost use Rattle.pks_set.specs.Members.{TakesEach, first_at_least, is_member, keys};
+ghost use Rattle.pks_pmap_set.specs.Members.{TakesEach, first_at_least, is_member, keys};
 
 use pks_pmap::map::PMap;
-use pks_set::set::{Items, SetOf};
+use pks_pmap_set::set::{Items, SetOf};
 use pks_terms::group::Group;
 use std::alloc::{AllocError, Global};
 use std::marker::Model;

@@ -4,7 +4,7 @@ use Rattle.std.specs.Ordering.{is_eq, is_gt, ordering_reverse}
 use Rattle.std.specs.Cmp.{IsTotalOrder}
 use Rattle.pks_terms.specs.Sets.{Each, IsOrdered, insert_in}
 use Rattle.pks_terms.proofs.ListLaws.{each_insert_in}
-use Rattle.pks_set.specs.Members.{is_member}
+use Rattle.pks_pmap_set.specs.Members.{is_member}
 use Rattle.pks_terms.specs.Placing.{count_below}
 
 module _ {X : Type 0} (R : X → X → Ordering) where

@@ -7,7 +7,7 @@ use Rattle.std.specs.List.Sorted.{IsSearchInRange, IsBinarySearchResult}
 use Rattle.std.proofs.lemmas.Bool.{cases_lt}
 use Rattle.std.proofs.lemmas.List.Folds.{list_any_at}
 use Rattle.pks_terms.specs.Sets.{Each, IsOrdered}
-use Rattle.pks_set.specs.Members.{is_member}
+use Rattle.pks_pmap_set.specs.Members.{is_member}
 
 module _ {X : Type 0} where
   each_at : (P : X → Type 0) (xs : List X) (i : ℕ) (d : X) → i < length xs → Each P xs → P (slice_index_or xs i d)

@@ -7,10 +7,10 @@ ghost use Rattle.pks_terms.specs.Orders.{atom_cmp};
 ghost use Rattle.pks_terms.specs.Views.{atom_of};
 ghost use Rattle.pks_terms.specs.Sets.{IsOrdered, insert_in, added};
 ghost use Rattle.pks_pmap.specs.Keeping.{Keeps};
-ghost use Rattle.pks_set.specs.Members.{TakesEach, is_member};
+ghost use Rattle.pks_pmap_set.specs.Members.{TakesEach, is_member};
 ghost use Rattle.pks_terms.specs.Placing.{count_below};
 
-use pks_set::set::SetOf;
+use pks_pmap_set::set::SetOf;
 use pks_terms::literal::PredAtom;
 use std::alloc::{AllocError, Global};
 use std::cmp::Ordering;

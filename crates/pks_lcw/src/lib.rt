@@ -12,11 +12,11 @@ ghost use Rattle.pks_terms.specs.Databases.{entry_cmp};
 ghost use Rattle.pks_lcw.specs.Entries.{entry_of};
 ghost use Rattle.pks_terms.specs.Sets.{IsOrdered, insert_in, added};
 ghost use Rattle.pks_pmap.specs.Keeping.{Keeps};
-ghost use Rattle.pks_set.specs.Members.{TakesEach, first_at_least, is_member, keys};
+ghost use Rattle.pks_pmap_set.specs.Members.{TakesEach, first_at_least, is_member, keys};
 
 pub use atoms::{AtomSet, AtomSetItems};
 use pks_pmap::map::PMap;
-use pks_set::set::{Items, SetOf};
+use pks_pmap_set::set::{Items, SetOf};
 pub use regions::Entry;
 use std::alloc::{AllocError, Global};
 use std::marker::Model;

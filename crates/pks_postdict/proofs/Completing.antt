@@ -10,8 +10,8 @@ use Rattle.pks_terms.proofs.ListLaws.{in_appended}
 use Rattle.pks_terms.proofs.OrderLaws.{literal_cmp_tells}
 use Rattle.pks_terms.proofs.SetLaws.{ordered_added, in_added, added_in, same_members}
 use Rattle.pks_laws.proofs.Least.{in_left, in_right, within_append}
-use Rattle.pks_closing.specs.Rounds.{HaveSameMembers}
-use Rattle.pks_step_rules.specs.News.{Completes}
+use Rattle.pks_query_closing.specs.Rounds.{HaveSameMembers}
+use Rattle.pks_postdict_rules.specs.News.{Completes}
 
 pub completes_members : (kf news all : List Literal) → HaveSameMembers news all → Completes kf news all
 completes_members kf news all h = record { sound = h.0; whole = λ l i. inr (h.1 l i) }

@@ -9,9 +9,9 @@ use Rattle.pks_terms.specs.Databases.{Five}
 use Rattle.pks_terms.specs.Views.{literal_of}
 use Rattle.pks_terms.proofs.SetLaws.{map-added, added_longer, added_same}
 use Rattle.pks_kf.specs.Known.{literals_of}
-use Rattle.pks_set.proofs.Mapped.{ordered-map}
-use Rattle.pks_normal.specs.declared.five.Five.{Five as DFive}
-use Rattle.pks_normal.specs.Fives.{five_of}
+use Rattle.pks_pmap_set.proofs.Mapped.{ordered-map}
+use Rattle.pks_query_lookup.specs.declared.five.Five.{Five as DFive}
+use Rattle.pks_query_lookup.specs.Fives.{five_of}
 
 module _ (five : DFive) (d : Five) (e : five_of five ≡ d) where
   pub known_ordered : IsOrdered (on literal_of literal_cmp) five.kf → IsOrdered literal_cmp d.kf

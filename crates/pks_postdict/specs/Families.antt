@@ -4,7 +4,7 @@ use Rattle.pks_terms.specs.Databases.{Five}
 use Rattle.pks_terms.specs.Actions.{Instance}
 use Rattle.pks_terms.specs.Settling.{History}
 use Rattle.pks_terms.specs.Views.{instance_of}
-use Rattle.pks_normal.specs.Fives.{five_of}
+use Rattle.pks_query_lookup.specs.Fives.{five_of}
 use Rattle.pks_postdict.specs.declared.family.Held.{Held}
 use Rattle.pks_postdict.specs.declared.family.Held.TheVariants as held_is
 use Rattle.pks_postdict.specs.declared.family.Link.{Link}

@@ -7,7 +7,7 @@ use Rattle.pks_terms.specs.Problems.{Problem}
 use Rattle.pks_terms.specs.Settling.{forward, backward}
 use Rattle.pks_terms.specs.Saturated.{Within, IsSaturated}
 use Rattle.pks_terms.specs.Views.{instance_of}
-use Rattle.pks_normal.specs.Fives.{five_of}
+use Rattle.pks_query_lookup.specs.Fives.{five_of}
 use Rattle.pks_postdict.specs.declared.family.Held.{Held}
 use Rattle.pks_postdict.specs.declared.family.Held.TheVariants as held_is
 use Rattle.pks_postdict.specs.declared.family.Place.{Place}

@@ -5,15 +5,15 @@ ghost use Rattle.pks_terms.specs.Problems.{Problem as SProblem};
 ghost use Rattle.pks_terms.specs.Settling.{with_last};
 ghost use Rattle.pks_terms.specs.Valid.{IsValid};
 ghost use Rattle.pks_terms.specs.Moments.{IsMomentOf, AreMomentsOf};
-ghost use Rattle.pks_normal.specs.Fives.{five_of};
+ghost use Rattle.pks_query_lookup.specs.Fives.{five_of};
 ghost use Rattle.pks_postdict.specs.declared.family.Held.TheVariants as held_is;
 ghost use Rattle.pks_postdict.specs.Families.{held_of, links_of, family_of};
 ghost use Rattle.pks_postdict.specs.Growing.{AreMarked, AreSpared, IsFine, is_unread, some_grew};
 ghost use Rattle.pks_postdict.specs.Read.{IsReadBut};
 
-use pks_derived::derived::Derived;
 use pks_history::histories::History;
 use pks_query::databases::Db;
+use pks_query_lookup::derived::Derived;
 use pks_terms::schema::Instance;
 use std::alloc::{AllocError, Global};
 use std::rc::Rc;

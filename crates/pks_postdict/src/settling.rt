@@ -10,7 +10,7 @@ ghost use Rattle.pks_terms.specs.Remembering.{IsTrueHistory};
 ghost use Rattle.pks_terms.specs.ValidProblems.{IsValidProblem};
 ghost use Rattle.pks_terms.specs.Views.{problem_of, signature_of};
 ghost use Rattle.pks_terms.specs.Moments.{IsMomentOf, AreMomentsOf};
-ghost use Rattle.pks_normal.specs.Fives.{five_of};
+ghost use Rattle.pks_query_lookup.specs.Fives.{five_of};
 ghost use Rattle.pks_postdict.specs.Ends.{state_of, IfAt, IsAtWith, IsLeastOver};
 ghost use Rattle.pks_postdict.specs.Families.{held_of, links_of, family_of};
 ghost use Rattle.pks_postdict.specs.Growing.{IsFine};
@@ -18,10 +18,10 @@ ghost use Rattle.pks_postdict.specs.Read.{IsReadBut};
 
 use crate::family::{Family, Held, Link};
 use crate::round::last_family;
-use pks_closing::closing::first_clash;
-use pks_closing::tidied::tidied;
 use pks_history::histories::History;
 use pks_query::databases::Db;
+use pks_query_closing::closing::first_clash;
+use pks_query_closing::tidied::tidied;
 use pks_terms::problem::{Problem, Signature};
 use std::alloc::{AllocError, Global};
 

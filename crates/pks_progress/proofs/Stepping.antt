@@ -21,7 +21,7 @@ use Rattle.pks_laws.proofs.SearchStates.{action_moment}
 use Rattle.pks_laws.proofs.StepLaws.{action_true}
 use Rattle.pks_laws.proofs.Validity.{valid_typed}
 use Rattle.pks_query.specs.Steps.{IfNext, IsNextWith}
-use Rattle.pks_adds.specs.Gains.{literals_gained, formulas_gained, values_gained, regions_gained}
+use Rattle.pks_progress_adds.specs.Gains.{literals_gained, formulas_gained, values_gained, regions_gained}
 use Rattle.pks_progress.specs.Kept.{kept_after}
 use Rattle.pks_progress.specs.Ahead.{PutsIn}
 

@@ -17,15 +17,15 @@ use Rattle.pks_terms.specs.Spoiling.{may_fire, may_change, some_may, may_be_chan
 use Rattle.pks_terms.specs.Views.{literal_of}
 use Rattle.pks_terms.proofs.ListLaws.{each_kept}
 use Rattle.pks_terms.proofs.SetLaws.{added_same}
-use Rattle.pks_set.specs.Members.{is_member}
-use Rattle.pks_set.proofs.Mapped.{is_member-map}
+use Rattle.pks_pmap_set.specs.Members.{is_member}
+use Rattle.pks_pmap_set.proofs.Mapped.{is_member-map}
 use Rattle.pks_kf.specs.Known.{literals_of}
-use Rattle.pks_normal.specs.Tables.{GiveAlike}
-use Rattle.pks_derived.specs.Forms.{HasItsForms}
+use Rattle.pks_query_lookup.specs.Tables.{GiveAlike}
+use Rattle.pks_query_lookup.specs.Forms.{HasItsForms}
 use Rattle.pks_laws.specs.Lookup.{is_among}
-use Rattle.pks_lasting.proofs.Steps.{all_of}
-use Rattle.pks_lasting.proofs.Keeping.{lasting_closed}
-use Rattle.pks_lasting.proofs.Loose.{loose_closed, loose_values, loose_found}
+use Rattle.pks_laws_progress.proofs.Steps.{all_of}
+use Rattle.pks_laws_progress.proofs.Keeping.{lasting_closed}
+use Rattle.pks_laws_progress.proofs.Loose.{loose_closed, loose_values, loose_found}
 use Rattle.pks_progress.specs.Ahead.{is_assignment, assign_nothing, PutsIn, BringsNothing, IsStill}
 
 pub is_literal_among : (l : DLiteral) (ls : List DLiteral) → is_member (on literal_of literal_cmp) l ls ≡ is_among literal_cmp (literal_of l) (literals_of ls)

@@ -9,8 +9,8 @@ use Rattle.pks_terms.specs.Databases.{Entry, entry_cmp, Five}
 use Rattle.pks_terms.specs.Closure.{first_clash}
 use Rattle.pks_terms.specs.Saturated.{IsSaturated}
 use Rattle.pks_terms.specs.Actions.{Target, Set, Unset, Clear, Assign, Effect}
-use Rattle.pks_lasting.specs.Loose.{bring_nothing}
-use Rattle.pks_normal.specs.Fives.{five_of}
+use Rattle.pks_laws_progress.specs.Loose.{bring_nothing}
+use Rattle.pks_query_lookup.specs.Fives.{five_of}
 use Rattle.pks_progress.specs.Kept.{kept_after}
 use Rattle.pks_progress.specs.declared.ahead.Ahead.{Ahead}
 use Rattle.pks_progress.specs.declared.ahead.Ahead.TheVariants.{Still, Grown}

@@ -3,13 +3,13 @@ ghost use Rattle.std.specs.Prelude.{◌≡◌};
 ghost use Rattle.pks_terms.specs.Settling.{effects_of};
 ghost use Rattle.pks_terms.specs.Spoiling.{spoils, is_stable};
 ghost use Rattle.pks_terms.specs.Views.{atom_of, effect_of, instance_of, literal_of, problem_of, term_of};
-ghost use Rattle.pks_normal.specs.Fives.{five_of};
+ghost use Rattle.pks_query_lookup.specs.Fives.{five_of};
 ghost use Rattle.pks_progress.specs.Hits.{may_hit_atom, may_hit_term};
 
+use pks_progress_interference::effects::effects_of;
+use pks_progress_interference::spoiled;
+use pks_progress_interference::targets::{may_change, may_fire, may_make_false, may_make_true};
 use pks_query::databases::Db;
-use pks_spoiling::effects::effects_of;
-use pks_spoiling::spoiled;
-use pks_spoiling::targets::{may_change, may_fire, may_make_false, may_make_true};
 use pks_terms::literal::{Literal, PredAtom};
 use pks_terms::problem::Problem;
 use pks_terms::schema::{Effect, Instance};

@@ -8,19 +8,19 @@ ghost use Rattle.pks_terms.specs.Views.{conj_of, literal_of, literals_in, signat
 ghost use Rattle.pks_kf.specs.Known.{literals_of};
 ghost use Rattle.pks_kw.specs.Formulas.{formulas_of};
 ghost use Rattle.pks_kx.specs.Groups.{groups_of};
-ghost use Rattle.pks_normal.specs.Fives.{five_of};
-ghost use Rattle.pks_spoiling.specs.EffectViews.{effects_in};
+ghost use Rattle.pks_query_lookup.specs.Fives.{five_of};
+ghost use Rattle.pks_progress_interference.specs.EffectViews.{effects_in};
 ghost use Rattle.pks_progress.specs.Kept.{kept_after};
 
 use crate::regions::kept_regions;
-use pks_derived::derived::Derived;
 use pks_kf::Kf;
 use pks_kv::Kv;
 use pks_kw::Kw;
 use pks_kx::Kx;
-use pks_normal::five::Five;
-use pks_spoiling::effects::Effects;
-use pks_spoiling::spoiled::{is_stable, spoils};
+use pks_progress_interference::effects::Effects;
+use pks_progress_interference::spoiled::{is_stable, spoils};
+use pks_query_lookup::derived::Derived;
+use pks_query_lookup::five::Five;
 use pks_terms::literal::{Conj, Literal};
 use pks_terms::problem::Signature;
 use pks_terms::term::front;

@@ -7,13 +7,13 @@ ghost use Rattle.pks_terms.specs.Orders.{literal_cmp};
 ghost use Rattle.pks_laws.specs.Lookup.{is_among};
 ghost use Rattle.pks_kf.specs.Known.{literals_of};
 ghost use Rattle.pks_kx.specs.Groups.{groups_of};
-ghost use Rattle.pks_spoiling.specs.EffectViews.{effects_in};
-ghost use Rattle.pks_lasting.specs.Loose.{is_predicate, is_in_no_group, is_loose, bring_nothing};
+ghost use Rattle.pks_progress_interference.specs.EffectViews.{effects_in};
+ghost use Rattle.pks_laws_progress.specs.Loose.{is_predicate, is_in_no_group, is_loose, bring_nothing};
 ghost use Rattle.pks_progress.specs.Ahead.{is_assignment, assign_nothing};
 
 use pks_kf::Kf;
 use pks_kx::Kx;
-use pks_spoiling::effects::Effects;
+use pks_progress_interference::effects::Effects;
 use pks_terms::ids::PredId;
 use pks_terms::literal::{Atom, Literal};
 use pks_terms::schema::{Effect, Target};

@@ -1,1 +1,3 @@
-pub mod ProofViews
+pub mod Doings
+pub mod Acts
+pub mod Lines

@@ -1,7 +1,10 @@
-//! Proofs of what is known at the end of a path, and the laws of those that are accepted.
+//! The checker of proofs: which of them are accepted.
 #![tactic(auto)]
 
-pub mod laws;
-pub mod lines;
+pub mod accepting;
+mod acting;
+mod barring;
+mod region;
 
-pub use lines::{Fact, Line, Path, Proof, Reason, Turn};
+pub use accepting::accepts;
+pub use pks_proof_lines::{Fact, Line, Path, Proof, Reason, Turn};

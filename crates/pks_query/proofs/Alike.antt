@@ -14,8 +14,8 @@ use Rattle.pks_terms.specs.Totality.{term_cmp_total, literal_cmp_total, conj_cmp
 use Rattle.pks_terms.specs.Views.{term_of, literal_of, literals_in, conj_of}
 use Rattle.pks_terms.proofs.OrderLaws.{term_cmp_tells, literal_cmp_tells, conj_cmp_tells, entry_cmp_tells}
 use Rattle.pks_lcw.specs.Entries.{entry_of}
-use Rattle.pks_normal.specs.Fives.{five_of}
-use Rattle.pks_normal.specs.declared.five.Five.{Five as DFive}
+use Rattle.pks_query_lookup.specs.Fives.{five_of}
+use Rattle.pks_query_lookup.specs.declared.five.Five.{Five as DFive}
 
 tied_decides : {Y : Type 0} {R : Y → Y → Ordering} → IsAntisymmetric R → IsTotalOrder R → (x y : Y) → Decides (eq_by_cmp R x y) (x ≡ y)
 tied_decides {R = R} tells total x y =

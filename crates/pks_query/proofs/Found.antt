@@ -14,8 +14,8 @@ use Rattle.pks_terms.specs.declared.literal.Conj.{Conj}
 use Rattle.pks_terms.specs.Closure.{normal_conj}
 use Rattle.pks_kw.specs.Formulas.{formulas_of}
 use Rattle.pks_laws.specs.Saying.{IsSaidOf}
-use Rattle.pks_set.specs.Members.{is_member}
-use Rattle.pks_set.proofs.Mapped.{is_member-map}
+use Rattle.pks_pmap_set.specs.Members.{is_member}
+use Rattle.pks_pmap_set.proofs.Mapped.{is_member-map}
 use Rattle.pks_laws.specs.Lookup.{is_among}
 use Rattle.pks_laws.proofs.Answering.{answered_said}
 use Rattle.pks_laws.proofs.NormalMembers.{closed_value, closed_member}

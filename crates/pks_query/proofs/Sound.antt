@@ -8,9 +8,9 @@ use Rattle.pks_terms.specs.Meaning.{IsTrueOf}
 use Rattle.pks_terms.specs.Closure.{Outcome, Next, Clash, Closes}
 use Rattle.pks_terms.specs.Views.{literal_of}
 use Rattle.pks_laws.proofs.Tidying.{closed_true}
-use Rattle.pks_closing.specs.Closing.{IfClash}
-use Rattle.pks_closing.specs.declared.closing.CloseEnd.{CloseEnd}
-use Rattle.pks_closing.specs.declared.closing.CloseEnd.TheVariants as end_is
+use Rattle.pks_query_closing.specs.Closing.{IfClash}
+use Rattle.pks_query_closing.specs.declared.closing.CloseEnd.{CloseEnd}
+use Rattle.pks_query_closing.specs.declared.closing.CloseEnd.TheVariants as end_is
 
 abbrev next_or : Five → Outcome → Five
 next_or d (Next e) = e

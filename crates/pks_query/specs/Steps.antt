@@ -2,7 +2,7 @@
 use Rattle.pks_terms.specs.Databases.{Five}
 use Rattle.pks_terms.specs.Closure.{Outcome, Next, Clash}
 use Rattle.pks_terms.specs.Views.{literal_of}
-use Rattle.pks_normal.specs.Fives.{five_of}
+use Rattle.pks_query_lookup.specs.Fives.{five_of}
 use Rattle.pks_query.specs.declared.databases.Step.{Step}
 use Rattle.pks_query.specs.declared.databases.Step.TheVariants as step_is
 

@@ -13,12 +13,12 @@ ghost use Rattle.pks_laws.specs.Lookup.{is_among};
 ghost use Rattle.pks_laws.specs.Saying.{IsSaidOf};
 ghost use Rattle.pks_kw.specs.Formulas.{formulas_of};
 ghost use Rattle.pks_kf.specs.Known.{literals_of};
-ghost use Rattle.pks_normal.specs.Fives.{five_of};
+ghost use Rattle.pks_query_lookup.specs.Fives.{five_of};
 
 use crate::databases::Db;
-use pks_closing::forms::normal_conj;
 use pks_kv::Kv;
 use pks_kw::Kw;
+use pks_query_closing::forms::normal_conj;
 use pks_terms::literal::{Atom, Conj, Literal};
 use pks_terms::problem::Signature;
 use pks_terms::schema::Query;

@@ -10,16 +10,16 @@ ghost use Rattle.pks_terms.specs.Valid.{AreOf};
 ghost use Rattle.pks_terms.specs.ValidProblems.{IsValidProblem};
 ghost use Rattle.pks_terms.specs.Views.{literal_of, signature_of, problem_of};
 ghost use Rattle.pks_terms.specs.Moments.{AreInOrder, IsMomentOf};
-ghost use Rattle.pks_normal.specs.Fives.{five_of};
-ghost use Rattle.pks_closing.specs.Closing.{IfClash};
-ghost use Rattle.pks_closing.specs.Working.{EndsWith};
+ghost use Rattle.pks_query_lookup.specs.Fives.{five_of};
+ghost use Rattle.pks_query_closing.specs.Closing.{IfClash};
+ghost use Rattle.pks_query_closing.specs.Working.{EndsWith};
 ghost use Rattle.pks_query.specs.Closed.{AreClosed};
 
-use pks_closing::closing::{CloseEnd, close, close_unless_clash};
-use pks_closing::tidied::tidied;
-use pks_derived::derived::Derived;
-use pks_initial::initial::initial;
-use pks_normal::five::Five;
+use pks_query_closing::closing::{CloseEnd, close, close_unless_clash};
+use pks_query_closing::tidied::tidied;
+use pks_query_initial::initial::initial;
+use pks_query_lookup::derived::Derived;
+use pks_query_lookup::five::Five;
 use pks_terms::literal::Literal;
 use pks_terms::problem::{Problem, Signature};
 use std::alloc::{AllocError, Global};
@@ -36,8 +36,8 @@ pub struct Db {
 }
 
 impl Model for Db {
-    ghost use Rattle.pks_normal.specs.declared.five.Five.{Five};
-    ghost use Rattle.pks_normal.specs.Fives.{five_of};
+    ghost use Rattle.pks_query_lookup.specs.declared.five.Five.{Five};
+    ghost use Rattle.pks_query_lookup.specs.Fives.{five_of};
     ghost use Rattle.pks_query.specs.Closed.{AreClosed};
 
     ghost Value = { Five };

@@ -7,6 +7,6 @@ pub mod marks;
 pub mod same;
 
 pub use databases::{Db, Step};
-pub use pks_closing::closing::CloseEnd;
-pub use pks_normal::five::Five;
-pub use pks_uses::Uses;
+pub use pks_query_closing::closing::CloseEnd;
+pub use pks_query_lookup::five::Five;
+pub use pks_query_uses::Uses;

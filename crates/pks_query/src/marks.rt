@@ -2,7 +2,7 @@
 //! What a mark is, no clause says: what is found by it has to be compared.
 
 use crate::databases::Db;
-use pks_normal::five::Five;
+use pks_query_lookup::five::Five;
 use pks_terms::ids::ObjId;
 use pks_terms::literal::{Atom, Conj, Literal};
 use pks_terms::schema::Instance;

@@ -6,11 +6,11 @@ ghost use Rattle.pks_terms.specs.Databases.{entry_cmp};
 ghost use Rattle.pks_terms.specs.Orders.{term_cmp, literal_cmp, conj_cmp};
 ghost use Rattle.pks_terms.specs.Views.{term_of, literal_of, literals_in, conj_of};
 ghost use Rattle.pks_lcw.specs.Entries.{entry_of};
-ghost use Rattle.pks_normal.specs.Fives.{five_of};
+ghost use Rattle.pks_query_lookup.specs.Fives.{five_of};
 
 use crate::databases::Db;
-use pks_normal::five::Five;
-use pks_set::set::Items;
+use pks_pmap_set::set::Items;
+use pks_query_lookup::five::Five;
 use std::cmp::Ordering;
 
 // Whether as many items are left of both, and each is equal to the one in its place.

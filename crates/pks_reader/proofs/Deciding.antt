@@ -10,17 +10,17 @@ use Rattle.pks_text.specs.Faults.{IsFirstFault, IsFaultOf, IsAnswered}
 use Rattle.pks_text.specs.declared.tree.FormFault.{FormFault}
 use Rattle.pks_text.specs.declared.tree.FormFault.TheVariants as text
 use Rattle.pks_text.proofs.OneReading.{one_forms}
-use Rattle.pks_grammar.specs.declared.grammar.Version.{Version}
-use Rattle.pks_grammar.specs.Files.{Fault, number_of, shape_fault}
-use Rattle.pks_grammar.specs.Language.{IsFile}
-use Rattle.pks_meaning.specs.Parts.{behind_head}
-use Rattle.pks_stated.specs.Spans.{named_of}
-use Rattle.pks_stated.specs.Stated.{Named, problem_in, named_in}
-use Rattle.pks_grammar.specs.declared.report.Turned.{Turned}
-use Rattle.pks_grammar.specs.declared.report.Turned.TheVariants.{Refused, Memory}
+use Rattle.pks_reader_shape.specs.declared.grammar.Version.{Version}
+use Rattle.pks_reader_shape.specs.Files.{Fault, number_of, shape_fault}
+use Rattle.pks_reader_shape.specs.Language.{IsFile}
+use Rattle.pks_reader_names.specs.Parts.{behind_head}
+use Rattle.pks_reader_problem.specs.Spans.{named_of}
+use Rattle.pks_reader_problem.specs.Stated.{Named, problem_in, named_in}
+use Rattle.pks_reader_shape.specs.declared.report.Turned.{Turned}
+use Rattle.pks_reader_shape.specs.declared.report.Turned.TheVariants.{Refused, Memory}
 use Rattle.pks_reader.specs.Files.{IsFileOf, faults_by_section, AreRefused, by_shape, by_meaning, FormsState}
 use Rattle.pks_reader.specs.Texts.{IsRefused, by_text, by_forms, States, coded}
-use Rattle.pks_grammar.specs.Refusals.{Turns}
+use Rattle.pks_reader_shape.specs.Refusals.{Turns}
 use Rattle.pks_reader.proofs.Firsts.{first_fault, is_first, faultless}
 use Rattle.pks_reader.proofs.Parted.{some_same, same_parts, listed}
 

@@ -4,16 +4,16 @@ use Rattle.std.proofs.lemmas.Option.{none-some}
 use Rattle.std.proofs.lemmas.Bool.Decides.{nat_tests}
 use Rattle.pks_terms.specs.Sets.{Each}
 use Rattle.pks_text.specs.Forms.{Forms}
-use Rattle.pks_grammar.specs.Files.{Fault, or_else}
-use Rattle.pks_meaning.specs.Scopes.{Scope}
-use Rattle.pks_meaning.specs.Parts.{section}
-use Rattle.pks_meaning.specs.Sentences.{problem_faults}
-use Rattle.pks_meaning.specs.Declarations.{types_section, objects_section, predicates_section, functions_section, actions_section}
-use Rattle.pks_meaning.specs.Meaning.{is_before, least, scope_of}
-use Rattle.pks_meaning.specs.Leasts.{IsIn, IsLeast}
-use Rattle.pks_meaning.proofs.Least.{least_is, least_none}
-use Rattle.pks_domain.specs.FirstFault.{declarations_fault, meaning_fault}
-use Rattle.pks_accepted.proofs.Whole.{or_none}
+use Rattle.pks_reader_shape.specs.Files.{Fault, or_else}
+use Rattle.pks_reader_names.specs.Scopes.{Scope}
+use Rattle.pks_reader_names.specs.Parts.{section}
+use Rattle.pks_reader_names.specs.Sentences.{problem_faults}
+use Rattle.pks_reader_names.specs.Declarations.{types_section, objects_section, predicates_section, functions_section, actions_section}
+use Rattle.pks_reader_names.specs.Meaning.{is_before, least, scope_of}
+use Rattle.pks_reader_names.specs.Leasts.{IsIn, IsLeast}
+use Rattle.pks_reader_names.proofs.Least.{least_is, least_none}
+use Rattle.pks_reader_declared.specs.FirstFault.{declarations_fault, meaning_fault}
+use Rattle.pks_laws_reader.proofs.Whole.{or_none}
 use Rattle.pks_reader.specs.Files.{faults_by_section, IsFirstOf}
 
 -- ---- there is one least fault

@@ -4,3 +4,7 @@ pub mod Numbering
 pub mod Parted
 pub mod Stating
 pub mod Valid
+pub mod Once
+mod Answered
+mod Lows
+mod Declaring

@@ -5,12 +5,12 @@ use Rattle.std.proofs.lemmas.Option.{none-some}
 use Rattle.pks_terms.specs.Sets.{Each}
 use Rattle.pks_terms.specs.declared.schema.Schema.{Schema}
 use Rattle.pks_text.specs.Forms.{Form, Word, Listing, Forms, no_forms, form, forms_of, Mark, Said, Opens, Closes, mark_text, mark_end, IsOfClass, form_marks, forms_marks, SpellsFrom, Spells}
-use Rattle.pks_grammar.specs.Walk.{is_headed, count}
-use Rattle.pks_meaning.specs.Parts.{parts_of, behind, behind_head, section}
-use Rattle.pks_meaning.specs.Declarations.{actions_among}
-use Rattle.pks_stated.specs.Spans.{bytes_in, adds_in}
-use Rattle.pks_stated.specs.Stated.{Bytes, all, bytes_of, add_places}
-use Rattle.pks_accepted.proofs.Whole.{all_length}
+use Rattle.pks_reader_shape.specs.Walk.{is_headed, count}
+use Rattle.pks_reader_names.specs.Parts.{parts_of, behind, behind_head, section}
+use Rattle.pks_reader_names.specs.Declarations.{actions_among}
+use Rattle.pks_reader_problem.specs.Spans.{bytes_in, adds_in}
+use Rattle.pks_reader_problem.specs.Stated.{Bytes, all, bytes_of, add_places}
+use Rattle.pks_laws_reader.proofs.Whole.{all_length}
 use Rattle.pks_reader.proofs.Parted.{some_same}
 
 -- ---- tokens

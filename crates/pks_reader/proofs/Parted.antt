@@ -3,10 +3,10 @@ use Rattle.std.proofs.Common.{◌≡◌, ◌∙◌, ◌≤◌, List, [], ◌∷�
 use Rattle.pks_text.specs.Forms.{Form, list_of, forms_of}
 use Rattle.pks_text.specs.FormViews.{form_view}
 use Rattle.pks_text.specs.declared.tree.Form.{Form as CodeForm}
-use Rattle.pks_grammar.specs.declared.grammar.Version.{Version}
-use Rattle.pks_grammar.specs.declared.grammar.Version.TheVariants.{First}
-use Rattle.pks_grammar.specs.declared.grammar.Sort.TheVariants.{Domain, Problem}
-use Rattle.pks_grammar.specs.Language.{IsOf, IsFile}
+use Rattle.pks_reader_shape.specs.declared.grammar.Version.{Version}
+use Rattle.pks_reader_shape.specs.declared.grammar.Version.TheVariants.{First}
+use Rattle.pks_reader_shape.specs.declared.grammar.Sort.TheVariants.{Domain, Problem}
+use Rattle.pks_reader_shape.specs.Language.{IsOf, IsFile}
 use Rattle.pks_reader.specs.Files.{IsFileOf}
 
 pub some_same : {X : Type 0} {x y : X} → Some x ≡ Some y → x ≡ y

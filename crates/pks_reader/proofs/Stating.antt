@@ -7,15 +7,15 @@ use Rattle.pks_terms.specs.ValidProblems.{AssignsToPlace, IsValidProblem}
 use Rattle.pks_terms.specs.Views.{problem_of}
 use Rattle.pks_terms.specs.declared.problem.Problem.{Problem as CodeProblem}
 use Rattle.pks_text.specs.Forms.{Form, forms_of, Spells}
-use Rattle.pks_grammar.specs.declared.grammar.Version.{Version}
-use Rattle.pks_grammar.specs.Files.{Fault, number_of}
-use Rattle.pks_meaning.specs.Parts.{behind_head, section}
-use Rattle.pks_meaning.specs.Declarations.{actions_among}
-use Rattle.pks_domain.specs.FirstFault.{meaning_fault}
-use Rattle.pks_stated.specs.Sizes.{AreCounted}
-use Rattle.pks_stated.specs.Spans.{bytes_in, adds_in, named_of}
-use Rattle.pks_stated.specs.Stated.{Bytes, Named, all, bytes_of, add_places, problem_in, named_in, named_by}
-use Rattle.pks_grammar.specs.declared.report.Turned.{Turned}
+use Rattle.pks_reader_shape.specs.declared.grammar.Version.{Version}
+use Rattle.pks_reader_shape.specs.Files.{Fault, number_of}
+use Rattle.pks_reader_names.specs.Parts.{behind_head, section}
+use Rattle.pks_reader_names.specs.Declarations.{actions_among}
+use Rattle.pks_reader_declared.specs.FirstFault.{meaning_fault}
+use Rattle.pks_reader_problem.specs.Sizes.{AreCounted}
+use Rattle.pks_reader_problem.specs.Spans.{bytes_in, adds_in, named_of}
+use Rattle.pks_reader_problem.specs.Stated.{Bytes, Named, all, bytes_of, add_places, problem_in, named_in, named_by}
+use Rattle.pks_reader_shape.specs.declared.report.Turned.{Turned}
 use Rattle.pks_reader.specs.Files.{IsFileOf, faults_by_section, AreRefused, by_meaning, FormsState}
 use Rattle.pks_reader.proofs.Firsts.{first_is, no_faults, meaning_first}
 use Rattle.pks_reader.proofs.Numbering.{items_few, adds_few, adds_numbered}

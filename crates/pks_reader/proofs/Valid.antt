@@ -12,18 +12,18 @@ use Rattle.pks_terms.specs.declared.problem.Shape.{Shape as CodeShape}
 use Rattle.pks_terms.specs.declared.schema.Schema.{Schema as CodeSchema}
 use Rattle.pks_terms.specs.declared.problem.Problem.{Problem as CodeProblem}
 use Rattle.pks_text.specs.Forms.{Form}
-use Rattle.pks_grammar.specs.declared.grammar.Version.{Version}
-use Rattle.pks_grammar.specs.declared.grammar.Sort.TheVariants as sort
-use Rattle.pks_grammar.specs.Files.{number_of}
-use Rattle.pks_grammar.specs.Language.{IsOf}
-use Rattle.pks_meaning.specs.Parts.{behind_head}
-use Rattle.pks_domain.specs.FirstFault.{meaning_fault}
-use Rattle.pks_stated.specs.Sizes.{IsCounted, AreCounted}
-use Rattle.pks_stated.specs.Spans.{named_of}
-use Rattle.pks_stated.specs.Stated.{Named, problem_in, named_in}
-use Rattle.pks_accepted.specs.Facts.{AreNamed}
-use Rattle.pks_accepted.proofs.Whole.{valid_problem}
-use Rattle.pks_accepted.proofs.Naming.{problem_named}
+use Rattle.pks_reader_shape.specs.declared.grammar.Version.{Version}
+use Rattle.pks_reader_shape.specs.declared.grammar.Sort.TheVariants as sort
+use Rattle.pks_reader_shape.specs.Files.{number_of}
+use Rattle.pks_reader_shape.specs.Language.{IsOf}
+use Rattle.pks_reader_names.specs.Parts.{behind_head}
+use Rattle.pks_reader_declared.specs.FirstFault.{meaning_fault}
+use Rattle.pks_reader_problem.specs.Sizes.{IsCounted, AreCounted}
+use Rattle.pks_reader_problem.specs.Spans.{named_of}
+use Rattle.pks_reader_problem.specs.Stated.{Named, problem_in, named_in}
+use Rattle.pks_laws_reader.specs.Facts.{AreNamed}
+use Rattle.pks_laws_reader.proofs.Whole.{valid_problem}
+use Rattle.pks_laws_reader.proofs.Naming.{problem_named}
 
 few_counted : (P : Shape → Type 0) (n : ℕ) → ((x : Shape) → P x → length x.arguments ≤ n) → (xs : List CodeShape) → Each IsCounted xs → Each P (map shape_of xs) → Each (λ x. x.n ≤ n) xs
 few_counted P n few [] counted are = tt

@@ -3,15 +3,15 @@ use Rattle.std.specs.Prelude.{◌≡◌, ◌⊎◌, ℕ, List, [], ◌∷◌, So
 use Rattle.pks_terms.specs.Sets.{Each}
 use Rattle.pks_terms.specs.Problems.{Problem}
 use Rattle.pks_text.specs.Forms.{Form, Forms}
-use Rattle.pks_grammar.specs.declared.grammar.Version.{Version}
-use Rattle.pks_grammar.specs.Files.{Fault, version_of, number_of, shape_fault}
-use Rattle.pks_grammar.specs.Language.{IsFile}
-use Rattle.pks_meaning.specs.Parts.{behind_head, section}
-use Rattle.pks_meaning.specs.Sentences.{problem_faults}
-use Rattle.pks_meaning.specs.Declarations.{types_section, objects_section, predicates_section, functions_section, actions_section}
-use Rattle.pks_meaning.specs.Meaning.{scope_of}
-use Rattle.pks_meaning.specs.Leasts.{IsLeast}
-use Rattle.pks_stated.specs.Stated.{Named, problem_in, named_in}
+use Rattle.pks_reader_shape.specs.declared.grammar.Version.{Version}
+use Rattle.pks_reader_shape.specs.Files.{Fault, version_of, number_of, shape_fault}
+use Rattle.pks_reader_shape.specs.Language.{IsFile}
+use Rattle.pks_reader_names.specs.Parts.{behind_head, section}
+use Rattle.pks_reader_names.specs.Sentences.{problem_faults}
+use Rattle.pks_reader_names.specs.Declarations.{types_section, objects_section, predicates_section, functions_section, actions_section}
+use Rattle.pks_reader_names.specs.Meaning.{scope_of}
+use Rattle.pks_reader_names.specs.Leasts.{IsLeast}
+use Rattle.pks_reader_problem.specs.Stated.{Named, problem_in, named_in}
 
 -- the forms are a file of the grammar, of this version, with this domain and this problem
 pub record IsFileOf (fs : List Form) (v : Version) (d p : Form) : Type 0 where

@@ -1,2 +1,4 @@
 pub mod Files
 pub mod Texts
+pub mod Inputs
+pub mod Views

@@ -5,8 +5,8 @@ use Rattle.pks_text.specs.Forms.{Forms, list_of, Spells}
 use Rattle.pks_text.specs.Faults.{IsFirstFault}
 use Rattle.pks_text.specs.declared.tree.FormFault.{FormFault}
 use Rattle.pks_text.specs.declared.tree.FormFault.TheVariants.{BadByte, Unclosed, Unopened, TooDeep, Memory}
-use Rattle.pks_grammar.specs.Files.{Fault}
-use Rattle.pks_stated.specs.Stated.{Named}
+use Rattle.pks_reader_shape.specs.Files.{Fault}
+use Rattle.pks_reader_problem.specs.Stated.{Named}
 use Rattle.pks_reader.specs.Files.{AreRefused, FormsState}
 
 -- the text spells these forms, and has no fault of its own

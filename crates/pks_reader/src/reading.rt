@@ -7,34 +7,34 @@ ghost use Rattle.pks_terms.specs.ValidProblems.{AssignsToPlace, IsValidProblem};
 ghost use Rattle.pks_terms.specs.Views.{problem_of};
 ghost use Rattle.pks_text.specs.Forms.{Spells};
 ghost use Rattle.pks_text.specs.FormViews.{form_view, forms_view};
-ghost use Rattle.pks_grammar.specs.Files as shaping;
-ghost use Rattle.pks_grammar.specs.Files.{number_of};
-ghost use Rattle.pks_meaning.specs.Meaning.{scope_of};
-ghost use Rattle.pks_meaning.specs.Parts.{behind_head};
-ghost use Rattle.pks_domain.specs.FirstFault.{meaning_fault};
-ghost use Rattle.pks_domain.specs.Views.{declared_view};
-ghost use Rattle.pks_stated.specs.Sizes.{AreCounted};
-ghost use Rattle.pks_stated.specs.Spans.{named_of};
-ghost use Rattle.pks_stated.specs.Stated.{Named, problem_in, named_in};
-ghost use Rattle.pks_grammar.specs.declared.report.Turned.TheVariants.{Memory};
-ghost use Rattle.pks_grammar.specs.Refusals.{Turns};
+ghost use Rattle.pks_reader_shape.specs.Files as shaping;
+ghost use Rattle.pks_reader_shape.specs.Files.{number_of};
+ghost use Rattle.pks_reader_names.specs.Meaning.{scope_of};
+ghost use Rattle.pks_reader_names.specs.Parts.{behind_head};
+ghost use Rattle.pks_reader_declared.specs.FirstFault.{meaning_fault};
+ghost use Rattle.pks_reader_declared.specs.Views.{declared_view};
+ghost use Rattle.pks_reader_problem.specs.Sizes.{AreCounted};
+ghost use Rattle.pks_reader_problem.specs.Spans.{named_of};
+ghost use Rattle.pks_reader_problem.specs.Stated.{Named, problem_in, named_in};
+ghost use Rattle.pks_reader_shape.specs.declared.report.Turned.TheVariants.{Memory};
+ghost use Rattle.pks_reader_shape.specs.Refusals.{Turns};
 ghost use Rattle.pks_reader.specs.Files.{AreRefused, FormsState};
 ghost use Rattle.pks_reader.specs.Texts.{IsRefused, States};
 
 use crate::refusal::text_refused;
-use pks_domain::meaning;
-use pks_grammar::grammar::Version;
-use pks_grammar::report::Turned;
-use pks_grammar::shape::{shape_fault, version_of};
-use pks_meaning::parts::behind_head;
-use pks_meaning::scope::Declared;
-use pks_stated::problem;
+use pks_reader_declared::meaning;
+use pks_reader_names::parts::behind_head;
+use pks_reader_names::scope::Declared;
+use pks_reader_problem::problem;
+use pks_reader_shape::grammar::Version;
+use pks_reader_shape::report::Turned;
+use pks_reader_shape::shape::{shape_fault, version_of};
 use pks_terms::problem::Problem;
 use pks_text::{Form, Forms, forms};
 use std::alloc::Global;
 
 // What the domain declares, or the first fault of meaning.
-#[tactic(auto, using(pks_facts::proofs::Refused::this_found, pks_facts::proofs::Refused::this_plain, pks_grammar::proofs::Refusing::none_refused))]
+#[tactic(auto, using(pks_reader_world::proofs::Refused::this_found, pks_reader_world::proofs::Refused::this_plain, pks_reader_shape::proofs::Refusing::none_refused))]
 fn faultless<'s>(
     alloc: Global,
     number: u8,
@@ -53,7 +53,7 @@ fn faultless<'s>(
 }
 
 // The problem that a domain and a problem of the grammar state, or their first fault of meaning.
-#[tactic(auto, using(pks_facts::proofs::Refused::this_found, pks_facts::proofs::Refused::this_plain, pks_grammar::proofs::Refusing::none_refused))]
+#[tactic(auto, using(pks_reader_world::proofs::Refused::this_found, pks_reader_world::proofs::Refused::this_plain, pks_reader_shape::proofs::Refusing::none_refused))]
 fn meant<'s>(
     alloc: Global,
     version: Version,
@@ -86,7 +86,7 @@ fn form_at<'f, 's>(top: &'f [Form<'s>], i: usize) -> &'f Form<'s>
 /// `docs/FORMAT.md` says. `forms` are those that `source` spells, which has at most 262,144 bytes.
 ///
 /// `Refused` comes exactly where there is a fault, and the problem is valid; `Memory` may come at any forms.
-#[tactic(auto, using(pks_facts::proofs::Refused::this_found, pks_facts::proofs::Refused::this_plain, pks_grammar::proofs::Refusing::none_refused))]
+#[tactic(auto, using(pks_reader_world::proofs::Refused::this_found, pks_reader_world::proofs::Refused::this_plain, pks_reader_shape::proofs::Refusing::none_refused))]
 pub fn problem_of<'s>(
     alloc: Global,
     source: &'s str,

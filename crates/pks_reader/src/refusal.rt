@@ -1,11 +1,11 @@
 //! Refusals of texts.
 ghost use Rattle.std.specs.Prelude.{◌≡◌, Some};
 ghost use Rattle.pks_text.specs.declared.tree.FormFault.TheVariants as text;
-ghost use Rattle.pks_grammar.specs.declared.report.Turned.TheVariants.{Memory};
-ghost use Rattle.pks_grammar.specs.Refusals.{Turns};
+ghost use Rattle.pks_reader_shape.specs.declared.report.Turned.TheVariants.{Memory};
+ghost use Rattle.pks_reader_shape.specs.Refusals.{Turns};
 ghost use Rattle.pks_reader.specs.Texts.{coded};
 
-use pks_grammar::report::{Refusal, Turned};
+use pks_reader_shape::report::{Refusal, Turned};
 use pks_text::FormFault;
 
 /// The refusal of a fault of a text, with its code from 110 to 113 (`docs/FORMAT.md`), or want of memory.

@@ -2,15 +2,15 @@
 ghost use Rattle.std.specs.Prelude.{map, OnOk};
 ghost use Rattle.pks_terms.specs.Views.{problem_of, term_of};
 ghost use Rattle.pks_plan.specs.TreeViews.{tree_of, chain_of};
-ghost use Rattle.pks_walk.specs.Walking.{state_of, IsReady, AreReady};
+ghost use Rattle.pks_history_replay.specs.Walking.{state_of, IsReady, AreReady};
 ghost use Rattle.pks_recall.specs.Walking.{AddsLeaves, AddsLeavesOfEach};
 
-use pks_choices::{Choice, Side};
 use pks_history::histories::History;
+use pks_history_replay::{State, after, history, taking};
 use pks_plan::{CaseChain, Tree};
+use pks_terms::choices::{Choice, Side};
 use pks_terms::problem::Problem;
 use pks_terms::term::Term;
-use pks_walk::{State, after, history, taking};
 use std::alloc::{AllocError, Global};
 
 /// Adds the states at the leaves of a tree that is derived at this state, from left to right.

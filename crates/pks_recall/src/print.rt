@@ -7,16 +7,16 @@ ghost use Rattle.pks_terms.specs.Printed.{line, literal_text};
 ghost use Rattle.pks_terms.specs.Recalled.{moment_text, state_text, leaf_text, recall_text};
 ghost use Rattle.pks_terms.specs.Views.{names_of, literal_of};
 ghost use Rattle.pks_kf.specs.Known.{literals_of};
-ghost use Rattle.pks_normal.specs.Fives.{five_of};
-ghost use Rattle.pks_walk.specs.Walking.{state_of};
+ghost use Rattle.pks_query_lookup.specs.Fives.{five_of};
+ghost use Rattle.pks_history_replay.specs.Walking.{state_of};
 
 use pks_history::histories::History;
+use pks_history_replay::State;
 use pks_kf::Kf;
 use pks_plan::{print_literal, put, put_number};
 use pks_query::databases::Db;
 use pks_terms::literal::Literal;
 use pks_terms::problem::Problem;
-use pks_walk::State;
 use std::alloc::{AllocError, Global};
 
 /// Appends a literal on a line.

@@ -9,9 +9,9 @@ ghost use Rattle.pks_recall.specs.Walking.{Recalls};
 
 use crate::leaves::add_leaves;
 use crate::print::print_leaves;
+use pks_history_replay::start;
 use pks_plan::Tree;
 use pks_terms::problem::Problem;
-use pks_walk::start;
 use std::alloc::{AllocError, Global};
 
 /// The text of what each leaf of the tree knows, from left to right and counted from 1: each moment of its history with the

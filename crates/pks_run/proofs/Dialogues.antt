@@ -20,9 +20,9 @@ use Rattle.pks_agent.specs.Streams.{ahead_of, coming, answers_coming}
 use Rattle.pks_agent.proofs.Joining.{appends_more, front_behind, front_first}
 use Rattle.pks_agent.proofs.AlongRuns.{plan_led}
 use Rattle.pks_plan.specs.Naming.{AreNamesOf}
-use Rattle.pks_file.specs.Inputs.{Reads, IsRead}
-use Rattle.pks_answer.proofs.Lasting.{best_is_good}
-use Rattle.pks_answer.proofs.OneReply.{all_justified, one_refusal, one_tree, none_or_tree, one_unplanned}
+use Rattle.pks_reader.specs.Inputs.{Reads, IsRead}
+use Rattle.pks_run_answer.proofs.Lasting.{best_is_good}
+use Rattle.pks_run_answer.proofs.OneReply.{all_justified, one_refusal, one_tree, none_or_tree, one_unplanned}
 use Rattle.pks_run.proofs.ShortNames.{read_short}
 use Rattle.pks_run.specs.Answer.{AnswersJob, IsAnswered, IsReplyTo, LeadsFront, LeavesAnswers}
 use Rattle.pks_run.specs.Leads.{HasCauses, line_refused, WritesRefusal, Concludes, IsWellLed, Converses}

@@ -3,7 +3,7 @@ use Rattle.std.proofs.Common.{◌≤◌, ◌+◌, ◌*◌, ◌++◌, ◌∷◌, 
 use Rattle.std.specs.List.{flat_map}
 use Rattle.std.proofs.lemmas.List.{length-append}
 use Rattle.std.proofs.lemmas.Fmt.{length-decimal-le}
-use Rattle.pks_bench.proofs.Generated.{to_objects, to_facts, to_end, by_parts}
+use Rattle.pks_run_bench.proofs.Generated.{to_objects, to_facts, to_end, by_parts}
 use Rattle.pks_terms.specs.Printed.{Text, generated, numbers_from, numbered_object, fact_line, fact_lines}
 
 -- texts of numbers in turn, each of at most so many bytes

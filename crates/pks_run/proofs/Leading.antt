@@ -4,7 +4,7 @@ use Rattle.std.specs.Io.KnownBytes.{Appends}
 use Rattle.pks_io.specs.Causes.{Rose}
 use Rattle.pks_terms.specs.Jobs.{Agent, Explain}
 use Rattle.pks_terms.specs.Printed.{Text}
-use Rattle.pks_words.specs.JobViews.{AskForOne}
+use Rattle.pks_run_words.specs.JobViews.{AskForOne}
 use Rattle.pks_run.specs.Answer.{IsAnswered, IsAnswer, AskNoExplanation, IsExactly, HasNoPlan, IsRefused, PrintsGood, LeadsFront, WritesFront}
 use Rattle.pks_run.specs.Leads.{HasCauses, Leads}
 use Rattle.pks_run.specs.declared.status.Status.{Status}

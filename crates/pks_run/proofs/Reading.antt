@@ -3,11 +3,11 @@ use Rattle.std.proofs.Common.{◌≡◌, ◌<◌, [], ◌∷◌, length, Option,
 use Rattle.pks_terms.specs.Printed.{Text}
 use Rattle.pks_text.specs.Lines.{line_column_of}
 use Rattle.pks_terms.specs.Answers.{Reading, ReadAs, Faulty, File}
-use Rattle.pks_grammar.specs.Files.{Fault}
-use Rattle.pks_grammar.specs.declared.report.Refusal.{Refusal}
-use Rattle.pks_grammar.specs.declared.report.Turned.{Turned}
-use Rattle.pks_grammar.specs.declared.report.Turned.TheVariants.{Refused, Memory}
-use Rattle.pks_file.specs.Inputs.{line_and_column, IsFaulty, too_long, too_high, refused, IsRead, Reads}
+use Rattle.pks_reader_shape.specs.Files.{Fault}
+use Rattle.pks_reader_shape.specs.declared.report.Refusal.{Refusal}
+use Rattle.pks_reader_shape.specs.declared.report.Turned.{Turned}
+use Rattle.pks_reader_shape.specs.declared.report.Turned.TheVariants.{Refused, Memory}
+use Rattle.pks_reader.specs.Inputs.{line_and_column, IsFaulty, too_long, too_high, refused, IsRead, Reads}
 
 -- as this file alone
 pub one_file : (input : Text) (f : File) → ((g : File) → IsRead input g → g ≡ f) → ((fault : Fault) → IsFaulty input fault → ⊥) → (x : Reading) → Reads input x → x ≡ ReadAs f

@@ -4,11 +4,11 @@ use Rattle.pks_terms.specs.Jobs.{Job, Check, Plan, Exec, Bench, Recall, Agent, E
 use Rattle.pks_terms.specs.Printed.{Text, refusal_text}
 use Rattle.pks_terms.specs.Answers as answers
 use Rattle.pks_terms.specs.Answers.{Place, Reading, ReadAs, Faulty, File, IsAccepted, IsDone, IsTalkRefused, IsUnplanned, refusal, text_for}
-use Rattle.pks_words.specs.JobViews.{modes, AskFor, AskForOne, AskNoJob}
-use Rattle.pks_file.specs.Inputs.{Reads, IsRead}
-use Rattle.pks_answer.specs.Replies.{IsReply, IsAbout, AreAlike as AlikeReplies, RepliesTo}
-use Rattle.pks_answer.specs.declared.reply.Verdict.{Verdict}
-use Rattle.pks_answer.specs.declared.reply.Verdict.TheVariants as verdict_is
+use Rattle.pks_run_words.specs.JobViews.{modes, AskFor, AskForOne, AskNoJob}
+use Rattle.pks_reader.specs.Inputs.{Reads, IsRead}
+use Rattle.pks_run_answer.specs.Replies.{IsReply, IsAbout, AreAlike as AlikeReplies, RepliesTo}
+use Rattle.pks_run_answer.specs.declared.reply.Verdict.{Verdict}
+use Rattle.pks_run_answer.specs.declared.reply.Verdict.TheVariants as verdict_is
 use Rattle.pks_run.specs.Answer.{IsBench, IsDialogue, AnswersJob, AreAlike, IsReplied, IsReplyTo, Replies, IsAnswered, IsAnswer, AskNoExplanation, IsAnswerTo, Responds}
 use Rattle.pks_run.specs.Replied.{status_for}
 use Rattle.pks_run.specs.declared.status.Status.{Status}

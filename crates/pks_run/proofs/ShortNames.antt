@@ -9,18 +9,18 @@ use Rattle.pks_terms.specs.Talk.{is_short}
 use Rattle.pks_terms.specs.Printed.{Text}
 use Rattle.pks_terms.specs.Answers.{File}
 use Rattle.pks_text.specs.Forms.{Form, Forms, no_forms, form, place_of}
-use Rattle.pks_grammar.specs.Walk.{count}
-use Rattle.pks_grammar.specs.Files.{number_of}
-use Rattle.pks_meaning.specs.Tables.{Table, declare, too_long, twice}
-use Rattle.pks_meaning.specs.Parts.{behind_head, section, first_forms}
-use Rattle.pks_meaning.specs.Declarations.{Types, name_of, first_in, no_faults, name_faults, table_from, entries_faults, past_names, type_faults, type_named, objects_with, objects_from, objects_faults, objects_faults_in, most_objects, objects_section}
-use Rattle.pks_meaning.specs.Meaning.{scope_of}
-use Rattle.pks_stated.specs.Stated.{named_by}
+use Rattle.pks_reader_shape.specs.Walk.{count}
+use Rattle.pks_reader_shape.specs.Files.{number_of}
+use Rattle.pks_reader_names.specs.Tables.{Table, declare, too_long, twice}
+use Rattle.pks_reader_names.specs.Parts.{behind_head, section, first_forms}
+use Rattle.pks_reader_names.specs.Declarations.{Types, name_of, first_in, no_faults, name_faults, table_from, entries_faults, past_names, type_faults, type_named, objects_with, objects_from, objects_faults, objects_faults_in, most_objects, objects_section}
+use Rattle.pks_reader_names.specs.Meaning.{scope_of}
+use Rattle.pks_reader_problem.specs.Stated.{named_by}
 use Rattle.pks_reader.specs.Files.{faults_by_section}
-use Rattle.pks_accepted.proofs.Numbers.{nil_parts, when}
-use Rattle.pks_accepted.proofs.Tabled.{each_key}
+use Rattle.pks_laws_reader.proofs.Numbers.{nil_parts, when}
+use Rattle.pks_laws_reader.proofs.Tabled.{each_key}
 use Rattle.pks_agent.specs.Along.{AreShort}
-use Rattle.pks_file.specs.Inputs.{IsRead}
+use Rattle.pks_reader.specs.Inputs.{IsRead}
 
 abbrev IsShort : List ℕ → Type 0
 IsShort name = is_short name ≡ true

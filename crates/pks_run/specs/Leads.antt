@@ -16,7 +16,7 @@ use Rattle.pks_agent.specs.declared.ends.TalkEnd.{TalkEnd}
 use Rattle.pks_agent.specs.declared.ends.TalkEnd.TheVariants.{Misfit, Silent, Failed}
 use Rattle.pks_agent.specs.declared.peers.PeerFault.TheVariants.{Send, Receive}
 use Rattle.pks_agent.specs.Along.{LeadsAlong}
-use Rattle.pks_file.specs.Inputs.{Reads}
+use Rattle.pks_reader.specs.Inputs.{Reads}
 use Rattle.pks_run.specs.Answer.{IsAnswered, IsReplyTo, LeadsFront, LeavesAnswers}
 use Rattle.pks_run.specs.declared.status.Status.{Status}
 use Rattle.pks_run.specs.declared.status.Status.TheVariants.{Done, NoPlan, Words, Refused, ReadFault, WriteFault, Memory}

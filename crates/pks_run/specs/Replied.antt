@@ -1,6 +1,6 @@
 -- The status for the verdict of a reply.
-use Rattle.pks_answer.specs.declared.reply.Verdict.{Verdict}
-use Rattle.pks_answer.specs.declared.reply.Verdict.TheVariants as verdict_is
+use Rattle.pks_run_answer.specs.declared.reply.Verdict.{Verdict}
+use Rattle.pks_run_answer.specs.declared.reply.Verdict.TheVariants as verdict_is
 use Rattle.pks_run.specs.declared.status.Status.{Status}
 use Rattle.pks_run.specs.declared.status.Status.TheVariants.{Done, NoPlan, Refused}
 

@@ -3,19 +3,18 @@ ghost use Rattle.std.specs.Prelude.{◌≡◌, ◌≤◌, [], length, IfOk};
 ghost use Rattle.pks_terms.specs.Printed.{Text, refusal_text};
 ghost use Rattle.pks_terms.specs.Jobs.{IsInBounds, usage_text};
 ghost use Rattle.pks_terms.specs.Answers.{refusal, text_for, Reading, ReadAs, Faulty};
-ghost use Rattle.pks_words.specs.JobViews.{modes, job_of};
-ghost use Rattle.pks_file.specs.Inputs.{line_and_column, IsFaulty, IsRead, Reads};
-ghost use Rattle.pks_file.specs.Views.{file_of, IsWhole};
-ghost use Rattle.pks_answer.specs.Replies.{IsAbout};
+ghost use Rattle.pks_run_words.specs.JobViews.{modes, job_of};
+ghost use Rattle.pks_reader.specs.Inputs.{line_and_column, IsFaulty, IsRead, Reads};
+ghost use Rattle.pks_reader.specs.Views.{file_of, IsWhole};
+ghost use Rattle.pks_run_answer.specs.Replies.{IsAbout};
 ghost use Rattle.pks_run.specs.Answer.{IsReplyTo};
 ghost use Rattle.pks_run.specs.Replied.{status_for};
 
 use crate::status::Status;
-use pks_answer::line::refusal_line;
-use pks_answer::reply::{Verdict, reply_about};
-use pks_file::{InputFile, read_file};
-use pks_reader::{Refusal, Turned};
-use pks_words::Job;
+use pks_reader::{InputFile, Refusal, Turned, read_file};
+use pks_run_answer::line::refusal_line;
+use pks_run_answer::reply::{Verdict, reply_about};
+use pks_run_words::Job;
 use std::alloc::{AllocError, Global};
 
 // The status that says what a reply says of the job.

@@ -8,7 +8,7 @@ use Rattle.pks_terms.specs.Valid.{IsValid}
 use Rattle.pks_plan.proofs.Costs.{cost_most}
 use Rattle.pks_search.specs.Limits.{IsBestWithin, IsLimitAt}
 use Rattle.pks_search.proofs.Rooted.{cheaper}
-use Rattle.pks_failures.proofs.Costs.{depth_at_most_cost, costs_at_most}
+use Rattle.pks_search_nogoods.proofs.Costs.{depth_at_most_cost, costs_at_most}
 
 module _ (p : Problem) (x : State) where
   -- no tree of depth 16 costs more than 16 dearest actions

@@ -17,7 +17,7 @@ use Rattle.pks_laws.proofs.Choosing.{best_without}
 use Rattle.pks_branch.specs.ChoiceOrder.{choice_cmp}
 use Rattle.pks_search.specs.Limits.{IsBestWithin, IsCheapBy, IsCheapAmong, IsNextLimit, IsFoundAmong, IsFoundBefore}
 use Rattle.pks_search.proofs.Rooted.{cheaper, before_by_choice}
-use Rattle.pks_failures.proofs.Costs.{depth_at_most_cost}
+use Rattle.pks_search_nogoods.proofs.Costs.{depth_at_most_cost}
 use Rattle.pks_search.proofs.Limited.{needs_depth}
 
 among_more : (cs : List Choice) (c : Choice) (o : Option Choice) → IsAmong cs o → IsAmong (cs ++ c ∷ []) o

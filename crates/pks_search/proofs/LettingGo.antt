@@ -9,7 +9,7 @@ use Rattle.pks_terms.specs.Aims.{met}
 use Rattle.pks_terms.specs.Trees.{Tree, Goal}
 use Rattle.pks_terms.specs.Views.{problem_of}
 use Rattle.pks_postdict.specs.Read.{AreRead, IsReadBut}
-use Rattle.pks_settled_past.specs.Same.{IsEndOf, HasSameTrees}
+use Rattle.pks_history_forget.specs.Same.{IsEndOf, HasSameTrees}
 use Rattle.pks_search.specs.Limits.{IsBestWithin}
 use Rattle.pks_search.specs.Ready.{IsReady}
 use Rattle.pks_search.specs.Straight.{HasTreesWithin}

@@ -22,14 +22,14 @@ use Rattle.pks_terms.specs.Versions.{IsNow}
 use Rattle.pks_terms.specs.Moments.{AreMomentsOf}
 use Rattle.pks_laws.proofs.Choosing.{act_not_branch, act_not_cases}
 use Rattle.pks_laws.proofs.SearchStates.{last_of_it}
-use Rattle.pks_bound.specs.Runs.{Reaches, MayBeAt}
-use Rattle.pks_bound.specs.Levels.{IsAtMost}
-use Rattle.pks_bound.proofs.Running.{acted_may, may_do, reach_branch, reach_cases}
-use Rattle.pks_witness.specs.declared.witness.Witness.{Witness}
-use Rattle.pks_witness.specs.Near.{world_in, is_above}
-use Rattle.pks_settled_past.specs.Same.{IsEndOf}
-use Rattle.pks_failures.specs.Failing.{HasNoTree}
-use Rattle.pks_failures.proofs.Costs.{depth_at_most_cost}
+use Rattle.pks_laws_distance.specs.Runs.{Reaches, MayBeAt}
+use Rattle.pks_laws_distance.specs.Levels.{IsAtMost}
+use Rattle.pks_laws_distance.proofs.Running.{acted_may, may_do, reach_branch, reach_cases}
+use Rattle.pks_search_witness.specs.declared.witness.Witness.{Witness}
+use Rattle.pks_search_witness.specs.Near.{world_in, is_above}
+use Rattle.pks_history_forget.specs.Same.{IsEndOf}
+use Rattle.pks_search_nogoods.specs.Failing.{HasNoTree}
+use Rattle.pks_search_nogoods.proofs.Costs.{depth_at_most_cost}
 use Rattle.pks_search.specs.Limits.{IsCheapBy}
 use Rattle.pks_search.specs.Near.{IfNear, IfNearAfter, is_far, is_tight}
 use Rattle.pks_search.specs.Straight.{IsStraight, last_alone, HasTreesWithin}

@@ -17,13 +17,13 @@ use Rattle.pks_terms.specs.Trees.{Tree, Goal, Impossible, Do, Branch, Cases, Cha
 use Rattle.pks_terms.specs.Knowledge.{grounded, after_action}
 use Rattle.pks_terms.specs.Valid.{IsValid}
 use Rattle.pks_laws.proofs.Choosing.{act_not_branch, act_not_cases, branch_not_act, branch_not_cases, cases_not_act, cases_not_branch}
-use Rattle.pks_bound.specs.Runs.{Reaches, MayBeAt}
-use Rattle.pks_bound.specs.Levels.{IsAtMost}
-use Rattle.pks_bound.proofs.Running.{start_may, later_may, acted_may, taken_may, reach_from, reach_branch, reach_cases}
-use Rattle.pks_witness.specs.declared.witness.Witness.{Witness}
-use Rattle.pks_witness.specs.Near.{world_in, IsCounted, is_above, is_beyond}
-use Rattle.pks_settled_past.specs.Same.{IsEndOf}
-use Rattle.pks_failures.proofs.Costs.{depth_at_most_cost}
+use Rattle.pks_laws_distance.specs.Runs.{Reaches, MayBeAt}
+use Rattle.pks_laws_distance.specs.Levels.{IsAtMost}
+use Rattle.pks_laws_distance.proofs.Running.{start_may, later_may, acted_may, taken_may, reach_from, reach_branch, reach_cases}
+use Rattle.pks_search_witness.specs.declared.witness.Witness.{Witness}
+use Rattle.pks_search_witness.specs.Near.{world_in, IsCounted, is_above, is_beyond}
+use Rattle.pks_history_forget.specs.Same.{IsEndOf}
+use Rattle.pks_search_nogoods.proofs.Costs.{depth_at_most_cost}
 use Rattle.pks_search.specs.Limits.{IsBestWithin, IsCheapBy}
 use Rattle.pks_search.specs.Near.{IsFirst, IsNear, IfNear, IfNearAfter, Becomes, is_far, is_so, is_on}
 use Rattle.pks_search.proofs.Limited.{price}

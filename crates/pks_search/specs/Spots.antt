@@ -3,7 +3,7 @@ use Rattle.std.specs.Prelude.{ℕ, IfSome}
 use Rattle.pks_terms.specs.declared.problem.Problem.{Problem as DProblem}
 use Rattle.pks_terms.specs.Problems.{Problem}
 use Rattle.pks_terms.specs.Views.{problem_of}
-use Rattle.pks_failures.specs.Failing.{AreRight}
+use Rattle.pks_search_nogoods.specs.Failing.{AreRight}
 use Rattle.pks_search.specs.Ready.{IsReady}
 use Rattle.pks_search.specs.Near.{AreItsDeeds, IfNear}
 use Rattle.pks_search.specs.declared.spots.Spot.{Spot}

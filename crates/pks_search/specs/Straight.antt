@@ -6,8 +6,8 @@ use Rattle.pks_terms.specs.Settling.{History, last_moment, At}
 use Rattle.pks_terms.specs.Moments.{AreMomentsOf}
 use Rattle.pks_terms.specs.Trees.{Tree, Goal, Impossible, Do, Branch, Cases, depth, cost, Derives}
 use Rattle.pks_terms.specs.Versions.{IsNow}
-use Rattle.pks_settled_past.specs.Same.{IsEndOf}
-use Rattle.pks_failures.specs.Failing.{HasNoTree}
+use Rattle.pks_history_forget.specs.Same.{IsEndOf}
+use Rattle.pks_search_nogoods.specs.Failing.{HasNoTree}
 
 -- no branch and no cases stand in the tree
 abbrev pub IsStraight : Tree → Type 0

@@ -3,15 +3,15 @@ ghost use Rattle.std.specs.Prelude.{◌≡◌, None, IfOk, IfSome};
 ghost use Rattle.pks_terms.specs.Knowledge.{grounded, after_action};
 ghost use Rattle.pks_terms.specs.ValidProblems.{IsValidProblem};
 ghost use Rattle.pks_terms.specs.Views.{instance_of, problem_of};
-ghost use Rattle.pks_choices.specs.ChoiceViews.{choice_of, side_of};
+ghost use Rattle.pks_terms.specs.ChoiceViews.{choice_of, side_of};
 ghost use Rattle.pks_search.specs.Near.{AreItsDeeds, IsFirst, Becomes, is_far, is_tight, is_so, is_on};
-ghost use Rattle.pks_witness.specs.Near.{world_in, IsCounted};
+ghost use Rattle.pks_search_witness.specs.Near.{world_in, IsCounted};
 
-use pks_choices::{Choice, Side};
-use pks_needs::Deeds;
+use pks_search_distance::Deeds;
+use pks_search_witness::{Witness, witness_of};
+use pks_terms::choices::{Choice, Side};
 use pks_terms::problem::Problem;
 use pks_terms::schema::Instance;
-use pks_witness::{Witness, witness_of};
 use std::alloc::{AllocError, Global};
 
 /// The most that a bound is counted to at the start.

@@ -9,18 +9,18 @@ ghost use Rattle.pks_terms.specs.Trees.{IsBest};
 ghost use Rattle.pks_terms.specs.Knowledge.{Good};
 ghost use Rattle.pks_terms.specs.ValidProblems.{IsValidProblem};
 ghost use Rattle.pks_terms.specs.Views.{problem_of};
-ghost use Rattle.pks_normal.specs.Fives.{five_of};
+ghost use Rattle.pks_query_lookup.specs.Fives.{five_of};
 ghost use Rattle.pks_plan.specs.TreeViews.{tree_of};
 ghost use Rattle.pks_terms.specs.Remembering.{RemembersPast};
 
 use crate::nearing::Start;
 use crate::rising::best_rising;
 use crate::spots::{Notes, Spot};
-use pks_closing::closing::CloseEnd;
-use pks_failures::failures::Failures;
 use pks_history::histories::History;
 use pks_plan::Tree;
 use pks_query::databases::Db;
+use pks_query_closing::closing::CloseEnd;
+use pks_search_nogoods::failures::Failures;
 use pks_terms::problem::Problem;
 use std::alloc::{AllocError, Global};
 

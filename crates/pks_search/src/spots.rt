@@ -2,17 +2,17 @@
 ghost use Rattle.std.specs.Prelude.{◌≡◌, true, IfOk};
 ghost use Rattle.pks_terms.specs.Valid.{IsValid};
 ghost use Rattle.pks_terms.specs.Views.{problem_of};
-ghost use Rattle.pks_failures.specs.Failing.{AreRight};
+ghost use Rattle.pks_search_nogoods.specs.Failing.{AreRight};
 ghost use Rattle.pks_search.specs.Straight.{last_alone, HasTreesWithin, LastFails};
 ghost use Rattle.pks_search.specs.Spots.{MayGoOn};
 
 use crate::nearing::is_tight;
-use pks_failures::failures::Failures;
 use pks_history::histories::History;
-use pks_needs::Deeds;
-use pks_settled_past::{are_now, cut};
+use pks_history_forget::{are_now, cut};
+use pks_search_distance::Deeds;
+use pks_search_nogoods::failures::Failures;
+use pks_search_witness::Witness;
 use pks_terms::problem::Problem;
-use pks_witness::Witness;
 use std::alloc::{AllocError, Global};
 
 /// Where a search is: at a history, of whose steps all but the last `unread` bring nothing new, with a witness or none.

@@ -1,6 +1,7 @@
 //! Terms, literals, actions and problems, with their orders, and in `specs/` the definitions of all rules over plain lists.
 #![tactic(auto)]
 
+pub mod choices;
 pub mod group;
 pub mod ids;
 pub mod literal;

@@ -6,9 +6,9 @@ use Rattle.pks_terms.specs.Moments.{AreInOrder}
 use Rattle.pks_laws.proofs.Assuming.{so_too, assumed_true}
 use Rattle.pks_laws.proofs.BelongingSteps.{assumed_of}
 use Rattle.pks_laws.proofs.SidesInOrder.{assumed_ordered}
-use Rattle.pks_closing.specs.Closing.{IfClash}
-use Rattle.pks_normal.specs.Fives.{five_of}
-use Rattle.pks_choices.specs.ChoiceViews.{choice_of, side_of}
+use Rattle.pks_query_closing.specs.Closing.{IfClash}
+use Rattle.pks_query_lookup.specs.Fives.{five_of}
+use Rattle.pks_terms.specs.ChoiceViews.{choice_of, side_of}
 use Rattle.pks_branch.proofs.assuming.assume.Goals as goal
 
 pub returns-in-Ok-clause-moment : goal.returns-in-Ok-clause-moment

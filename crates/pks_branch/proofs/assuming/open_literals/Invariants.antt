@@ -3,7 +3,7 @@ use Rattle.std.specs.List.{filter}
 use Rattle.pks_terms.specs.declared.literal.Literal.{Literal}
 use Rattle.pks_terms.specs.Databases.{holds}
 use Rattle.pks_terms.specs.Views.{literals_in, signature_of}
-use Rattle.pks_normal.specs.Fives.{five_of}
+use Rattle.pks_query_lookup.specs.Fives.{five_of}
 use Rattle.pks_branch.proofs.assuming.open_literals.Given as goal
 
 abbrev pub invariant-loop-l : goal.invariant-loop-l

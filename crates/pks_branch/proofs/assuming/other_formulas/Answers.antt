@@ -2,7 +2,7 @@ use Rattle.std.proofs.Common.{rules, not}
 use Rattle.std.specs.Ordering.{is_eq}
 use Rattle.pks_terms.specs.Orders.{conj_cmp}
 use Rattle.pks_terms.specs.Views.{conj_of}
-use Rattle.pks_set.proofs.Mapped.{keeps-map}
+use Rattle.pks_pmap_set.proofs.Mapped.{keeps-map}
 use Rattle.pks_branch.proofs.assuming.other_formulas.Goals as goal
 
 pub returns : goal.returns

@@ -1,7 +1,7 @@
 use Rattle.std.proofs.Common.{rules, not}
 use Rattle.pks_terms.specs.Orders.{term_eq}
 use Rattle.pks_terms.specs.Views.{term_of}
-use Rattle.pks_set.proofs.Mapped.{keeps-map}
+use Rattle.pks_pmap_set.proofs.Mapped.{keeps-map}
 use Rattle.pks_branch.proofs.assuming.other_values.Goals as goal
 
 pub returns : goal.returns

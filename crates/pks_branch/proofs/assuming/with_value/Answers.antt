@@ -5,7 +5,7 @@ use Rattle.pks_terms.specs.Sets.{insert_in}
 use Rattle.pks_terms.specs.Views.{literal_of, term_of, signature_of}
 use Rattle.pks_terms.proofs.SetLaws.{map-insert_in}
 use Rattle.pks_kf.specs.Known.{literals_of}
-use Rattle.pks_normal.specs.Fives.{five_of}
+use Rattle.pks_query_lookup.specs.Fives.{five_of}
 use Rattle.pks_branch.proofs.assuming.with_value.Goals as goal
 
 pub returns : goal.returns

@@ -2,7 +2,7 @@ use Rattle.std.proofs.Common.{◌≡◌, drop}
 use Rattle.std.specs.List.{list_all}
 use Rattle.pks_terms.specs.Databases.{holds}
 use Rattle.pks_terms.specs.Views.{literals_in, signature_of}
-use Rattle.pks_normal.specs.Fives.{five_of}
+use Rattle.pks_query_lookup.specs.Fives.{five_of}
 use Rattle.pks_branch.proofs.choosing.all_known.Given as goal
 
 abbrev pub invariant-loop-l : goal.invariant-loop-l

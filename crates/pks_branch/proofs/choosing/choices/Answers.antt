@@ -2,8 +2,8 @@ use Rattle.std.proofs.Common.{◌≡◌, ◌++◌, ◌∷◌, option_map, sym, a
 use Rattle.pks_terms.specs.Sets.{IsOrdered}
 use Rattle.pks_terms.specs.Branching.{choices}
 use Rattle.pks_terms.specs.Views.{problem_of}
-use Rattle.pks_normal.specs.Fives.{five_of}
-use Rattle.pks_choices.specs.ChoiceViews.{choice_of, choices_of}
+use Rattle.pks_query_lookup.specs.Fives.{five_of}
+use Rattle.pks_terms.specs.ChoiceViews.{choice_of, choices_of}
 use Rattle.pks_branch.specs.WalkViews.{left_in}
 use Rattle.pks_branch.specs.ChoiceOrder.{choice_cmp}
 use Rattle.pks_branch.specs.Walks.{IsNext}

@@ -1,8 +1,8 @@
 use Rattle.std.proofs.Common.{◌≡◌, ◌++◌, length}
 use Rattle.pks_terms.specs.Branching.{choices}
 use Rattle.pks_terms.specs.Views.{problem_of}
-use Rattle.pks_normal.specs.Fives.{five_of}
-use Rattle.pks_choices.specs.ChoiceViews.{choices_of}
+use Rattle.pks_query_lookup.specs.Fives.{five_of}
+use Rattle.pks_terms.specs.ChoiceViews.{choices_of}
 use Rattle.pks_branch.specs.WalkViews.{left_in}
 use Rattle.pks_branch.proofs.choosing.choices.Given as goal
 

@@ -1,6 +1,6 @@
 use Rattle.pks_terms.specs.Orders.{conj_cmp}
 use Rattle.pks_terms.specs.Views.{conj_of}
-use Rattle.pks_set.proofs.Mapped.{ordered-map}
+use Rattle.pks_pmap_set.proofs.Mapped.{ordered-map}
 use Rattle.pks_branch.proofs.choosing.push_branches.Goals as goal
 
 pub returns-in_err-push-clause-ordered : goal.returns-in_err-push-clause-ordered

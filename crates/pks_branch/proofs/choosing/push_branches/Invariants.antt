@@ -4,8 +4,8 @@ use Rattle.pks_terms.specs.declared.literal.Conj.{Conj}
 use Rattle.pks_terms.specs.Branching.{BranchOn, is_undecided}
 use Rattle.pks_terms.specs.Views.{signature_of}
 use Rattle.pks_kw.specs.Formulas.{formulas_of}
-use Rattle.pks_normal.specs.Fives.{five_of}
-use Rattle.pks_choices.specs.ChoiceViews.{choices_of}
+use Rattle.pks_query_lookup.specs.Fives.{five_of}
+use Rattle.pks_terms.specs.ChoiceViews.{choices_of}
 use Rattle.pks_branch.proofs.choosing.push_branches.Given as goal
 
 abbrev pub invariant-loop-c : goal.invariant-loop-c

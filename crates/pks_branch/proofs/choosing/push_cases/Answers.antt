@@ -1,6 +1,6 @@
 use Rattle.pks_terms.specs.Orders.{term_cmp}
 use Rattle.pks_terms.specs.Views.{term_of}
-use Rattle.pks_set.proofs.Mapped.{ordered-map}
+use Rattle.pks_pmap_set.proofs.Mapped.{ordered-map}
 use Rattle.pks_branch.proofs.choosing.push_cases.Goals as goal
 
 pub returns-in_err-push-clause-ordered : goal.returns-in_err-push-clause-ordered

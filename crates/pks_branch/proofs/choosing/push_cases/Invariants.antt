@@ -3,8 +3,8 @@ use Rattle.std.specs.List.{filter}
 use Rattle.pks_terms.specs.declared.term.Term.{Term}
 use Rattle.pks_terms.specs.Branching.{CasesOn, may_split}
 use Rattle.pks_terms.specs.Views.{terms_of, signature_of}
-use Rattle.pks_normal.specs.Fives.{five_of}
-use Rattle.pks_choices.specs.ChoiceViews.{choices_of}
+use Rattle.pks_query_lookup.specs.Fives.{five_of}
+use Rattle.pks_terms.specs.ChoiceViews.{choices_of}
 use Rattle.pks_branch.proofs.choosing.push_cases.Given as goal
 
 abbrev pub invariant-loop-t : goal.invariant-loop-t

@@ -2,7 +2,7 @@ use Rattle.std.proofs.Common.{not, ◌&&◌, sym, ap, ◌∙◌}
 use Rattle.pks_terms.specs.Actions.{query_at}
 use Rattle.pks_terms.specs.Queries.{answers}
 use Rattle.pks_terms.specs.Views.{given_of, query_of, signature_of}
-use Rattle.pks_normal.specs.Fives.{five_of}
+use Rattle.pks_query_lookup.specs.Fives.{five_of}
 use Rattle.pks_branch.proofs.early.is_barred_by.Goals as goal
 
 pub returns-then-can_be_asked : goal.returns-then-can_be_asked

@@ -5,7 +5,7 @@ use Rattle.pks_terms.specs.Orders.{inequation}
 use Rattle.pks_terms.specs.Databases.{holds}
 use Rattle.pks_terms.specs.Branching.{left}
 use Rattle.pks_terms.specs.Views.{object_of, term_of, signature_of}
-use Rattle.pks_normal.specs.Fives.{five_of}
+use Rattle.pks_query_lookup.specs.Fives.{five_of}
 use Rattle.pks_branch.proofs.leaving.left_of.Goals as goal
 
 pub returns : goal.returns

@@ -4,7 +4,7 @@ use Rattle.pks_terms.specs.declared.schema.Query.{Query}
 use Rattle.pks_terms.specs.Actions.{query_at}
 use Rattle.pks_terms.specs.Queries.{answers}
 use Rattle.pks_terms.specs.Views.{given_of, query_of, signature_of}
-use Rattle.pks_normal.specs.Fives.{five_of}
+use Rattle.pks_query_lookup.specs.Fives.{five_of}
 use Rattle.pks_branch.proofs.walking.is_allowed.Given as goal
 
 abbrev pub invariant-loop-q : goal.invariant-loop-q

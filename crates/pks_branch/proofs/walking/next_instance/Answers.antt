@@ -2,7 +2,7 @@ use Rattle.std.proofs.Common.{◌≡◌, [], ◌-◌, List, take, Some, None, op
 use Rattle.std.specs.List.{flat_map}
 use Rattle.pks_terms.specs.declared.schema.Instance.{Instance as DInstance}
 use Rattle.pks_terms.specs.Views.{instance_of, problem_of}
-use Rattle.pks_normal.specs.Fives.{five_of}
+use Rattle.pks_query_lookup.specs.Fives.{five_of}
 use Rattle.pks_branch.specs.WalkViews.{beginnings_of}
 use Rattle.pks_branch.specs.Walks.{begun, GoesOn}
 use Rattle.pks_branch.proofs.Onward.{step_taken}

@@ -1,6 +1,6 @@
 use Rattle.std.proofs.Common.{◌+◌, ◌*◌}
 use Rattle.pks_plan.specs.TreeViews.{tree_of, chain_of}
-use Rattle.pks_walk.proofs.Sizes.{size, size_in}
+use Rattle.pks_history_replay.proofs.Sizes.{size, size_in}
 use Rattle.pks_explain.proofs.owing.+walking.Given as goal
 
 abbrev pub decreases-add_behind : goal.decreases-add_behind

@@ -1,7 +1,7 @@
 use Rattle.std.proofs.Common.{◌≡◌, ◌++◌, map, drop}
 use Rattle.pks_terms.specs.Explained.{at_end}
 use Rattle.pks_terms.specs.Views.{literals_in}
-use Rattle.pks_proof.specs.ProofViews.{path_of}
+use Rattle.pks_proof_lines.specs.ProofViews.{path_of}
 use Rattle.pks_explain.specs.EntryViews.{owed_of}
 use Rattle.pks_explain.proofs.owing.add_each.Given as goal
 

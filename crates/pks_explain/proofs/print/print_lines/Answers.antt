@@ -7,7 +7,7 @@ use Rattle.pks_terms.specs.Printed.{line}
 use Rattle.pks_terms.specs.Proofs.{Line}
 use Rattle.pks_terms.specs.Views.{names_of}
 use Rattle.std.specs.Prelude.{ℕ, List}
-use Rattle.pks_proof.specs.ProofViews.{line_of, lines_of}
+use Rattle.pks_proof_lines.specs.ProofViews.{line_of, lines_of}
 use Rattle.pks_explain.proofs.Texts.{one_told}
 use Rattle.pks_explain.proofs.print.print_lines.Goals as goal
 

@@ -4,7 +4,7 @@ use Rattle.pks_terms.specs.Branching.{numbered}
 use Rattle.pks_terms.specs.Explained.{proof_line_text}
 use Rattle.pks_terms.specs.Printed.{line}
 use Rattle.pks_terms.specs.Views.{names_of}
-use Rattle.pks_proof.specs.ProofViews.{lines_of}
+use Rattle.pks_proof_lines.specs.ProofViews.{lines_of}
 use Rattle.pks_explain.proofs.Texts.{left_text}
 use Rattle.pks_explain.proofs.print.print_lines.Given as goal
 

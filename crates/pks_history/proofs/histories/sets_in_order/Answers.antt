@@ -2,9 +2,9 @@ use Rattle.std.proofs.Common.{◌≡◌, subst}
 use Rattle.pks_terms.specs.Orders.{term_cmp, literal_cmp, conj_cmp}
 use Rattle.pks_terms.specs.Databases.{AreSets, entry_cmp}
 use Rattle.pks_terms.specs.Views.{term_of, literal_of, literals_in, conj_of}
-use Rattle.pks_set.proofs.Mapped.{ordered-map}
+use Rattle.pks_pmap_set.proofs.Mapped.{ordered-map}
 use Rattle.pks_lcw.specs.Entries.{entry_of}
-use Rattle.pks_normal.specs.Fives.{five_of}
+use Rattle.pks_query_lookup.specs.Fives.{five_of}
 use Rattle.pks_history.proofs.histories.sets_in_order.Goals as goal
 
 pub returns : goal.returns

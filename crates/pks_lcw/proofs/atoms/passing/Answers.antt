@@ -5,7 +5,7 @@ use Rattle.std.proofs.lemmas.List.{drop_all}
 use Rattle.pks_terms.specs.Sets.{Each}
 use Rattle.pks_terms.specs.declared.literal.PredAtom.{PredAtom}
 use Rattle.pks_pmap.specs.Keeping.{Keeps}
-use Rattle.pks_set.specs.Members.{TakesAt}
+use Rattle.pks_pmap_set.specs.Members.{TakesAt}
 use Rattle.pks_lcw.proofs.Kept.{keeps_yes, keeps_no}
 use Rattle.pks_lcw.proofs.atoms.passing.Goals as goal
 use Rattle.pks_lcw.proofs.atoms.passing.Goals.{then-test+in_ok-push, else-test}

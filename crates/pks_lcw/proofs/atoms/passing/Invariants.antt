@@ -2,7 +2,7 @@ use Rattle.std.proofs.Common.{List, ◌++◌, drop}
 use Rattle.std.specs.Fn.{FnReturnsAt}
 use Rattle.pks_terms.specs.Sets.{Each}
 use Rattle.pks_pmap.specs.Keeping.{Keeps}
-use Rattle.pks_set.specs.Members.{TakesAt}
+use Rattle.pks_pmap_set.specs.Members.{TakesAt}
 use Rattle.pks_lcw.proofs.atoms.passing.Given as goal
 
 abbrev pub invariant-loop-a : goal.invariant-loop-a

@@ -3,7 +3,7 @@ use Rattle.pks_terms.specs.Databases.{Five}
 use Rattle.pks_terms.specs.Aims.{moments}
 use Rattle.pks_terms.specs.Queries.{answers}
 use Rattle.pks_terms.specs.Views.{query_of, signature_of}
-use Rattle.pks_normal.specs.Fives.{five_of}
+use Rattle.pks_query_lookup.specs.Fives.{five_of}
 use Rattle.pks_past.proofs.Moments.{any_after, some_is}
 use Rattle.pks_past.proofs.meeting.is_once.Goals as goal
 

@@ -1,7 +1,7 @@
 use Rattle.std.proofs.Common.{◌≡◌, ◌≤◌, ◌++◌, ◌-◌, [], ◌∷◌, suc, sym, ap, ◌∙◌, subst, arith}
 use Rattle.std.proofs.lemmas.Bool.{le-leb}
 use Rattle.pks_terms.specs.Views.{instance_of}
-use Rattle.pks_normal.specs.Fives.{five_of}
+use Rattle.pks_query_lookup.specs.Fives.{five_of}
 use Rattle.pks_postdict.specs.declared.family.Link.{Link}
 use Rattle.pks_postdict.specs.Families.{held_of, links_of}
 use Rattle.pks_postdict.proofs.Reading.{with_last_steps}

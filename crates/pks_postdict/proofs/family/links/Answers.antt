@@ -1,6 +1,6 @@
 use Rattle.std.proofs.Common.{◌≡◌, ◌+◌, ◌-◌, ◌++◌, [], ◌∷◌, suc, take, sym, ap, ◌∙◌, subst, arith}
 use Rattle.pks_terms.specs.Views.{instance_of}
-use Rattle.pks_normal.specs.Fives.{five_of}
+use Rattle.pks_query_lookup.specs.Fives.{five_of}
 use Rattle.pks_postdict.specs.declared.family.Link.{Link}
 use Rattle.pks_postdict.specs.Families.{held_of, links_of}
 use Rattle.pks_postdict.specs.Growing.{AreMarked}

@@ -3,8 +3,8 @@ use Rattle.pks_terms.specs.Databases.{Five}
 use Rattle.pks_terms.specs.Settling.{forward}
 use Rattle.pks_terms.specs.Views.{instance_of, problem_of}
 use Rattle.pks_kf.specs.Known.{literals_of}
-use Rattle.pks_normal.specs.Fives.{five_of}
-use Rattle.pks_step_rules.specs.News.{Completes}
+use Rattle.pks_query_lookup.specs.Fives.{five_of}
+use Rattle.pks_postdict_rules.specs.News.{Completes}
 use Rattle.pks_postdict.specs.Families.{held_of}
 use Rattle.pks_postdict.proofs.Completing.{completes_none}
 use Rattle.pks_postdict.proofs.round.forward_news.Goals as goal

@@ -1,5 +1,5 @@
 use Rattle.std.proofs.Common.{◌≡◌, ◌<◌, ◌^◌, length, sym, ap, ◌∙◌, true≢false, arith}
-use Rattle.pks_normal.specs.Fives.{five_of}
+use Rattle.pks_query_lookup.specs.Fives.{five_of}
 use Rattle.pks_postdict.specs.Families.{held_of}
 use Rattle.pks_postdict.proofs.Lengthening.{known_ordered, same_added, five_added, longer_added}
 use Rattle.pks_postdict.proofs.Sparing.{still_read}

@@ -5,7 +5,7 @@ use Rattle.pks_terms.specs.Settling.{forward, from_next}
 use Rattle.pks_terms.specs.Views.{instance_of, problem_of}
 use Rattle.pks_kf.specs.Known.{literals_of}
 use Rattle.pks_postdict.specs.Families.{held_of, links_of}
-use Rattle.pks_step_rules.specs.News.{Completes}
+use Rattle.pks_postdict_rules.specs.News.{Completes}
 use Rattle.pks_postdict.proofs.Completing.{completes_append}
 use Rattle.pks_postdict.proofs.Sparing.{alone_of}
 use Rattle.pks_postdict.proofs.Stepping.{literals_append}

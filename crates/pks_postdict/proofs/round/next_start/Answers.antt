@@ -6,7 +6,7 @@ use Rattle.pks_terms.specs.Views.{problem_of}
 use Rattle.pks_kf.specs.Known.{literals_of}
 use Rattle.pks_postdict.specs.declared.family.Link.{Link}
 use Rattle.pks_postdict.specs.Families.{held_of, links_of}
-use Rattle.pks_step_rules.specs.News.{Completes}
+use Rattle.pks_postdict_rules.specs.News.{Completes}
 use Rattle.pks_postdict.proofs.Completing.{completes_append, grown_completed}
 use Rattle.pks_postdict.proofs.Sparing.{alone_of}
 use Rattle.pks_postdict.proofs.Stepping.{literals_append}

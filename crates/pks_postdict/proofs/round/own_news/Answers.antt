@@ -3,7 +3,7 @@ use Rattle.pks_terms.specs.Databases.{Five}
 use Rattle.pks_terms.specs.Closure.{additions}
 use Rattle.pks_terms.specs.Views.{signature_of}
 use Rattle.pks_kf.specs.Known.{literals_of}
-use Rattle.pks_closing.specs.Rounds.{HaveSameMembers}
+use Rattle.pks_query_closing.specs.Rounds.{HaveSameMembers}
 use Rattle.pks_postdict.specs.Families.{held_of}
 use Rattle.pks_postdict.specs.Growing.{is_unread}
 use Rattle.pks_postdict.proofs.Completing.{completes_members, completes_none}

@@ -5,7 +5,7 @@ use Rattle.pks_terms.specs.Closure.{tidied, IsClosed}
 use Rattle.pks_terms.specs.Actions.{Instance}
 use Rattle.pks_terms.specs.Settling.{History}
 use Rattle.pks_terms.specs.Views.{instance_of, signature_of}
-use Rattle.pks_normal.specs.Fives.{five_of}
+use Rattle.pks_query_lookup.specs.Fives.{five_of}
 use Rattle.pks_postdict.proofs.Stepping.{rest_each, rest_few}
 use Rattle.pks_postdict.proofs.settling.+with_links.Goals as goal
 

@@ -3,7 +3,7 @@ use Rattle.std.proofs.lemmas.List.{length-map}
 use Rattle.pks_terms.specs.Settling.{At, Stopped, with_last, clashes, Settles}
 use Rattle.pks_terms.specs.Views.{problem_of}
 use Rattle.pks_laws.proofs.SearchStates.{settled_history_of, with_last_of}
-use Rattle.pks_normal.specs.Fives.{five_of}
+use Rattle.pks_query_lookup.specs.Fives.{five_of}
 use Rattle.pks_postdict.specs.Families.{link_of, family_of}
 use Rattle.pks_postdict.proofs.Ending.{read_settled, settles_by, settles_at, closed_start, closed_later, least_over, as_many, no_clash_where_true, settled_where_true}
 use Rattle.pks_postdict.proofs.Sparing.{fine_start, fine_later, read_fewer}

@@ -1,6 +1,6 @@
 use Rattle.std.proofs.Common.{sym, ap, ◌∙◌}
 use Rattle.pks_terms.specs.Closure.{tidied}
-use Rattle.pks_normal.specs.Fives.{five_of}
+use Rattle.pks_query_lookup.specs.Fives.{five_of}
 use Rattle.pks_postdict.specs.declared.family.Held.{Held}
 use Rattle.pks_postdict.specs.Families.{held_of}
 use Rattle.pks_postdict.proofs.Tidied.{closed_tidied}

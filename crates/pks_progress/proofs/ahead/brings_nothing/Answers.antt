@@ -1,6 +1,6 @@
 use Rattle.pks_terms.specs.Orders.{literal_cmp}
 use Rattle.pks_terms.specs.Views.{literal_of}
-use Rattle.pks_set.proofs.Mapped.{ordered-map}
+use Rattle.pks_pmap_set.proofs.Mapped.{ordered-map}
 use Rattle.pks_progress.proofs.ahead.brings_nothing.Goals as goal
 
 pub returns-then-len-clause-ordered : goal.returns-then-len-clause-ordered

@@ -4,8 +4,8 @@ use Rattle.pks_terms.specs.Syntax.{negated}
 use Rattle.pks_terms.specs.Databases.{holds}
 use Rattle.pks_terms.specs.Views.{signature_of}
 use Rattle.pks_kf.specs.Known.{literals_of}
-use Rattle.pks_normal.specs.Fives.{five_of}
-use Rattle.pks_spoiling.specs.EffectViews.{effects_in}
+use Rattle.pks_query_lookup.specs.Fives.{five_of}
+use Rattle.pks_progress_interference.specs.EffectViews.{effects_in}
 use Rattle.pks_progress.specs.Ahead.{BringsNothing}
 use Rattle.pks_progress.proofs.Still.{has_its_forms, gives_alike, is_still}
 use Rattle.pks_progress.proofs.ahead.grown_or_still.Goals as goal

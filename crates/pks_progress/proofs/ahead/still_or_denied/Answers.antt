@@ -4,7 +4,7 @@ use Rattle.pks_terms.specs.Syntax.{negated}
 use Rattle.pks_terms.specs.Databases.{holds}
 use Rattle.pks_terms.specs.Views.{signature_of}
 use Rattle.pks_kf.specs.Known.{literals_of}
-use Rattle.pks_normal.specs.Fives.{five_of}
+use Rattle.pks_query_lookup.specs.Fives.{five_of}
 use Rattle.pks_progress.specs.Ahead.{IsStill}
 use Rattle.pks_progress.proofs.ahead.still_or_denied.Goals as goal
 

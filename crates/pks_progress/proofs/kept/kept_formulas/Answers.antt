@@ -1,11 +1,11 @@
 use Rattle.std.proofs.Common.{rules, ap, ◌∙◌, filter}
 use Rattle.pks_terms.specs.Progress.{is_untouched}
 use Rattle.pks_terms.specs.Views.{conj_of, signature_of}
-use Rattle.pks_set.proofs.Mapped.{keeps-map}
+use Rattle.pks_pmap_set.proofs.Mapped.{keeps-map}
 use Rattle.pks_kw.specs.Formulas.{formulas_of}
-use Rattle.pks_normal.specs.declared.five.Five.{Five}
-use Rattle.pks_normal.specs.Fives.{five_of}
-use Rattle.pks_spoiling.specs.EffectViews.{effects_in}
+use Rattle.pks_query_lookup.specs.declared.five.Five.{Five}
+use Rattle.pks_query_lookup.specs.Fives.{five_of}
+use Rattle.pks_progress_interference.specs.EffectViews.{effects_in}
 use Rattle.pks_progress.proofs.kept.kept_formulas.Goals as goal
 
 pub returns : goal.returns

@@ -2,11 +2,11 @@ use Rattle.std.proofs.Common.{rules, ap, ◌∙◌, not, filter}
 use Rattle.pks_terms.specs.Syntax.{Literal}
 use Rattle.pks_terms.specs.Spoiling.{spoils}
 use Rattle.pks_terms.specs.Views.{literal_of, signature_of}
-use Rattle.pks_set.proofs.Mapped.{keeps-map}
+use Rattle.pks_pmap_set.proofs.Mapped.{keeps-map}
 use Rattle.pks_kf.specs.Known.{literals_of}
-use Rattle.pks_normal.specs.declared.five.Five.{Five}
-use Rattle.pks_normal.specs.Fives.{five_of}
-use Rattle.pks_spoiling.specs.EffectViews.{effects_in}
+use Rattle.pks_query_lookup.specs.declared.five.Five.{Five}
+use Rattle.pks_query_lookup.specs.Fives.{five_of}
+use Rattle.pks_progress_interference.specs.EffectViews.{effects_in}
 use Rattle.pks_progress.proofs.kept.kept_literals.Goals as goal
 
 pub returns : goal.returns

@@ -1,10 +1,10 @@
 use Rattle.std.proofs.Common.{rules, ap, ◌∙◌, filter}
 use Rattle.pks_terms.specs.Spoiling.{is_stable}
 use Rattle.pks_terms.specs.Views.{signature_of, term_of, terms_of}
-use Rattle.pks_set.proofs.Mapped.{keeps-map}
-use Rattle.pks_normal.specs.declared.five.Five.{Five}
-use Rattle.pks_normal.specs.Fives.{five_of}
-use Rattle.pks_spoiling.specs.EffectViews.{effects_in}
+use Rattle.pks_pmap_set.proofs.Mapped.{keeps-map}
+use Rattle.pks_query_lookup.specs.declared.five.Five.{Five}
+use Rattle.pks_query_lookup.specs.Fives.{five_of}
+use Rattle.pks_progress_interference.specs.EffectViews.{effects_in}
 use Rattle.pks_progress.proofs.kept.kept_terms.Goals as goal
 
 pub returns : goal.returns

@@ -5,8 +5,8 @@ use Rattle.pks_terms.specs.Moments.{IsInOrder}
 use Rattle.pks_terms.specs.Views.{instance_of, problem_of}
 use Rattle.pks_laws.proofs.Instances.{arguments_alike}
 use Rattle.pks_kf.specs.Known.{literals_of}
-use Rattle.pks_normal.specs.Fives.{five_of}
-use Rattle.pks_spoiling.specs.EffectViews.{effects_in}
+use Rattle.pks_query_lookup.specs.Fives.{five_of}
+use Rattle.pks_progress_interference.specs.EffectViews.{effects_in}
 use Rattle.pks_query.specs.Steps.{outcome_of}
 use Rattle.pks_progress.specs.Ahead.{PutsIn, five_ahead}
 use Rattle.pks_progress.proofs.Stepping.{step_progress, step_moment, step_true}

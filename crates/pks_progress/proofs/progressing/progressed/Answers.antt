@@ -3,7 +3,7 @@ use Rattle.pks_terms.specs.Views.{instance_of, problem_of, signature_of, terms_o
 use Rattle.pks_kf.specs.Known.{literals_of}
 use Rattle.pks_kw.specs.Formulas.{formulas_of}
 use Rattle.pks_lcw.specs.Entries.{entries_of}
-use Rattle.pks_normal.specs.Fives.{five_of}
+use Rattle.pks_query_lookup.specs.Fives.{five_of}
 use Rattle.pks_progress.specs.Kept.{kept_after}
 use Rattle.pks_progress.proofs.Stepping.{progressed_from, put_in_from}
 use Rattle.pks_progress.proofs.progressing.progressed.Goals as goal

@@ -3,8 +3,8 @@ use Rattle.std.specs.List.{flat_map}
 use Rattle.pks_terms.specs.Spoiling.{are_stable}
 use Rattle.pks_terms.specs.Views.{signature_of}
 use Rattle.pks_lcw.specs.Entries.{atoms_of}
-use Rattle.pks_normal.specs.Fives.{five_of}
-use Rattle.pks_spoiling.specs.EffectViews.{effects_in}
+use Rattle.pks_query_lookup.specs.Fives.{five_of}
+use Rattle.pks_progress_interference.specs.EffectViews.{effects_in}
 use Rattle.pks_progress.proofs.regions.atoms_are_stable.Given as goal
 
 abbrev pub invariant-loop-a : goal.invariant-loop-a

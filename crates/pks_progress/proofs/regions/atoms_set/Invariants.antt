@@ -2,8 +2,8 @@ use Rattle.std.proofs.Common.{◌≡◌, ◌++◌, map, drop}
 use Rattle.pks_terms.specs.Actions.{effect_at}
 use Rattle.pks_terms.specs.Views.{effect_of, given_of, signature_of}
 use Rattle.pks_lcw.specs.Entries.{atoms_of}
-use Rattle.pks_normal.specs.Fives.{five_of}
-use Rattle.pks_spoiling.specs.EffectViews.{effects_in}
+use Rattle.pks_query_lookup.specs.Fives.{five_of}
+use Rattle.pks_progress_interference.specs.EffectViews.{effects_in}
 use Rattle.pks_progress.specs.Kept.{atoms_set}
 use Rattle.pks_progress.proofs.regions.atoms_set.Given as goal
 

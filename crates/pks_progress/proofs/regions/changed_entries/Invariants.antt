@@ -2,8 +2,8 @@ use Rattle.std.proofs.Common.{◌≡◌, ◌++◌}
 use Rattle.std.specs.List.{filter_map}
 use Rattle.pks_terms.specs.Views.{signature_of}
 use Rattle.pks_lcw.specs.Entries.{atoms_of, entries_of}
-use Rattle.pks_normal.specs.Fives.{five_of}
-use Rattle.pks_spoiling.specs.EffectViews.{effects_in}
+use Rattle.pks_query_lookup.specs.Fives.{five_of}
+use Rattle.pks_progress_interference.specs.EffectViews.{effects_in}
 use Rattle.pks_progress.specs.Kept.{changed_with}
 use Rattle.pks_progress.proofs.regions.changed_entries.Given as goal
 

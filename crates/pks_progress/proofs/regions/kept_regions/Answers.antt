@@ -1,10 +1,10 @@
 use Rattle.std.proofs.Common.{◌≡◌, ◌∙◌, ap, rules}
 use Rattle.pks_terms.specs.Databases.{entry_cmp}
 use Rattle.pks_terms.specs.Views.{signature_of}
-use Rattle.pks_set.proofs.Mapped.{ordered-map}
+use Rattle.pks_pmap_set.proofs.Mapped.{ordered-map}
 use Rattle.pks_lcw.specs.Entries.{atoms_of, entry_of, entries_of}
-use Rattle.pks_normal.specs.Fives.{five_of}
-use Rattle.pks_spoiling.specs.EffectViews.{effects_in}
+use Rattle.pks_query_lookup.specs.Fives.{five_of}
+use Rattle.pks_progress_interference.specs.EffectViews.{effects_in}
 use Rattle.pks_progress.specs.Kept.{atoms_set}
 use Rattle.pks_progress.proofs.Lasting.{entries_put_in}
 use Rattle.pks_progress.proofs.Sharing.{regions_kept}

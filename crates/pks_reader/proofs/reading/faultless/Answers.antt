@@ -1,7 +1,7 @@
 use Rattle.std.proofs.Common.{◌∙◌, sym}
 use Rattle.pks_text.specs.FormViews.{forms_view}
-use Rattle.pks_grammar.proofs.Refusing.{this_refused}
-use Rattle.pks_domain.specs.FirstFault.{meaning_fault}
+use Rattle.pks_reader_shape.proofs.Refusing.{this_refused}
+use Rattle.pks_reader_declared.specs.FirstFault.{meaning_fault}
 use Rattle.pks_reader.proofs.reading.faultless.Goals as goal
 
 pub returns-in-Some-clause-refused : goal.returns-in-Some-clause-refused

@@ -1,7 +1,7 @@
 use Rattle.std.proofs.Common.{sym, subst}
-use Rattle.pks_meaning.specs.Scopes.{Scope}
-use Rattle.pks_stated.specs.Sizes.{IsSmall}
-use Rattle.pks_accepted.proofs.Signed.{scope_small}
+use Rattle.pks_reader_names.specs.Scopes.{Scope}
+use Rattle.pks_reader_problem.specs.Sizes.{IsSmall}
+use Rattle.pks_laws_reader.proofs.Signed.{scope_small}
 use Rattle.pks_reader.proofs.reading.meant.Goals as goal
 
 pub problem-requires : goal.problem-requires

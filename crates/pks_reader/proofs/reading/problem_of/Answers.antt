@@ -1,10 +1,10 @@
 use Rattle.std.proofs.Common.{◌≡◌, List, Some, None, length, map, refl, sym, subst}
 use Rattle.pks_text.specs.FormViews.{form_view}
 use Rattle.pks_text.specs.declared.tree.Form.{Form as CodeForm}
-use Rattle.pks_grammar.specs.Files.{number_of, shape_fault}
-use Rattle.pks_grammar.proofs.Refusing.{none_refused}
-use Rattle.pks_meaning.specs.Parts.{behind_head}
-use Rattle.pks_domain.specs.FirstFault.{meaning_fault}
+use Rattle.pks_reader_shape.specs.Files.{number_of, shape_fault}
+use Rattle.pks_reader_shape.proofs.Refusing.{none_refused}
+use Rattle.pks_reader_names.specs.Parts.{behind_head}
+use Rattle.pks_reader_declared.specs.FirstFault.{meaning_fault}
 use Rattle.pks_reader.specs.Files.{IsFileOf, AreRefused}
 use Rattle.pks_reader.proofs.Deciding.{IsShaped, err_as, only_stated_in, only_refused_in}
 use Rattle.pks_reader.proofs.Stating.{forms_state, meaning_refuses, stated_valid}

@@ -4,7 +4,7 @@ use Rattle.pks_terms.specs.Views.{problem_of}
 use Rattle.pks_text.specs.Faults.{IsFirstFault, IsAnswered}
 use Rattle.pks_text.specs.FormViews.{form_view}
 use Rattle.pks_text.specs.declared.tree.FormFault.{FormFault}
-use Rattle.pks_stated.specs.Spans.{named_of}
+use Rattle.pks_reader_problem.specs.Spans.{named_of}
 use Rattle.pks_reader.specs.Files.{AreRefused, FormsState}
 use Rattle.pks_reader.specs.Texts.{IsRefused, States}
 use Rattle.pks_reader.proofs.Deciding.{HasNoFault, ok_as, err_as, states, refuses, stated_in, refused_in, text_refuses, text_not_stated, text_refused_once}

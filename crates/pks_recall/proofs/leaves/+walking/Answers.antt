@@ -2,9 +2,9 @@ use Rattle.std.proofs.Common.{◌≡◌, ◌+◌, ◌<◌, sym, ap, subst, arith
 use Rattle.pks_terms.specs.Trees.{Do, Branch, Cases}
 use Rattle.pks_terms.specs.Views.{term_of, conj_of, instance_of}
 use Rattle.pks_plan.specs.TreeViews.{tree_of, chain_of}
-use Rattle.pks_walk.specs.Walking.{state_of, IsReady, AreReady}
-use Rattle.pks_walk.proofs.Readiness.{at_it, do_next, branch_yes, branch_no, cases_ready, case_side, case_first, case_rest}
-use Rattle.pks_walk.proofs.Sizes.{size, size_in}
+use Rattle.pks_history_replay.specs.Walking.{state_of, IsReady, AreReady}
+use Rattle.pks_history_replay.proofs.Readiness.{at_it, do_next, branch_yes, branch_no, cases_ready, case_side, case_first, case_rest}
+use Rattle.pks_history_replay.proofs.Sizes.{size, size_in}
 use Rattle.pks_recall.proofs.leaves.+walking.Goals as goal
 
 pub add_leaves-add_leaves-requires : goal.add_leaves-add_leaves-requires

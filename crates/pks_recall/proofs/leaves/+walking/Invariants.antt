@@ -1,5 +1,5 @@
 use Rattle.pks_plan.specs.TreeViews.{tree_of, chain_of}
-use Rattle.pks_walk.proofs.Sizes.{size, size_in}
+use Rattle.pks_history_replay.proofs.Sizes.{size, size_in}
 use Rattle.pks_recall.proofs.leaves.+walking.Given as goal
 
 abbrev pub decreases-add_leaves : goal.decreases-add_leaves

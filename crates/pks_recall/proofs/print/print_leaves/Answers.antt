@@ -4,7 +4,7 @@ use Rattle.std.proofs.lemmas.Option.{slice_get-map, slice_get_read}
 use Rattle.pks_terms.specs.Branching.{numbered}
 use Rattle.pks_terms.specs.Recalled.{leaf_text}
 use Rattle.pks_terms.specs.Views.{names_of}
-use Rattle.pks_walk.specs.Walking.{state_of}
+use Rattle.pks_history_replay.specs.Walking.{state_of}
 use Rattle.pks_recall.proofs.Telling.{one_told}
 use Rattle.pks_recall.proofs.print.print_leaves.Goals as goal
 

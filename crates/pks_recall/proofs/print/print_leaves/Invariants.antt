@@ -3,7 +3,7 @@ use Rattle.std.specs.List.{flat_map}
 use Rattle.pks_terms.specs.Branching.{numbered}
 use Rattle.pks_terms.specs.Recalled.{leaf_text}
 use Rattle.pks_terms.specs.Views.{names_of}
-use Rattle.pks_walk.specs.Walking.{state_of}
+use Rattle.pks_history_replay.specs.Walking.{state_of}
 use Rattle.pks_recall.proofs.Telling.{left_text}
 use Rattle.pks_recall.proofs.print.print_leaves.Given as goal
 

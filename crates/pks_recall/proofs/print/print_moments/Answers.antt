@@ -4,7 +4,7 @@ use Rattle.pks_terms.specs.Aims.{moments}
 use Rattle.pks_terms.specs.Branching.{numbered}
 use Rattle.pks_terms.specs.Recalled.{moment_text}
 use Rattle.pks_terms.specs.Views.{names_of}
-use Rattle.pks_normal.specs.Fives.{five_of}
+use Rattle.pks_query_lookup.specs.Fives.{five_of}
 use Rattle.pks_recall.proofs.Telling.{one_told}
 use Rattle.pks_recall.proofs.print.print_moments.Goals as goal
 

@@ -1,6 +1,6 @@
 use Rattle.pks_plan.specs.TreeViews.{tree_of}
-use Rattle.pks_walk.specs.Walking.{state_of}
-use Rattle.pks_walk.proofs.Readiness.{start_ready}
+use Rattle.pks_history_replay.specs.Walking.{state_of}
+use Rattle.pks_history_replay.proofs.Readiness.{start_ready}
 use Rattle.pks_recall.proofs.recalling.recall.Goals as goal
 
 pub add_leaves-requires : goal.add_leaves-requires

@@ -1,6 +1,6 @@
 use Rattle.std.proofs.Common.{refl}
-use Rattle.pks_words.specs.JobViews.{job_of}
-use Rattle.pks_file.specs.Inputs.{line_and_column}
+use Rattle.pks_run_words.specs.JobViews.{job_of}
+use Rattle.pks_reader.specs.Inputs.{line_and_column}
 use Rattle.pks_run.proofs.Replying.{fault_replied}
 use Rattle.pks_run.proofs.answer.about_fault.Goals as goal
 

@@ -1,6 +1,6 @@
 use Rattle.std.proofs.Common.{sym, subst}
-use Rattle.pks_words.specs.JobViews.{job_of}
-use Rattle.pks_file.specs.Views.{file_of}
+use Rattle.pks_run_words.specs.JobViews.{job_of}
+use Rattle.pks_reader.specs.Views.{file_of}
 use Rattle.pks_run.specs.Answer.{IsReplyTo}
 use Rattle.pks_run.proofs.Replying.{file_replied, about_single}
 use Rattle.pks_run.proofs.answer.about_file.Goals as goal

@@ -1,6 +1,6 @@
 use Rattle.std.proofs.Common.{◌≡◌, refl, sym, subst}
-use Rattle.pks_grammar.specs.Refusals.{Turns}
-use Rattle.pks_file.specs.Views.{file_of}
+use Rattle.pks_reader_shape.specs.Refusals.{Turns}
+use Rattle.pks_reader.specs.Views.{file_of}
 use Rattle.pks_run.proofs.Reading.{one_file, one_fault, isnt_memory}
 use Rattle.pks_run.proofs.answer.answer.Goals as goal
 

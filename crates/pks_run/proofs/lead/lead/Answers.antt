@@ -7,7 +7,7 @@ use Rattle.pks_terms.specs.Printed.{refusal_text}
 use Rattle.pks_terms.specs.Answers.{refusal}
 use Rattle.pks_terms.specs.Talk.{file_text}
 use Rattle.pks_agent.specs.Streams.{ReadsFront}
-use Rattle.pks_file.specs.Inputs.{line_and_column, too_long}
+use Rattle.pks_reader.specs.Inputs.{line_and_column, too_long}
 use Rattle.pks_run.specs.declared.status.Status.TheVariants.{Refused}
 use Rattle.pks_run.proofs.Reading.{begins_at, long_file, long_fault, one_fault}
 use Rattle.pks_run.proofs.Replying.{fault_replied}

@@ -5,11 +5,11 @@ use Rattle.pks_terms.specs.Jobs.{Agent}
 use Rattle.pks_terms.specs.Printed.{Refusal, refusal_text}
 use Rattle.pks_terms.specs.Answers.{Reading, ReadAs, NoneApplies, RefusesFile, IsUnplanned}
 use Rattle.pks_terms.specs.Talk.{file_text}
-use Rattle.pks_file.specs.Inputs.{Reads, IsRead}
-use Rattle.pks_file.specs.Views.{file_of}
+use Rattle.pks_reader.specs.Inputs.{Reads, IsRead}
+use Rattle.pks_reader.specs.Views.{file_of}
 use Rattle.pks_run.specs.declared.status.Status.TheVariants.{NoPlan, Refused}
-use Rattle.pks_answer.specs.declared.leads.Lead.{Lead}
-use Rattle.pks_answer.specs.Replies.{IsLead}
+use Rattle.pks_run_answer.specs.declared.leads.Lead.{Lead}
+use Rattle.pks_run_answer.specs.Replies.{IsLead}
 use Rattle.pks_run.proofs.Dialogues.{file_refused, file_unplanned}
 use Rattle.pks_run.proofs.Sending.{reply_sent, no_plan_done, refused_done}
 use Rattle.pks_run.proofs.lead.lead_file.Goals as goal

@@ -4,9 +4,9 @@ use Rattle.pks_io.specs.Writing.{AppendsFront}
 use Rattle.pks_terms.specs.Jobs.{Agent}
 use Rattle.pks_terms.specs.Printed.{refusal_text}
 use Rattle.pks_terms.specs.Answers.{refusal}
-use Rattle.pks_grammar.specs.declared.report.Refusal.{Refusal}
-use Rattle.pks_grammar.specs.Refusals.{Turns}
-use Rattle.pks_file.specs.Inputs.{line_and_column, IsFaulty}
+use Rattle.pks_reader_shape.specs.declared.report.Refusal.{Refusal}
+use Rattle.pks_reader_shape.specs.Refusals.{Turns}
+use Rattle.pks_reader.specs.Inputs.{line_and_column, IsFaulty}
 use Rattle.pks_run.specs.declared.status.Status.TheVariants.{Refused}
 use Rattle.pks_run.proofs.Reading.{one_fault, isnt_memory}
 use Rattle.pks_run.proofs.Replying.{fault_replied}

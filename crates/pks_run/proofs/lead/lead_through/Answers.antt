@@ -6,8 +6,8 @@ use Rattle.pks_plan.proofs.Declared.{names_of_valid}
 use Rattle.pks_agent.specs.declared.ahead.Ahead.{Ahead}
 use Rattle.pks_agent.specs.Leading.{Led}
 use Rattle.pks_agent.specs.Streams.{coming, answers_coming}
-use Rattle.pks_file.specs.Inputs.{Reads, IsRead}
-use Rattle.pks_file.specs.Views.{file_of}
+use Rattle.pks_reader.specs.Inputs.{Reads, IsRead}
+use Rattle.pks_reader.specs.Views.{file_of}
 use Rattle.pks_run.proofs.Dialogues.{well_led, comes_to}
 use Rattle.pks_run.proofs.Sending.{stop_counted, answers_to_come}
 use Rattle.pks_run.proofs.lead.lead_through.Goals as goal

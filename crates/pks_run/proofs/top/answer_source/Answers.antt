@@ -3,8 +3,8 @@ use Rattle.std.proofs.lemmas.Option.{IfSome_then}
 use Rattle.pks_io.specs.Reading.{ReadsAll}
 use Rattle.pks_terms.specs.Printed.{refusal_text}
 use Rattle.pks_terms.specs.Answers.{refusal}
-use Rattle.pks_words.specs.JobViews.{job_of}
-use Rattle.pks_file.specs.Inputs.{line_and_column, too_long}
+use Rattle.pks_run_words.specs.JobViews.{job_of}
+use Rattle.pks_reader.specs.Inputs.{line_and_column, too_long}
 use Rattle.pks_run.specs.Answer.{IsReplyTo}
 use Rattle.pks_run.proofs.Reading.{begins_at, long_file, long_fault, one_fault as one_reading}
 use Rattle.pks_run.proofs.Replying.{text_is, fault_replied, answer_kind}

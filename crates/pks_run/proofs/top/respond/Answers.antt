@@ -1,6 +1,6 @@
 use Rattle.std.proofs.Common.{◌≡◌, ◌∙◌, Err, map, string_bytes, refl, ap, subst}
 use Rattle.std.proofs.lemmas.Result.{IfOk-weaker}
-use Rattle.pks_words.specs.JobViews.{job_of, AskForOne}
+use Rattle.pks_run_words.specs.JobViews.{job_of, AskForOne}
 use Rattle.pks_terms.specs.Jobs.{Job, Agent}
 use Rattle.pks_run.specs.Answer.{IsBench, IsDialogue}
 use Rattle.pks_run.proofs.Replying.{asked_in_bounds, replies_respond, usage_responds}

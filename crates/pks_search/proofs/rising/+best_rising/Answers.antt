@@ -4,7 +4,7 @@ use Rattle.pks_terms.specs.Trees.{cost, IsBestAt}
 use Rattle.pks_terms.specs.Views.{problem_of}
 use Rattle.pks_plan.specs.TreeViews.{tree_of}
 use Rattle.pks_search.specs.Limits.{IsBestWithin}
-use Rattle.pks_failures.proofs.Costs.{costs_at_most}
+use Rattle.pks_search_nogoods.proofs.Costs.{costs_at_most}
 use Rattle.pks_search.proofs.Deepening.{limit_best, none_deeper}
 use Rattle.pks_search.proofs.rising.+best_rising.Goals as goal
 

@@ -7,7 +7,7 @@ use Rattle.pks_terms.specs.Settling.{At}
 use Rattle.pks_terms.specs.Trees.{IsBestAt, IsBest}
 use Rattle.pks_terms.specs.Knowledge.{Good}
 use Rattle.pks_terms.specs.Views.{problem_of}
-use Rattle.pks_normal.specs.Fives.{five_of}
+use Rattle.pks_query_lookup.specs.Fives.{five_of}
 use Rattle.pks_plan.specs.TreeViews.{tree_of}
 use Rattle.pks_laws.proofs.Accepting.{best_good}
 use Rattle.pks_terms.specs.Remembering.{RemembersPast}

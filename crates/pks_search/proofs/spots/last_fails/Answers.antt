@@ -3,7 +3,7 @@ use Rattle.pks_terms.specs.Sets.{Each}
 use Rattle.pks_terms.specs.Settling.{History}
 use Rattle.pks_terms.specs.Versions.{IsNow}
 use Rattle.pks_terms.specs.Views.{aim_of, problem_of}
-use Rattle.pks_failures.specs.Failing.{HasNoTree}
+use Rattle.pks_search_nogoods.specs.Failing.{HasNoTree}
 use Rattle.pks_search.proofs.spots.last_fails.Goals as goal
 
 pub returns-clause-fails : goal.returns-clause-fails

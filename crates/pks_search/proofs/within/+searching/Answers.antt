@@ -10,19 +10,19 @@ use Rattle.pks_terms.specs.Settling.{last_moment, pushed, with_last, At, Stopped
 use Rattle.pks_terms.specs.Trees.{Impossible, cost, IsBestOf}
 use Rattle.pks_terms.specs.Views.{term_of, conj_of, object_of, instance_of, problem_of}
 use Rattle.pks_terms.specs.Moments.{IsMomentOf, AreMomentsOf}
-use Rattle.pks_normal.specs.Fives.{five_of}
+use Rattle.pks_query_lookup.specs.Fives.{five_of}
 use Rattle.pks_query.specs.Steps.{outcome_of}
 use Rattle.pks_postdict.specs.Ends.{state_of, IfAt}
 use Rattle.pks_postdict.specs.Read.{IsReadBut}
 use Rattle.pks_plan.specs.TreeViews.{tree_of, chain_of}
 use Rattle.pks_branch.specs.ChoiceOrder.{choice_cmp}
-use Rattle.pks_choices.specs.ChoiceViews.{choice_of, side_of}
+use Rattle.pks_terms.specs.ChoiceViews.{choice_of, side_of}
 use Rattle.pks_branch.specs.WalkViews.{left_in}
 use Rattle.pks_branch.specs.Walks.{IsNext}
-use Rattle.pks_failures.specs.Failing.{HasNoTree}
+use Rattle.pks_search_nogoods.specs.Failing.{HasNoTree}
 use Rattle.pks_search.specs.Ready.{IsReady}
 use Rattle.pks_search.specs.Limits.{IsBestWithin, IsCheapBy, IsCheapAmong, IsBestAfter, IsBestTaking, AreBestCheapCases}
-use Rattle.pks_failures.proofs.Costs.{costs_at_most}
+use Rattle.pks_search_nogoods.proofs.Costs.{costs_at_most}
 use Rattle.pks_search.proofs.Limited.{cheap_stopped, cheap_goal, price, dear_act, dear_branch, dear_cases}
 use Rattle.pks_search.proofs.Found.{found_first, found_more, found_none, found_some, found_all, none_at_depth, none_at_cost, costs_some}
 use Rattle.pks_search.proofs.Looping.{in_rest, less_before, shorter, first_and_others, none_left}

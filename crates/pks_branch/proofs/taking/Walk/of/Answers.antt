@@ -5,9 +5,9 @@ use Rattle.pks_terms.specs.Orders.{term_cmp, conj_cmp}
 use Rattle.pks_terms.specs.Branching.{Act, BranchOn, CasesOn, instances, is_undecided, may_split, numbered, choices}
 use Rattle.pks_terms.specs.Views.{schema_of, terms_of, problem_of}
 use Rattle.pks_kw.specs.Formulas.{formulas_of}
-use Rattle.pks_normal.specs.Fives.{five_of}
-use Rattle.pks_normal.specs.declared.five.Five.{Five}
-use Rattle.pks_choices.specs.ChoiceViews.{choices_of}
+use Rattle.pks_query_lookup.specs.Fives.{five_of}
+use Rattle.pks_query_lookup.specs.declared.five.Five.{Five}
+use Rattle.pks_terms.specs.ChoiceViews.{choices_of}
 use Rattle.pks_branch.specs.Walks.{begun, bare}
 use Rattle.pks_branch.proofs.Onward.{all_begin}
 use Rattle.pks_branch.proofs.ChoicesRise.{all_rise}

@@ -3,9 +3,9 @@ use Rattle.pks_terms.specs.Trees.{Branch}
 use Rattle.pks_terms.specs.Branching.{BranchOn, AsTrue, AsFalse}
 use Rattle.pks_terms.specs.Views.{term_of, conj_of, instance_of}
 use Rattle.pks_plan.specs.TreeViews.{tree_of, chain_of}
-use Rattle.pks_walk.specs.Walking.{state_of, IsReady, AreReady, IsSideReady}
-use Rattle.pks_walk.proofs.Readiness.{at_it, do_next, yes_ready, no_ready, case_ready, case_rest}
-use Rattle.pks_walk.proofs.Sizes.{size, size_in}
+use Rattle.pks_history_replay.specs.Walking.{state_of, IsReady, AreReady, IsSideReady}
+use Rattle.pks_history_replay.proofs.Readiness.{at_it, do_next, yes_ready, no_ready, case_ready, case_rest}
+use Rattle.pks_history_replay.proofs.Sizes.{size, size_in}
 use Rattle.pks_explain.proofs.proving.Prover.+proving.Goals as goal
 
 pub prove_act-prove-requires : goal.prove_act-prove-requires

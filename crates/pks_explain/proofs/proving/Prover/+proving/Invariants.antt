@@ -1,6 +1,6 @@
 use Rattle.std.proofs.Common.{◌+◌, ◌*◌}
 use Rattle.pks_plan.specs.TreeViews.{tree_of, chain_of}
-use Rattle.pks_walk.proofs.Sizes.{size, size_in}
+use Rattle.pks_history_replay.proofs.Sizes.{size, size_in}
 use Rattle.pks_explain.proofs.proving.Prover.+proving.Given as goal
 
 abbrev pub decreases-prove_act : goal.decreases-prove_act

@@ -4,7 +4,7 @@ use Rattle.std.proofs.lemmas.Option.{slice_get-get_or}
 use Rattle.std.proofs.lemmas.List.{length-map}
 use Rattle.pks_terms.specs.Settling.{History}
 use Rattle.pks_terms.specs.Aims.{moments}
-use Rattle.pks_normal.specs.Fives.{five_of}
+use Rattle.pks_query_lookup.specs.Fives.{five_of}
 use Rattle.pks_history.specs.Moments.{moment_of, moments_of}
 use Rattle.pks_history.proofs.Reading.{databases_there}
 use Rattle.pks_history.proofs.histories.History.at.Goals as goal

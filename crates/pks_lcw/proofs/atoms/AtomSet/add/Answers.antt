@@ -7,7 +7,7 @@ use Rattle.pks_terms.specs.Orders.{atom_cmp}
 use Rattle.pks_terms.specs.Totality.{atom_cmp_total}
 use Rattle.pks_terms.specs.Views.{atom_of}
 use Rattle.pks_terms.specs.Sets.{IsOrdered, insert_in}
-use Rattle.pks_set.proofs.Keys.{insert_in-present}
+use Rattle.pks_pmap_set.proofs.Keys.{insert_in-present}
 use Rattle.pks_terms.specs.Placing.{count_below}
 use Rattle.pks_lcw.proofs.Inserting.{insert_in-absent, ordered_insert_in}
 use Rattle.pks_lcw.proofs.atoms.AtomSet.add.Goals as goal

@@ -7,7 +7,7 @@ use Rattle.pks_terms.specs.Orders.{atom_cmp}
 use Rattle.pks_terms.specs.Sets.{IsOrdered}
 use Rattle.pks_terms.specs.Totality.{atom_cmp_total}
 use Rattle.pks_terms.specs.Views.{atom_of}
-use Rattle.pks_set.specs.Members.{is_member}
+use Rattle.pks_pmap_set.specs.Members.{is_member}
 use Rattle.pks_lcw.proofs.Searching.{found}
 use Rattle.pks_lcw.proofs.atoms.AtomSet.has.Goals as goal
 

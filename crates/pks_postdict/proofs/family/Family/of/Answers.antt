@@ -11,7 +11,7 @@ use Rattle.pks_terms.specs.Saturated.{IsSaturated}
 use Rattle.pks_terms.proofs.ListLaws.{each_weaker}
 use Rattle.pks_terms.specs.Moments.{IsMomentOf}
 use Rattle.pks_laws.proofs.SearchStates.{with_last_of}
-use Rattle.pks_normal.specs.Fives.{five_of}
+use Rattle.pks_query_lookup.specs.Fives.{five_of}
 use Rattle.pks_postdict.specs.Families.{held_of, link_of, links_of}
 use Rattle.pks_postdict.specs.Growing.{AreSpared, IsFine}
 use Rattle.pks_postdict.specs.Read.{AreRead}

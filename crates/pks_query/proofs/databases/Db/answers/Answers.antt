@@ -1,5 +1,5 @@
 use Rattle.pks_terms.specs.Views.{query_of, signature_of}
-use Rattle.pks_normal.specs.Fives.{five_of}
+use Rattle.pks_query_lookup.specs.Fives.{five_of}
 use Rattle.pks_query.proofs.Found.{answer_so}
 use Rattle.pks_query.proofs.databases.Db.answers.Goals as goal
 

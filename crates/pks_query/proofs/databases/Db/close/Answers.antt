@@ -5,8 +5,8 @@ use Rattle.pks_terms.specs.Meaning.{IsTrueOf}
 use Rattle.pks_terms.specs.Moments.{AreInOrder, IsMomentOf}
 use Rattle.pks_terms.specs.Valid.{AreOf}
 use Rattle.pks_terms.specs.Views.{signature_of}
-use Rattle.pks_normal.specs.Fives.{five_of}
-use Rattle.pks_closing.specs.Working.{EndsWith}
+use Rattle.pks_query_lookup.specs.Fives.{five_of}
+use Rattle.pks_query_closing.specs.Working.{EndsWith}
 use Rattle.pks_query.proofs.databases.Db.close.Goals as goal
 
 pub returns-in-Some-clause-closes : goal.returns-in-Some-clause-closes

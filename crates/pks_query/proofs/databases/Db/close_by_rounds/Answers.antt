@@ -1,5 +1,5 @@
 use Rattle.pks_terms.specs.Views.{signature_of}
-use Rattle.pks_normal.specs.Fives.{five_of}
+use Rattle.pks_query_lookup.specs.Fives.{five_of}
 use Rattle.pks_query.proofs.Sound.{ends_without}
 use Rattle.pks_query.proofs.databases.Db.close_by_rounds.Goals as goal
 

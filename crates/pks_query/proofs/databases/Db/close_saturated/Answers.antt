@@ -3,8 +3,8 @@ use Rattle.std.specs.Ordering.{on}
 use Rattle.pks_terms.specs.Sets.{IsOrdered}
 use Rattle.pks_terms.specs.Orders.{literal_cmp}
 use Rattle.pks_terms.specs.Views.{literal_of, signature_of}
-use Rattle.pks_normal.specs.Fives.{five_of}
-use Rattle.pks_set.proofs.Mapped.{ordered-map}
+use Rattle.pks_query_lookup.specs.Fives.{five_of}
+use Rattle.pks_pmap_set.proofs.Mapped.{ordered-map}
 use Rattle.pks_query.proofs.Still.{closes_still}
 use Rattle.pks_query.proofs.databases.Db.close_saturated.Goals as goal
 

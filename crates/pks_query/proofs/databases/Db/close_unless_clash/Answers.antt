@@ -3,8 +3,8 @@ use Rattle.pks_terms.specs.Databases.{Five}
 use Rattle.pks_terms.specs.Closure.{Closes, Next}
 use Rattle.pks_terms.specs.Views.{signature_of}
 use Rattle.pks_laws.proofs.SearchStates.{closed_moment}
-use Rattle.pks_normal.specs.Fives.{five_of}
-use Rattle.pks_closing.specs.Working.{EndsWith}
+use Rattle.pks_query_lookup.specs.Fives.{five_of}
+use Rattle.pks_query_closing.specs.Working.{EndsWith}
 use Rattle.pks_query.proofs.Sound.{stays_true, does_not_clash}
 use Rattle.pks_query.proofs.databases.Db.close_unless_clash.Goals as goal
 

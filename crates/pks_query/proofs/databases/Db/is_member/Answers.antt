@@ -5,7 +5,7 @@ use Rattle.pks_terms.specs.Views.{conj_of}
 use Rattle.pks_kf.specs.Known.{literals_of}
 use Rattle.pks_kw.specs.Formulas.{formulas_of}
 use Rattle.pks_laws.specs.Lookup.{is_among}
-use Rattle.pks_normal.specs.Fives.{five_of}
+use Rattle.pks_query_lookup.specs.Fives.{five_of}
 use Rattle.pks_query.proofs.Found.{formula_found}
 use Rattle.pks_query.proofs.databases.Db.is_member.Goals as goal
 

@@ -1,7 +1,7 @@
 use Rattle.std.proofs.Common.{ap, ◌∙◌}
 use Rattle.pks_terms.specs.Databases.{holds}
 use Rattle.pks_terms.specs.Views.{literal_of, signature_of}
-use Rattle.pks_normal.specs.Fives.{five_of}
+use Rattle.pks_query_lookup.specs.Fives.{five_of}
 use Rattle.pks_query.proofs.Found.{known_so}
 use Rattle.pks_query.proofs.databases.Db.known.Goals as goal
 

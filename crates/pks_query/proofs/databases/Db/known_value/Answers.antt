@@ -4,7 +4,7 @@ use Rattle.pks_terms.specs.Orders.{term_cmp}
 use Rattle.pks_terms.specs.Queries.{known_value}
 use Rattle.pks_terms.specs.Views.{term_of, terms_of}
 use Rattle.pks_laws.specs.Lookup.{is_among}
-use Rattle.pks_normal.specs.Fives.{five_of}
+use Rattle.pks_query_lookup.specs.Fives.{five_of}
 use Rattle.pks_query.proofs.Found.{value_found, value_so}
 use Rattle.pks_query.proofs.databases.Db.known_value.Goals as goal
 

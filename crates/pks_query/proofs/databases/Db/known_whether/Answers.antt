@@ -1,5 +1,5 @@
 use Rattle.pks_terms.specs.Views.{conj_of, signature_of}
-use Rattle.pks_normal.specs.Fives.{five_of}
+use Rattle.pks_query_lookup.specs.Fives.{five_of}
 use Rattle.pks_query.proofs.Found.{whether_so}
 use Rattle.pks_query.proofs.databases.Db.known_whether.Goals as goal
 

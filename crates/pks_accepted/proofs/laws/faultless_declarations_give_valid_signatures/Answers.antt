@@ -1,5 +1,0 @@
-use Rattle.pks_accepted.proofs.Whole.{valid_declarations}
-use Rattle.pks_accepted.proofs.laws.faultless_declarations_give_valid_signatures.Goals as goal
-
-pub returns : goal.returns
-returns c = λ v version d is e. valid_declarations v version d is e

@@ -1,5 +1,0 @@
-use Rattle.pks_answer.proofs.OneReply.{one_reply}
-use Rattle.pks_answer.proofs.laws.there_is_one_reply.Goals as goal
-
-pub returns : goal.returns
-returns c = λ j f v u x y a b. one_reply j f v u x y a b

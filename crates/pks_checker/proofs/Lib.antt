@@ -1,2 +1,0 @@
-pub mod Targeting
-pub mod Deeds

@@ -1,3 +1,0 @@
-pub mod Doings
-pub mod Acts
-pub mod Lines

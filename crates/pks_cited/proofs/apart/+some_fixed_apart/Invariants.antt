@@ -1,5 +1,0 @@
-use Rattle.std.proofs.Common.{length}
-use Rattle.pks_cited.proofs.apart.+some_fixed_apart.Given as goal
-
-abbrev pub decreases-some_fixed_apart : goal.decreases-some_fixed_apart
-decreases-some_fixed_apart l = length l.slots.now

@@ -1,8 +1,0 @@
-use Rattle.std.proofs.Common.{◌≡◌, ◌++◌, map}
-use Rattle.pks_terms.specs.Closure.{normal_entry}
-use Rattle.pks_kf.specs.Known.{literals_of}
-use Rattle.pks_lcw.specs.Entries.{entries_of}
-use Rattle.pks_closing.proofs.tidied.normal_entries.Given as goal
-
-abbrev pub invariant-loop-e : goal.invariant-loop-e
-invariant-loop-e l = entries_of l.all.items ++ map (normal_entry (literals_of l.d.kf)) (entries_of l.e-iterator) ≡ map (normal_entry (literals_of l.d.kf)) (entries_of l.d.lcw)

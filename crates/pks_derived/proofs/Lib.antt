@@ -1,4 +1,0 @@
-pub mod Apart
-pub mod FormLaws
-pub mod Listed
-pub mod PutIn

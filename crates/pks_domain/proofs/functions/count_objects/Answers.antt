@@ -1,6 +1,0 @@
-use Rattle.std.proofs.Common.{◌∙◌, sym}
-use Rattle.pks_domain.proofs.Owning.{owns_length}
-use Rattle.pks_domain.proofs.functions.count_objects.Goals as goal
-
-pub returns : goal.returns
-returns c = c.len.ensures.len ∙ sym (owns_length c.args.objects.now.entries)

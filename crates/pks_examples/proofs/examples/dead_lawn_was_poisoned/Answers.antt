@@ -1,5 +1,0 @@
-use Rattle.pks_examples.proofs.WorkedRows.{lawn_takes_dead}
-use Rattle.pks_examples.proofs.examples.dead_lawn_was_poisoned.Goals as goal
-
-pub returns : goal.returns
-returns c = lawn_takes_dead

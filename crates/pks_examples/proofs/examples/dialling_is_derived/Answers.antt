@@ -1,5 +1,0 @@
-use Rattle.pks_examples.proofs.WorkedRows.{dial_derives}
-use Rattle.pks_examples.proofs.examples.dialling_is_derived.Goals as goal
-
-pub returns : goal.returns
-returns c = dial_derives

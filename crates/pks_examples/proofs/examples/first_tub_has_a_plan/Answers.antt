@@ -1,5 +1,0 @@
-use Rattle.pks_examples.proofs.WorkedRows.{first_tub_has_plan}
-use Rattle.pks_examples.proofs.examples.first_tub_has_a_plan.Goals as goal
-
-pub returns : goal.returns
-returns c = first_tub_has_plan

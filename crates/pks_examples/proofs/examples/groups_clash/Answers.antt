@@ -1,5 +1,0 @@
-use Rattle.pks_examples.proofs.WorkedRows.{groups_take_true}
-use Rattle.pks_examples.proofs.examples.groups_clash.Goals as goal
-
-pub returns : goal.returns
-returns c = groups_take_true

@@ -1,5 +1,0 @@
-use Rattle.pks_examples.proofs.WorkedRows.{lawn_printed}
-use Rattle.pks_examples.proofs.examples.lawn_plan_as_printed.Goals as goal
-
-pub returns : goal.returns
-returns c = lawn_printed

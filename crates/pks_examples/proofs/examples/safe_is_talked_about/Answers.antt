@@ -1,5 +1,0 @@
-use Rattle.pks_examples.proofs.WorkedRows.{safe_talk}
-use Rattle.pks_examples.proofs.examples.safe_is_talked_about.Goals as goal
-
-pub returns : goal.returns
-returns c = safe_talk

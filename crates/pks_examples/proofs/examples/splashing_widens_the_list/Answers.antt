@@ -1,5 +1,0 @@
-use Rattle.pks_examples.proofs.WorkedRows.{tubs_act_splash, first_tub_not_met}
-use Rattle.pks_examples.proofs.examples.splashing_widens_the_list.Goals as goal
-
-pub returns : goal.returns
-returns c = (tubs_act_splash Rattle.pks_examples.specs.Worked.first_tub, first_tub_not_met)

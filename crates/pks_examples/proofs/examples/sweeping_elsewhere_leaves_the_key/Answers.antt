@@ -1,5 +1,0 @@
-use Rattle.pks_examples.proofs.WorkedRows.{alias_acts_elsewhere}
-use Rattle.pks_examples.proofs.examples.sweeping_elsewhere_leaves_the_key.Goals as goal
-
-pub returns : goal.returns
-returns c = alias_acts_elsewhere

@@ -1,5 +1,0 @@
-use Rattle.pks_examples.proofs.WorkedRows.{crate_things, crate_bags}
-use Rattle.pks_examples.proofs.examples.things_and_bags.Goals as goal
-
-pub returns : goal.returns
-returns c = (crate_things, crate_bags)

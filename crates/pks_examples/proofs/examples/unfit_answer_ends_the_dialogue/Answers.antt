@@ -1,5 +1,0 @@
-use Rattle.pks_examples.proofs.WorkedRows.{lawn_unfit}
-use Rattle.pks_examples.proofs.examples.unfit_answer_ends_the_dialogue.Goals as goal
-
-pub returns : goal.returns
-returns c = lawn_unfit

@@ -1,5 +1,0 @@
-use Rattle.pks_examples.proofs.ReasonedRows.{door_explained, door_text}
-use Rattle.pks_examples.proofs.reasoned.door_is_explained.Goals as goal
-
-pub returns : goal.returns
-returns c = (door_explained, door_text)

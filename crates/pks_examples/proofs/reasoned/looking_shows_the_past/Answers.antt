@@ -1,5 +1,0 @@
-use Rattle.pks_examples.proofs.ReasonedRows.{past_shown}
-use Rattle.pks_examples.proofs.reasoned.looking_shows_the_past.Goals as goal
-
-pub returns : goal.returns
-returns c = past_shown

@@ -1,0 +1,135 @@
+//! Lines for literals that hold.
+
+use crate::table::Table;
+use pks_explain_moment::{Link, Moment, is_evident, lost, push};
+use pks_proof_lines::Reason;
+use pks_terms::literal::Literal;
+use std::alloc::{AllocError, Global};
+
+impl Table<'_> {
+    /// The line of a literal that has none, if it is evident.
+    fn evident_line(
+        &mut self,
+        alloc: Global,
+        at: &mut Moment,
+        l: &Literal,
+    ) -> Result<Option<u32>, AllocError> {
+        if !is_evident(self.signature, l) {
+            return Ok(None);
+        }
+        let line = self.add_shown(alloc, at, l, Reason::Same, &[])?;
+        Ok(Some(line))
+    }
+
+    /// The line of a literal, which has one or is evident.
+    fn standing_line(
+        &mut self,
+        alloc: Global,
+        at: &mut Moment,
+        l: &Literal,
+    ) -> Result<Option<u32>, AllocError> {
+        match at.line_of(l) {
+            Some(line) => Ok(Some(line)),
+            None => self.evident_line(alloc, at, l),
+        }
+    }
+
+    /// The line of a literal that becomes the one of the next line by the equation.
+    fn swapped_line(
+        &mut self,
+        alloc: Global,
+        at: &mut Moment,
+        l: &Literal,
+        next: u32,
+        equation: u32,
+    ) -> Result<u32, AllocError> {
+        match at.line_of(l) {
+            Some(line) => Ok(line),
+            None => self.add_shown(alloc, at, l, Reason::Swap, &[next, equation]),
+        }
+    }
+
+    /// From the first literal of the chain that stands back to the first of all: the line of this, or nothing where none
+    /// stands.
+    pub(crate) fn climb(
+        &mut self,
+        alloc: Global,
+        at: &mut Moment,
+        chain: &[Link],
+    ) -> Result<Option<u32>, AllocError> {
+        let [link, rest @ ..] = chain else {
+            return Ok(None);
+        };
+        if let Some(line) = self.standing_line(alloc, at, &link.literal)? {
+            return Ok(Some(line));
+        }
+        let [after, ..] = rest else {
+            return Ok(None);
+        };
+        let Some(next) = self.climb(alloc, at, rest)? else {
+            return Ok(None);
+        };
+        let line = self.swapped_line(alloc, at, &link.literal, next, after.equation)?;
+        Ok(Some(line))
+    }
+
+    /// The line of a literal without one, whose normal form has one or is evident.
+    fn show_down(
+        &mut self,
+        alloc: Global,
+        at: &mut Moment,
+        l: &Literal,
+    ) -> Result<Option<u32>, AllocError> {
+        let chain = at.chain_down(alloc, l)?;
+        self.climb(alloc, at, chain.as_slice())
+    }
+
+    /// The line of a literal whose normal form has one or is evident.
+    pub(crate) fn show_plainly(
+        &mut self,
+        alloc: Global,
+        at: &mut Moment,
+        l: &Literal,
+    ) -> Result<Option<u32>, AllocError> {
+        match at.line_of(l) {
+            Some(line) => Ok(Some(line)),
+            None => self.show_down(alloc, at, l),
+        }
+    }
+
+    /// The line of a literal, which holds: from the normal form back, one line for each step.
+    pub(crate) fn show(
+        &mut self,
+        alloc: Global,
+        at: &mut Moment,
+        l: &Literal,
+    ) -> Result<u32, AllocError> {
+        match self.show_plainly(alloc, at, l)? {
+            Some(line) => Ok(line),
+            None => self.show_outside(alloc, at, l),
+        }
+    }
+
+    /// The lines of the literals, which hold.
+    pub(crate) fn show_all(
+        &mut self,
+        alloc: Global,
+        at: &mut Moment,
+        ls: &[Literal],
+    ) -> Result<Vec<u32>, AllocError> {
+        let mut lines = Vec::new(alloc);
+        for l in ls {
+            let line = self.show(alloc, at, l)?;
+            push(&mut lines, line)?;
+        }
+        Ok(lines)
+    }
+}
+
+/// The line, or `lost` where there is none.
+pub(crate) fn found(line: Option<u32>) -> Result<u32, AllocError> {
+    match line {
+        Some(line) => Ok(line),
+        None => Err(lost()),
+    }
+}

@@ -1,6 +1,0 @@
-use Rattle.std.proofs.Common.{◌≡◌, sym, subst}
-use Rattle.pks_failures.specs.Failing.{HasNoTree}
-use Rattle.pks_failures.proofs.failures.Failures.note.Goals as goal
-
-pub returns-in-Ok : goal.returns-in-Ok
-returns-in-Ok c = λ p none right. c.put.ensures p (subst (λ h. HasNoTree p h c.args.depth c.args.limit) (sym c.in-Ok.ensures) none) right

@@ -1,4 +1,0 @@
-pub mod Once
-mod Answered
-mod Lows
-mod Stating

@@ -1,5 +1,0 @@
-use Rattle.pks_first.proofs.Past.{settles_first, settles_from_first}
-use Rattle.pks_first.proofs.laws.settling_is_of_the_first_version.Goals as goal
-
-pub returns : goal.returns
-returns c = λ p h x v f m. (settles_first p v f.parents h x m, settles_from_first p v f.parents h x m)

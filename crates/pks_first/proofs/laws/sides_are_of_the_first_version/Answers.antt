@@ -1,5 +1,0 @@
-use Rattle.pks_first.proofs.Choices.{assumes_first, assumes_from_first}
-use Rattle.pks_first.proofs.laws.sides_are_of_the_first_version.Goals as goal
-
-pub returns : goal.returns
-returns c = λ p d choice side o f m i k. (assumes_first p.signature f.parents d m choice side o i k, assumes_from_first p.signature f.parents d m choice side o i k)

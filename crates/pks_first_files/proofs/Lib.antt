@@ -1,3 +1,0 @@
-pub mod Grammars
-pub mod Old
-pub mod Replies

@@ -1,8 +1,0 @@
-use Rattle.pks_terms.specs.Answers.{text_for}
-use Rattle.pks_file.specs.Inputs.{Reads}
-use Rattle.pks_first.proofs.Answered.{answer_to, answer_back}
-use Rattle.pks_first_files.proofs.Replies.{first_read}
-use Rattle.pks_first_files.proofs.laws.answers_to_first_files_are_of_the_first_version.Goals as goal
-
-pub returns : goal.returns
-returns c = λ j input status text first. let good = first_read (text_for j input) first in (answer_to Reads j input good status text, answer_back Reads j input good status text)

@@ -1,5 +1,0 @@
-use Rattle.pks_first_files.proofs.Old.{empty_same}
-use Rattle.pks_first_files.proofs.laws.empty_types_are_as_in_the_first_version.Goals as goal
-
-pub returns : goal.returns
-returns c = λ s result none. empty_same s none result

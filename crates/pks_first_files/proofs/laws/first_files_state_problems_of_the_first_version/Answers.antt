@@ -1,5 +1,0 @@
-use Rattle.pks_first_files.proofs.Old.{first_states}
-use Rattle.pks_first_files.proofs.laws.first_files_state_problems_of_the_first_version.Goals as goal
-
-pub returns : goal.returns
-returns c = λ fs p n s v. first_states fs p n s v

@@ -1,5 +1,0 @@
-use Rattle.pks_first_files.proofs.Old.{limit_same}
-use Rattle.pks_first_files.proofs.laws.objects_are_counted_as_in_the_first_version.Goals as goal
-
-pub returns : goal.returns
-returns c = λ types fs. limit_same types fs

@@ -1,6 +1,0 @@
-use Rattle.std.proofs.Common.{◌≡◌, drop, map}
-use Rattle.pks_grammar.specs.Grammar.{is_among}
-use Rattle.pks_grammar.proofs.walk.is_among.Given as goal
-
-abbrev pub invariant-loop-other : goal.invariant-loop-other
-invariant-loop-other l = is_among l.head (map (λ h. h.now) (drop l.other-index l.heads)) ≡ is_among l.head (map (λ h. h.now) l.heads)

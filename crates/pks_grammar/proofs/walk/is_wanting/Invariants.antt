@@ -1,6 +1,0 @@
-use Rattle.std.proofs.Common.{◌≡◌, drop}
-use Rattle.pks_grammar.specs.Walk.{is_wanting}
-use Rattle.pks_grammar.proofs.walk.is_wanting.Given as goal
-
-abbrev pub invariant-loop-part : goal.invariant-loop-part
-invariant-loop-part l = is_wanting (drop l.part-index l.parts) ≡ is_wanting l.parts

@@ -1,0 +1,83 @@
+//! Letting go of the settled past. `docs/DECISIONS.md` says what it is.
+ghost use Rattle.std.specs.Prelude.{◌≡◌, ◌↔◌, IsTrue, map, IfOk};
+ghost use Rattle.pks_terms.specs.Moments.{AreMomentsOf};
+ghost use Rattle.pks_terms.specs.Sets.{Each};
+ghost use Rattle.pks_terms.specs.ValidProblems.{IsValidProblem};
+ghost use Rattle.pks_terms.specs.Versions.{IsNow};
+ghost use Rattle.pks_terms.specs.Views.{aim_of, problem_of};
+ghost use Rattle.pks_laws_forget.specs.Transparent.{AreSetsAlong};
+ghost use Rattle.pks_history_forget.specs.Same.{HasSameTrees, first_hides_nothing, without_settled};
+
+use crate::hiding::hides_nothing;
+use pks_history::histories::History;
+use pks_terms::problem::{Aim, Problem};
+use std::alloc::{AllocError, Global};
+
+/// Whether each of the aims is one of the last moment. It takes no memory.
+pub fn are_now(aims: &[Aim]) -> bool
+    ensures { IsTrue result ↔ Each IsNow (map aim_of aims.now) }
+{
+    match aims {
+        [] => true,
+        [a, rest @ ..] => match a {
+            Aim::Now(_) => are_now(rest),
+            Aim::AtStart(_) | Aim::Always(_) | Aim::Once(_) => false,
+        },
+    }
+}
+
+/// That each set of each moment is in order. It does nothing.
+fn in_order(h: &History)
+    ensures { AreSetsAlong h.now }
+{
+    h.in_order();
+}
+
+/// Whether there is a first step, and it hides nothing. The error is want of memory.
+fn first_hides_nothing(alloc: Global, p: &Problem<'_>, h: &History) -> Result<bool, AllocError>
+    requires { IsValidProblem p.now }
+    ensures { IfOk result (λ b. b ≡ first_hides_nothing (problem_of p.now) h.now) }
+{
+    let moments = h.len();
+    if moments == 1 {
+        return Ok(false);
+    }
+    let hides = hides_nothing(alloc, p, h.at(0), h.step(0), h.at(1))?;
+    Ok(hides)
+}
+
+/// The history without its moments before the first step that may hide something.
+fn without_settled(alloc: Global, p: &Problem<'_>, h: History) -> Result<History, AllocError>
+    requires valid { IsValidProblem p.now }
+    requires plain { Each IsNow (problem_of p.now).goal }
+    requires moments { AreMomentsOf (problem_of p.now) h }
+    requires sets { AreSetsAlong h }
+    ensures trees { IfOk result (λ rest. HasSameTrees (problem_of p.now) h rest) }
+    ensures exact { IfOk result (λ rest. rest ≡ without_settled (problem_of p.now) h) }
+{
+    if !first_hides_nothing(alloc, p, &h)? {
+        return Ok(h);
+    }
+    let later = h.without_first(alloc)?;
+    let rest = without_settled(alloc, p, later)?;
+    Ok(rest)
+}
+
+/// The history without its settled past: where each aim is one of the last moment it lets go of the first moment as long as
+/// the step from there hides nothing, and no longer. The same trees are derived from what is left. It asks for a valid problem
+/// and for moments of it. The error is want of memory.
+pub fn cut(alloc: Global, p: &Problem<'_>, h: &History) -> Result<History, AllocError>
+    requires valid { IsValidProblem p.now }
+    requires moments { AreMomentsOf (problem_of p.now) h.now }
+    ensures trees { IfOk result (λ rest. HasSameTrees (problem_of p.now) h.now rest) }
+    ensures exact { Each IsNow (problem_of p.now).goal → IfOk result (λ rest. rest ≡ without_settled (problem_of p.now) h.now) }
+    ensures whole { (Each IsNow (problem_of p.now).goal → ⊥) → IfOk result (λ rest. rest ≡ h.now) }
+{
+    in_order(h);
+    let whole = h.share()?;
+    if !are_now(p.goal.as_slice()) {
+        return Ok(whole);
+    }
+    let rest = without_settled(alloc, p, whole)?;
+    Ok(rest)
+}

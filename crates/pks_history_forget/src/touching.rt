@@ -1,0 +1,151 @@
+//! What effects leave as it is, whatever their arguments.
+ghost use Rattle.std.specs.Prelude.{◌≡◌, ◌&&◌, ◌==◌, not, map};
+ghost use Rattle.std.specs.List.{list_all, list_any, filter};
+ghost use Rattle.pks_terms.specs.Closure.{applications_in, is_application};
+ghost use Rattle.pks_terms.specs.Orders.{number_of};
+ghost use Rattle.pks_terms.specs.Syntax.{Named, are_two_objects, term_of as lifted};
+ghost use Rattle.pks_terms.specs.Views.{inner_of, term_of, terms_of, relation_of, literal_of, literals_in, target_of, effect_of};
+ghost use Rattle.pks_laws_forget.specs.Transparent.{is_about, assigns_in, at_other_objects, is_elsewhere};
+ghost use Rattle.pks_laws_forget.specs.Testing.{is_untouched};
+
+use pks_terms::ids::PredId;
+use pks_terms::literal::{Atom, Literal};
+use pks_terms::schema::{Effect, Target};
+use pks_terms::term::{Inner, Term, front};
+
+fn is_of(pred: PredId, x: &Target) -> bool
+    ensures { result ≡ is_about (Named pred.0) (target_of x.now) }
+{
+    match x {
+        Target::Set(a) | Target::Unset(a) => a.pred == pred,
+        Target::Clear(y) => y.pred == pred,
+        Target::Assign { .. } => false,
+    }
+}
+
+/// Whether the target is of the literal's predicate.
+fn is_about(atom: &Atom, x: &Target) -> bool
+    ensures { result ≡ is_about (relation_of atom.now) (target_of x.now) }
+{
+    match atom {
+        Atom::Pred(a) => is_of(a.pred, x),
+        Atom::Eq { .. } => false,
+    }
+}
+
+fn some_applies(fun: u16, ts: &[Inner]) -> bool
+    ensures { result ≡ list_any (λ u. fun == number_of u) (filter is_application (map lifted (map inner_of ts.now))) }
+{
+    match ts {
+        [] => false,
+        [t, rest @ ..] => match t {
+            Inner::Obj(_) | Inner::Param(_) => some_applies(fun, rest),
+            Inner::App { .. } => fun == t.as_term().number() || some_applies(fun, rest),
+        },
+    }
+}
+
+/// Whether the function of this number occurs in the term.
+fn applies(fun: u16, t: &Term) -> bool
+    ensures { result ≡ list_any (λ u. fun == number_of u) (applications_in (term_of t.now)) }
+{
+    match t {
+        Term::Obj(_) | Term::Param(_) => false,
+        Term::App { n, args, .. } => fun == t.number() || some_applies(fun, front(args, *n)),
+    }
+}
+
+/// Whether the target assigns a function that occurs in the term.
+fn assigns_in(t: &Term, x: &Target) -> bool
+    ensures { result ≡ assigns_in (term_of t.now) (target_of x.now) }
+{
+    match x {
+        Target::Set(_) | Target::Unset(_) | Target::Clear(_) => false,
+        Target::Assign { place, .. } => applies(place.number(), t),
+    }
+}
+
+fn assigns_in_some(ts: &[Term], x: &Target) -> bool
+    ensures { result ≡ list_any (λ t. assigns_in t (target_of x.now)) (terms_of ts.now) }
+{
+    match ts {
+        [] => false,
+        [t, rest @ ..] => assigns_in(t, x) || assigns_in_some(rest, x),
+    }
+}
+
+fn leaves(x: &Target, l: &Literal) -> bool
+    ensures { result ≡ (not (is_about (literal_of l.now).relation (target_of x.now)) && not (list_any (λ t. assigns_in t (target_of x.now)) (literal_of l.now).arguments)) }
+{
+    !is_about(&l.atom, x) && !assigns_in_some(l.atom.arguments().terms(), x)
+}
+
+/// Whether none of the effects is of the literal's predicate or assigns a function that occurs in it.
+pub(crate) fn is_untouched(effects: &[Effect], l: &Literal) -> bool
+    ensures { result ≡ is_untouched (map effect_of effects.now) (literal_of l.now) }
+{
+    match effects {
+        [] => true,
+        [e, rest @ ..] => leaves(&e.target, l) && is_untouched(rest, l),
+    }
+}
+
+/// Whether none of the literals is touched so.
+pub(crate) fn are_untouched(effects: &[Effect], ls: &[Literal]) -> bool
+    ensures { result ≡ list_all (is_untouched (map effect_of effects.now)) (literals_in ls.now) }
+{
+    match ls {
+        [] => true,
+        [l, rest @ ..] => is_untouched(effects, l) && are_untouched(effects, rest),
+    }
+}
+
+fn are_two_objects(t: &Inner, u: &Inner) -> bool
+    ensures { result ≡ are_two_objects (lifted (inner_of t.now)) (lifted (inner_of u.now)) }
+{
+    match t {
+        Inner::Obj(d) => match u {
+            Inner::Obj(e) => d.0 != e.0,
+            Inner::Param(_) | Inner::App { .. } => false,
+        },
+        Inner::Param(_) | Inner::App { .. } => false,
+    }
+}
+
+/// Whether at some position there are two different objects.
+fn at_other_objects(ts: &[Inner], us: &[Inner]) -> bool
+    ensures { result ≡ at_other_objects (map lifted (map inner_of ts.now)) (map lifted (map inner_of us.now)) }
+{
+    match ts {
+        [] => false,
+        [t, ts @ ..] => match us {
+            [] => false,
+            [u, us @ ..] => are_two_objects(t, u) || at_other_objects(ts, us),
+        },
+    }
+}
+
+/// Whether the target assigns no place that may be this one.
+fn is_elsewhere(t: &Term, x: &Target) -> bool
+    ensures { result ≡ is_elsewhere (term_of t.now) (target_of x.now) }
+{
+    match t {
+        Term::Obj(_) | Term::Param(_) => true,
+        Term::App { n, args, .. } => match x {
+            Target::Set(_) | Target::Unset(_) | Target::Clear(_) => true,
+            Target::Assign { place, .. } => {
+                place.number() != t.number() || at_other_objects(place.arguments(), front(args, *n))
+            }
+        },
+    }
+}
+
+/// Whether so each of the effects.
+pub(crate) fn are_elsewhere(t: &Term, effects: &[Effect]) -> bool
+    ensures { result ≡ list_all (λ e. is_elsewhere (term_of t.now) e.target) (map effect_of effects.now) }
+{
+    match effects {
+        [] => true,
+        [e, rest @ ..] => is_elsewhere(t, &e.target) && are_elsewhere(t, rest),
+    }
+}

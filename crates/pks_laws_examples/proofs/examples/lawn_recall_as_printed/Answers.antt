@@ -1,0 +1,5 @@
+use Rattle.pks_laws_examples.proofs.WorkedRows.{lawn_recall_printed}
+use Rattle.pks_laws_examples.proofs.examples.lawn_recall_as_printed.Goals as goal
+
+pub returns : goal.returns
+returns c = lawn_recall_printed

@@ -1,0 +1,163 @@
+-- A step that passes the test hides nothing.
+use Rattle.std.proofs.Common.{◌≡◌, ◌⊎◌, ◌&&◌, ◌||◌, ℕ, Bool, true, false, not, is_some, List, [], ◌∷◌, Option, Some, None, Ordering, Less, Equal, Greater, is_eq, refl, sym, ap, ◌∙◌, subst, inl, inr, ⊎_elim, true≢false}
+use Rattle.std.specs.List.{list_any, list_all}
+use Rattle.std.specs.Option.{option_map_or}
+use Rattle.std.proofs.lemmas.Bool.{or_cases, and_parts, not-true}
+use Rattle.std.proofs.lemmas.Option.{none-some, same_Some}
+use Rattle.pks_terms.specs.Sets.{Each, IsIn}
+use Rattle.pks_terms.specs.Syntax.{Object, Apply, Inner, Term, object, as_object, Equality, Literal, negated, affirmed, denied}
+use Rattle.pks_terms.specs.Orders.{literal_eq, conj_cmp, equation}
+use Rattle.pks_terms.specs.Databases.{Entry, entry_cmp, Five}
+use Rattle.pks_terms.specs.Actions.{Target, Set, Unset, Clear, Assign, Effect, Instance}
+use Rattle.pks_terms.specs.Progress.{entry_terms}
+use Rattle.pks_terms.specs.Problems.{Problem}
+use Rattle.pks_terms.specs.Settling.{effects_of}
+use Rattle.pks_terms.proofs.ListLaws.{each_from_all, found_in}
+use Rattle.pks_terms.proofs.OrderLaws.{same_literal, same_term, conj_cmp_tells, entry_cmp_tells}
+use Rattle.pks_laws_forget.specs.Transparent.{AreObjects, IsOfObjects, gives_value, left_of, Makes, is_about, assigns_in, is_elsewhere, Assigns, HadValue, SurelyFires, NeverFires, IsDecided, IsWritten, IsAssigned, IsUntouched, IsKept, LastsAsGroup, IsTransparent}
+use Rattle.pks_laws_forget.specs.Testing.{has, are_objects, is_of_objects, made_by, tells, had_value, fires_surely, fires_never, is_decided_to, is_decided, is_written, assigns, is_assigned, is_untouched, is_kept, lasts_as_group, lasts_as_region, hides_nothing}
+use Rattle.pks_laws_forget.proofs.Objects.{of_objects, of_place, equation_is}
+
+-- each element that passes has P
+each_passes : {X : Type 0} (P : X → Type 0) (q : X → Bool) → ((x : X) → q x ≡ true → P x) → (xs : List X) → list_all q xs ≡ true → Each P xs
+each_passes P q f xs h = each_from_all P q f xs h
+
+equal_of : (o : Ordering) → is_eq o ≡ true → o ≡ Equal
+equal_of Less h = absurd (true≢false (sym h))
+equal_of Equal h = refl
+equal_of Greater h = absurd (true≢false (sym h))
+
+has_in : (d : Five) (l : Literal) → has d l ≡ true → IsIn l d.kf
+has_in d l h = let f = found_in (literal_eq l) d.kf h in subst (λ x. IsIn x d.kf) (sym (same_literal l f.0 f.2)) f.1
+
+surely : (d : Five) (e : Effect) → fires_surely d e ≡ true → SurelyFires d e
+surely d e h = each_passes (λ c. IsIn c d.kf) (has d) (has_in d) e.condition h
+
+never : (d : Five) (e : Effect) → fires_never d e ≡ true → NeverFires d e
+never d e h = let f = found_in (λ c. has d (negated c)) e.condition h in (f.0, f.1, has_in d (negated f.0) f.2)
+
+makes : (x : Target) (l : Literal) → made_by x ≡ Some l → Makes x l
+makes (Set a) l h = same_Some (affirmed a) l h
+makes (Unset a) l h = same_Some (denied a) l h
+makes (Assign f ts v) l h = same_Some (equation (Apply f ts) v) l h
+makes (Clear y) l h = absurd (none-some l h)
+
+-- a literal that gives the value of a place is an equation of it
+told_value : (f : ℕ) (us : List Inner) (l : Literal) → tells (Apply f us) l ≡ true → (e : ℕ) × (l ≡ equation (Apply f us) (object e))
+told_value f us l h =
+    let p = and_parts (gives_value l.relation l.arguments) _ h in
+    let q = and_parts l.positive _ p.1 in
+    let o = of_place l p.0 in
+    let same : Apply o.fun o.arguments ≡ Apply f us = sym (ap left_of o.is) ∙ same_term (left_of l) (Apply f us) q.1 in
+    (o.value, o.is ∙ (λ i. record { relation = Equality; arguments = same i ∷ Object o.value ∷ []; positive = q.0 i }) ∙ sym (equation_is f us o.value))
+
+value_had : (d : Five) (x : Target) → had_value d x ≡ true → HadValue d x
+value_had d (Assign f us v) h =
+    let g = found_in (tells (Apply f us)) d.kf h in
+    let t = told_value f us g.0 g.2 in (t.0, subst (λ l. IsIn l d.kf) t.1 g.1)
+value_had d (Set a) h = tt
+value_had d (Unset a) h = tt
+value_had d (Clear y) h = tt
+
+fires_known : (before after : Five) (e : Effect) (l : Literal) → (fires_surely before e && (has after l && had_value before e.target)) ≡ true → SurelyFires before e × IsIn l after.kf × HadValue before e.target
+fires_known before after e l h =
+    let p = and_parts (fires_surely before e) _ h in
+    let q = and_parts (has after l) _ p.1 in (surely before e p.0, has_in after l q.0, value_had before e.target q.1)
+
+decided_to : (before after : Five) (e : Effect) (l : Literal) → Makes e.target l → is_decided_to before after e l ≡ true → IsDecided before after e
+decided_to before after e l m h =
+    ⊎_elim
+    (λ k.
+    let p = and_parts (is_of_objects l) _ k in
+    let o = of_objects l p.0 in
+    record {
+      made = l;
+      makes = m;
+      objects = inl o;
+      known = ⊎_elim (λ f. inl (fires_known before after e l f)) (λ n. inr (never before e n, o)) (or_cases (fires_surely before e && (has after l && had_value before e.target)) _ p.1);
+    })
+    (λ k. let p = and_parts (gives_value l.relation l.arguments) _ k in record { made = l; makes = m; objects = inr p.0; known = inl (fires_known before after e l p.1) })
+    (or_cases (is_of_objects l && ((fires_surely before e && (has after l && had_value before e.target)) || fires_never before e)) _ h)
+
+decided : (before after : Five) (e : Effect) → is_decided before after e ≡ true → IsDecided before after e
+decided before after e h = go (made_by e.target) refl h
+  where
+    go : (o : Option Literal) → made_by e.target ≡ o → option_map_or (is_decided_to before after e) o false ≡ true → IsDecided before after e
+    go None q k = absurd (true≢false (sym k))
+    go (Some l) q k = decided_to before after e l (makes e.target l q) k
+
+written : (before : Five) (es : List Effect) (l : Literal) → is_written before es l ≡ true → IsWritten before es l
+written before es l h =
+    let f = found_in (λ e. fires_surely before e && option_map_or (λ m. literal_eq m l || literal_eq m (negated l)) (made_by e.target) false) es h in
+    let p = and_parts (fires_surely before f.0) _ f.2 in
+    record { effect = f.0; among = f.1; fires = surely before f.0 p.0; makes = go f.0.target (made_by f.0.target) refl p.1 }
+  where
+    go : (x : Target) (o : Option Literal) → made_by x ≡ o → option_map_or (λ m. literal_eq m l || literal_eq m (negated l)) o false ≡ true → Makes x l ⊎ Makes x (negated l)
+    go x None q k = absurd (true≢false (sym k))
+    go x (Some m) q k = ⊎_elim (λ e. inl (makes x l (q ∙ ap Some (same_literal m l e)))) (λ e. inr (makes x (negated l) (q ∙ ap Some (same_literal m (negated l) e)))) (or_cases (literal_eq m l) _ k)
+
+assigned : (before : Five) (es : List Effect) (t : Term) → is_assigned before es t ≡ true → IsAssigned before es t
+assigned before es t h =
+    let f = found_in (λ e. fires_surely before e && assigns e.target t) es h in
+    let p = and_parts (fires_surely before f.0) _ f.2 in
+    record { effect = f.0; among = f.1; fires = surely before f.0 p.0; assigns = place f.0.target p.1 }
+  where
+    place : (x : Target) → assigns x t ≡ true → Assigns x t
+    place (Assign f ts v) k = same_term (Apply f ts) t k
+    place (Set a) k = absurd (true≢false (sym k))
+    place (Unset a) k = absurd (true≢false (sym k))
+    place (Clear y) k = absurd (true≢false (sym k))
+
+untouched : (es : List Effect) (l : Literal) → is_untouched es l ≡ true → IsUntouched es l
+untouched es l h =
+    each_passes (λ e. (is_about l.relation e.target ≡ false) × (list_any (λ t. assigns_in t e.target) l.arguments ≡ false)) (λ e. not (is_about l.relation e.target) && not (list_any (λ t. assigns_in t e.target) l.arguments))
+    (λ e k. let p = and_parts (not (is_about l.relation e.target)) _ k in (not-true _ p.0, not-true _ p.1)) es h
+
+kept : (before after : Five) (es : List Effect) (l : Literal) → is_kept before after es l ≡ true → IsKept before after es l
+kept before after es l h =
+    ⊎_elim
+    (λ k. let p = and_parts (is_of_objects l) _ k in inl (of_objects l p.0, ⊎_elim (λ i. inl (has_in after l i)) (λ w. inr (written before es l w)) (or_cases (has after l) _ p.1)))
+    (λ r. ⊎_elim
+    (λ k.
+    let p = and_parts (gives_value l.relation l.arguments) _ k in
+    inr (inl (
+      p.0,
+      ⊎_elim (λ a. inl (assigned before es (left_of l) a))
+          (λ j. let q = and_parts (has after l) _ j in inr (has_in after l q.0, each_passes (λ e. is_elsewhere (left_of l) e.target ≡ true) (λ e. is_elsewhere (left_of l) e.target) (λ e z. z) es q.1))
+          (or_cases (is_assigned before es (left_of l)) _ p.1),
+    )))
+    (λ k. let p = and_parts (is_untouched es l) _ k in inr (inr (untouched es l p.0, has_in after l p.1)))
+    (or_cases (gives_value l.relation l.arguments && (is_assigned before es (left_of l) || (has after l && list_all (λ e. is_elsewhere (left_of l) e.target) es))) _ r))
+    (or_cases (is_of_objects l && (has after l || is_written before es l)) _ h)
+
+group_lasts : (before after : Five) (es : List Effect) (g : List Literal) → lasts_as_group before after es g ≡ true → LastsAsGroup before after es g
+group_lasts before after es g h =
+    let p = and_parts (list_all is_of_objects g) _ h in (
+      each_passes IsOfObjects is_of_objects of_objects g p.0,
+      ⊎_elim
+          (λ k.
+          let q = and_parts (list_any (λ h. is_eq (conj_cmp g h)) after.kx) _ k in
+          let f = found_in (λ h. is_eq (conj_cmp g h)) after.kx q.0 in
+          inl (subst (λ x. IsIn x after.kx) (sym (conj_cmp_tells g f.0 (equal_of (conj_cmp g f.0) f.2))) f.1, each_passes (IsUntouched es) (is_untouched es) (untouched es) g q.1))
+          (λ k. inr (each_passes (λ m. IsIn m before.kf ⊎ IsIn (negated m) before.kf) (λ m. has before m || has before (negated m)) (λ m z. ⊎_elim (λ i. inl (has_in before m i)) (λ i. inr (has_in before (negated m) i)) (or_cases (has before m) _ z)) g k))
+          (or_cases (list_any (λ h. is_eq (conj_cmp g h)) after.kx && list_all (is_untouched es) g) _ p.1),
+    )
+
+region_lasts : (after : Five) (r : Entry) → lasts_as_region after r ≡ true → AreObjects (entry_terms r) × IsIn r after.lcw
+region_lasts after r h =
+    let p = and_parts (are_objects (entry_terms r)) _ h in
+    let f = found_in (λ q. is_eq (entry_cmp r q)) after.lcw p.1 in
+    (each_passes (λ t. is_some (as_object t) ≡ true) (λ t. is_some (as_object t)) (λ t k. k) (entry_terms r) p.0, subst (λ x. IsIn x after.lcw) (sym (entry_cmp_tells r f.0 (equal_of (entry_cmp r f.0) f.2))) f.1)
+
+pub tested : (p : Problem) (before : Five) (i : Instance) (after : Five) → hides_nothing p before i after ≡ true → IsTransparent p before i after
+tested p before i after h =
+    let es = effects_of p i in
+    let a = and_parts (list_all (is_decided before after) es) _ h in
+    let b = and_parts (list_all (is_kept before after es) before.kf) _ a.1 in
+    let c = and_parts (list_all (lasts_as_group before after es) before.kx) _ b.1 in
+    record {
+      effects = each_passes (IsDecided before after) (is_decided before after) (decided before after) es a.0;
+      literals = each_passes (IsKept before after es) (is_kept before after es) (kept before after es) before.kf b.0;
+      groups = each_passes (LastsAsGroup before after es) (lasts_as_group before after es) (group_lasts before after es) before.kx c.0;
+      regions = each_passes (λ r. AreObjects (entry_terms r) × IsIn r after.lcw) (lasts_as_region after) (region_lasts after) before.lcw c.1;
+    }

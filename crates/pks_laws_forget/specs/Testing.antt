@@ -1,0 +1,102 @@
+-- A test whether a step hides nothing: it asks of each effect, literal, group and region in turn.
+use Rattle.std.specs.Prelude.{true, false, Bool, not, ◌&&◌, ◌||◌, is_some, List, Option, Some, None}
+use Rattle.std.specs.List.{list_any, list_all}
+use Rattle.std.specs.Option.{option_map_or}
+use Rattle.std.specs.Ordering.{is_eq}
+use Rattle.pks_terms.specs.Syntax.{Apply, Term, as_object, Literal, negated, affirmed, denied}
+use Rattle.pks_terms.specs.Orders.{term_eq, literal_eq, conj_cmp, equation}
+use Rattle.pks_terms.specs.Databases.{Entry, entry_cmp, Five}
+use Rattle.pks_terms.specs.Actions.{Target, Set, Unset, Clear, Assign, Effect, Instance}
+use Rattle.pks_terms.specs.Progress.{entry_terms}
+use Rattle.pks_terms.specs.Problems.{Problem}
+use Rattle.pks_terms.specs.Settling.{effects_of}
+use Rattle.pks_laws_forget.specs.Transparent.{is_named, gives_value, left_of, is_about, assigns_in, is_elsewhere}
+
+-- the literal is known
+abbrev pub has : Five → Literal → Bool
+has d l = list_any (literal_eq l) d.kf
+
+-- each of the terms is an object
+abbrev pub are_objects : List Term → Bool
+are_objects ts = list_all (λ t. is_some (as_object t)) ts
+
+-- a predicate at objects
+abbrev pub is_of_objects : Literal → Bool
+is_of_objects l = is_named l.relation && are_objects l.arguments
+
+-- what the target makes so
+abbrev pub made_by : Target → Option Literal
+made_by (Set a) = Some (affirmed a)
+made_by (Unset a) = Some (denied a)
+made_by (Assign f ts value) = Some (equation (Apply f ts) value)
+made_by (Clear x) = None
+
+-- the literal gives the value of the place
+abbrev pub tells : Term → Literal → Bool
+tells t l = gives_value l.relation l.arguments && (l.positive && term_eq (left_of l) t)
+
+-- a place that is assigned had a known value
+abbrev pub had_value : Five → Target → Bool
+had_value d (Assign f ts value) = list_any (tells (Apply f ts)) d.kf
+had_value d (Set a) = true
+had_value d (Unset a) = true
+had_value d (Clear x) = true
+
+-- each condition is known
+abbrev pub fires_surely : Five → Effect → Bool
+fires_surely d e = list_all (has d) e.condition
+
+-- the negation of a condition is known
+abbrev pub fires_never : Five → Effect → Bool
+fires_never d e = list_any (λ c. has d (negated c)) e.condition
+
+-- of an effect that makes the literal so
+abbrev pub is_decided_to : Five → Five → Effect → Literal → Bool
+is_decided_to before after e l =
+    (is_of_objects l && ((fires_surely before e && (has after l && had_value before e.target)) || fires_never before e))
+    || (gives_value l.relation l.arguments && (fires_surely before e && (has after l && had_value before e.target)))
+
+-- the effect is decided
+abbrev pub is_decided : Five → Five → Effect → Bool
+is_decided before after e = option_map_or (is_decided_to before after e) (made_by e.target) false
+
+-- an effect that surely fires makes the literal true or false
+abbrev pub is_written : Five → List Effect → Literal → Bool
+is_written before es l = list_any (λ e. fires_surely before e && option_map_or (λ m. literal_eq m l || literal_eq m (negated l)) (made_by e.target) false) es
+
+-- the target assigns the place
+abbrev pub assigns : Target → Term → Bool
+assigns (Assign f ts value) t = term_eq (Apply f ts) t
+assigns (Set a) t = false
+assigns (Unset a) t = false
+assigns (Clear x) t = false
+
+-- an effect that surely fires assigns the place
+abbrev pub is_assigned : Five → List Effect → Term → Bool
+is_assigned before es t = list_any (λ e. fires_surely before e && assigns e.target t) es
+
+-- no effect is of its predicate or assigns a function that occurs in it
+abbrev pub is_untouched : List Effect → Literal → Bool
+is_untouched es l = list_all (λ e. not (is_about l.relation e.target) && not (list_any (λ t. assigns_in t e.target) l.arguments)) es
+
+-- the literal lasts or is surely changed
+abbrev pub is_kept : Five → Five → List Effect → Literal → Bool
+is_kept before after es l =
+    (is_of_objects l && (has after l || is_written before es l))
+    || ((gives_value l.relation l.arguments && (is_assigned before es (left_of l) || (has after l && list_all (λ e. is_elsewhere (left_of l) e.target) es))) || (is_untouched es l && has after l))
+
+-- the group stands after, or is spent
+abbrev pub lasts_as_group : Five → Five → List Effect → List Literal → Bool
+lasts_as_group before after es g =
+    list_all is_of_objects g
+    && ((list_any (λ h. is_eq (conj_cmp g h)) after.kx && list_all (is_untouched es) g) || list_all (λ m. has before m || has before (negated m)) g)
+
+-- the region speaks of objects and stands after
+abbrev pub lasts_as_region : Five → Entry → Bool
+lasts_as_region after r = are_objects (entry_terms r) && list_any (λ q. is_eq (entry_cmp r q)) after.lcw
+
+-- the step hides nothing
+abbrev pub hides_nothing : Problem → Five → Instance → Five → Bool
+hides_nothing p before i after =
+    let es = effects_of p i in
+    list_all (is_decided before after) es && (list_all (is_kept before after es) before.kf && (list_all (lasts_as_group before after es) before.kx && list_all (lasts_as_region after) before.lcw))

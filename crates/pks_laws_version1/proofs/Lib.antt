@@ -1,0 +1,13 @@
+pub mod Lists
+pub mod Looking
+pub mod Rounds
+pub mod Deeds
+pub mod PutIn
+pub mod Onward
+pub mod Choices
+pub mod Past
+pub mod Plans
+pub mod Answered
+pub mod Grammars
+pub mod Old
+pub mod Replies

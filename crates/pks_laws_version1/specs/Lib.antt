@@ -1,0 +1,10 @@
+pub mod Answering
+pub mod LookingUp
+pub mod Closing
+pub mod Choosing
+pub mod Settling
+pub mod OfFirst
+pub mod Trees
+pub mod Grammar
+pub mod Codes
+pub mod Texts

@@ -1,7 +1,0 @@
-use Rattle.pks_terms.specs.Views.{shape_of}
-use Rattle.pks_meaning.specs.Views.{names_of}
-use Rattle.pks_meaning.proofs.Entries.{entry_seen}
-use Rattle.pks_meaning.proofs.scope.Scope.predicate.Goals as goal
-
-pub returns : goal.returns
-returns c = entry_seen shape_of c.entry.result (names_of c.args.self.now.declared.now.predicates) c.args.name.now c.entry.ensures

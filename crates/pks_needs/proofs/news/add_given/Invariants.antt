@@ -1,8 +1,0 @@
-use Rattle.std.proofs.Common.{◌≡◌, ◌++◌, map, take}
-use Rattle.pks_terms.specs.Views.{object_of, term_of}
-use Rattle.pks_needs.specs.Relaxed.{NewValue}
-use Rattle.pks_needs.specs.Gained.{new_of}
-use Rattle.pks_needs.proofs.news.add_given.Given as goal
-
-abbrev pub invariant-loop-d : goal.invariant-loop-d
-invariant-loop-d l = map new_of l.to.items ≡ map new_of l.fn.to.items ++ map (NewValue (term_of l.place)) (map object_of (take l.d-index l.values))

@@ -1,4 +1,0 @@
-pub mod Fives
-pub mod Own
-pub mod Reading
-pub mod Tables

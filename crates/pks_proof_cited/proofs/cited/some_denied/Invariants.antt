@@ -1,0 +1,12 @@
+use Rattle.std.proofs.Common.{◌≡◌, drop}
+use Rattle.std.specs.List.{list_any}
+use Rattle.pks_terms.specs.Syntax.{negated}
+use Rattle.pks_terms.specs.Views.{literals_in}
+use Rattle.pks_terms.specs.Judging.{is_cited}
+use Rattle.pks_proof_cited.specs.CitedViews.{judge_of}
+use Rattle.pks_proof_cited.proofs.cited.some_denied.Given as goal
+
+abbrev pub invariant-loop-l : goal.invariant-loop-l
+invariant-loop-l l =
+    list_any (λ k. is_cited (judge_of l.c) l.c.moment (negated k)) (literals_in (drop l.l-index l.ls))
+    ≡ list_any (λ k. is_cited (judge_of l.c) l.c.moment (negated k)) (literals_in l.ls)

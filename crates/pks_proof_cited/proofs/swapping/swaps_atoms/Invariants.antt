@@ -1,0 +1,12 @@
+use Rattle.std.proofs.Common.{◌≡◌, drop}
+use Rattle.pks_terms.specs.Orders.{atom_cmp}
+use Rattle.pks_terms.specs.Rewriting.{swaps_atom}
+use Rattle.pks_lcw.specs.Entries.{atoms_of}
+use Rattle.pks_proof_cited.specs.CitedViews.{judge_of}
+use Rattle.pks_proof_cited.specs.Exchanges.{exchanges}
+use Rattle.pks_proof_cited.proofs.swapping.swaps_atoms.Given as goal
+
+abbrev pub invariant-loop-i : goal.invariant-loop-i
+invariant-loop-i l =
+    exchanges (swaps_atom (judge_of l.c) l.c.moment) atom_cmp (atoms_of (drop l.i l.g)) (atoms_of l.left)
+    ≡ exchanges (swaps_atom (judge_of l.c) l.c.moment) atom_cmp (atoms_of l.g) (atoms_of l.h)

@@ -1,0 +1,9 @@
+pub mod Lists
+pub mod OwnForms
+pub mod TableLaws
+pub mod Values
+pub mod SameValues
+pub mod Apart
+pub mod FormLaws
+pub mod Listed
+pub mod PutIn

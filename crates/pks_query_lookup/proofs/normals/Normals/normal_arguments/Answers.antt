@@ -1,0 +1,11 @@
+use Rattle.std.proofs.Common.{◌≡◌, length, rules}
+use Rattle.pks_terms.specs.Databases.{normal}
+use Rattle.pks_terms.specs.Views.{term_of}
+use Rattle.pks_terms.proofs.Fronts.{mapped_three}
+use Rattle.pks_kf.specs.Known.{literals_of}
+use Rattle.pks_query_lookup.proofs.normals.Normals.normal_arguments.Goals as goal
+
+pub returns-clause-terms : goal.returns-clause-terms
+returns-clause-terms c =
+    let long : length c.args.given.now.items ≡ 3 = search rules in
+    mapped_three term_of (normal (literals_of c.args.self.now.kf)) c.args.given.now.items _ _ _ _ c.args.given.now.n long c.normal.ensures c.normal-2.ensures c.normal-3.ensures

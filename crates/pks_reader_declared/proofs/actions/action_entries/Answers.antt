@@ -1,0 +1,21 @@
+use Rattle.pks_text.specs.Forms.{Form}
+use Rattle.pks_text.specs.FormViews.{forms_view}
+use Rattle.pks_reader_names.specs.Parts.{behind_head}
+use Rattle.pks_reader_names.specs.Declarations.{second_in, nothing, action_faults, entries_faults, table_from}
+use Rattle.pks_reader_names.specs.Meaning.{all_noted}
+use Rattle.pks_reader_names.specs.Views.{found_of, names_of, scope_view}
+use Rattle.pks_reader_names.proofs.Noting.{entries_next, table_next}
+use Rattle.pks_reader_declared.proofs.actions.action_entries.Goals as goal
+
+pub loop-form-preserved : goal.loop-form-preserved
+loop-form-preserved c =
+    let said = nothing in
+    let faults = (λ (f : Form). action_faults (scope_view c.args.scope.now) (behind_head f)) in
+    let fs = c.args.forms.now in
+    let i = c.loop-form.form-index in
+    let x = c.form-item.result in
+    record {
+      faults = entries_next second_in said faults fs i x (names_of c.loop-form.table) (names_of c.action_entry.new.table) (found_of c.loop-form.report) (found_of c.action_entry.new.report)
+          (all_noted (found_of c.args.report.now) (entries_faults second_in said faults (names_of c.args.table.now) (forms_view fs))) c.loop-form-test.true c.form-item.is c.in_ok-action_entry.ensures.table c.in_ok-action_entry.ensures.faults c.loop-form.invariant.faults;
+      table = table_next second_in said fs i x (names_of c.loop-form.table) (names_of c.action_entry.new.table) (table_from second_in said (names_of c.args.table.now) (forms_view fs)) c.loop-form-test.true c.form-item.is c.in_ok-action_entry.ensures.table c.loop-form.invariant.table;
+    }

@@ -1,0 +1,14 @@
+use Rattle.std.proofs.Common.{◌≡◌, drop}
+use Rattle.pks_text.specs.Forms.{Form}
+use Rattle.pks_text.specs.FormViews.{forms_view}
+use Rattle.pks_reader_names.specs.Parts.{behind_head}
+use Rattle.pks_reader_names.specs.Declarations.{second_in, nothing, action_faults, entries_faults, table_from}
+use Rattle.pks_reader_names.specs.Meaning.{all_noted}
+use Rattle.pks_reader_names.specs.Views.{found_of, names_of, scope_view}
+use Rattle.pks_reader_declared.proofs.actions.action_entries.Given as goal
+
+abbrev pub invariant-loop-form : goal.invariant-loop-form
+invariant-loop-form l = record {
+  faults : all_noted (found_of l.report) (entries_faults second_in nothing (λ (f : Form). action_faults (scope_view l.scope) (behind_head f)) (names_of l.table) (forms_view (drop l.form-index l.forms))) ≡ all_noted (found_of l.fn.report) (entries_faults second_in nothing (λ (f : Form). action_faults (scope_view l.scope) (behind_head f)) (names_of l.fn.table) (forms_view l.forms));
+  table : table_from second_in nothing (names_of l.table) (forms_view (drop l.form-index l.forms)) ≡ table_from second_in nothing (names_of l.fn.table) (forms_view l.forms);
+}

@@ -1,0 +1,10 @@
+use Rattle.std.proofs.Common.{◌≡◌, drop}
+use Rattle.pks_text.specs.FormViews.{forms_view}
+use Rattle.pks_reader_names.specs.Parts.{each}
+use Rattle.pks_reader_names.specs.Terms.{literal_faults}
+use Rattle.pks_reader_names.specs.Meaning.{all_noted}
+use Rattle.pks_reader_names.specs.Views.{found_of, scope_view}
+use Rattle.pks_reader_names.proofs.sentences.each_literal.Given as goal
+
+abbrev pub invariant-loop-form : goal.invariant-loop-form
+invariant-loop-form l = all_noted (found_of l.report) (each (literal_faults (scope_view l.scope)) (forms_view (drop l.form-index l.forms))) ≡ all_noted (found_of l.fn.report) (each (literal_faults (scope_view l.scope)) (forms_view l.forms))

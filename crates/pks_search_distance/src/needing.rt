@@ -1,0 +1,70 @@
+//! The bound.
+ghost use Rattle.std.specs.Prelude.{◌≡◌, false, map, IfOk, OnOk};
+ghost use Rattle.std.specs.List.{flat_map};
+ghost use Rattle.pks_terms.specs.Sets.{Each};
+ghost use Rattle.pks_terms.specs.Views.{problem_of};
+ghost use Rattle.pks_world.specs.Contents.{world_of};
+ghost use Rattle.pks_laws_distance.specs.Levels.{Grows, IsBound};
+ghost use Rattle.pks_search_distance.specs.Relaxed.{deed_news, IsNewIn};
+ghost use Rattle.pks_terms.specs.ValidProblems.{ArePlaced};
+ghost use Rattle.pks_search_distance.specs.Gained.{chances_of, deed_of, AreDeeds};
+
+use crate::deeds::Deeds;
+use crate::gains::Gains;
+use pks_terms::problem::Problem;
+use pks_world::World;
+use std::alloc::{AllocError, Global};
+
+/// How much a level may take for a bound to be worth its time: for each ground action the square of the number of noted values.
+const MOST_WORK: usize = 200_000;
+
+fn is_too_much(values: usize, actions: usize) -> bool {
+    values.saturating_mul(values).saturating_mul(actions) > MOST_WORK
+}
+
+impl Deeds {
+    /// Goes on to the next level; answers whether it has something that this one hasn't.
+    fn go_on(&self, alloc: Global, w: &World, gains: &mut Gains) -> Result<bool, AllocError>
+        requires { Each (λ x. ArePlaced x.effects.items) self.now.deeds.items }
+        ensures grows { OnOk result (Grows (chances_of (world_of w.now) gains.old) (chances_of (world_of w.now) gains.new)) }
+        ensures has { OnOk result (Each (IsNewIn (chances_of (world_of w.now) gains.new)) (flat_map (deed_news (chances_of (world_of w.now) gains.old)) (map deed_of self.now.deeds.items))) }
+        ensures same { IfOk result (λ b. b ≡ false → chances_of (world_of w.now) gains.new ≡ chances_of (world_of w.now) gains.old) }
+    {
+        let found = gains.news(alloc, w, self.deeds.as_slice())?;
+        let grew = gains.take_all(w, found.as_slice())?;
+        Ok(grew)
+    }
+
+    /// A bound on the actions that the world is away from the goal: no run of fewer leads to it, and where there is no bound none leads to
+    /// it at all. It is counted up to `most`. It asks for the ground actions of a problem, or all that may still be done from the world on.
+    /// The error is want of memory.
+    pub fn needs(
+        &self,
+        alloc: Global,
+        p: &Problem<'_>,
+        w: &World,
+        most: u32,
+    ) -> Result<Option<u32>, AllocError>
+        requires { AreDeeds (problem_of p.now) self.now (world_of w.now) }
+        ensures { IfOk result (IsBound (problem_of p.now) (world_of w.now)) }
+    {
+        let mut gains = Gains::none(alloc);
+        for k in 0..most {
+            if is_too_much(gains.values.len(), self.deeds.len()) {
+                return Ok(Some(k));
+            }
+            let met = gains.goal_may(alloc, w, p.goal.as_slice())?;
+            if met {
+                return Ok(Some(k));
+            }
+            if k + 1 == most {
+                return Ok(Some(most));
+            }
+            let grew = self.go_on(alloc, w, &mut gains)?;
+            if !grew {
+                return Ok(None);
+            }
+        }
+        Ok(Some(most))
+    }
+}

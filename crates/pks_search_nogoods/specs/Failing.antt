@@ -1,0 +1,19 @@
+-- What a table of failed searches says.
+use Rattle.std.specs.Prelude.{ℕ, ◌≤◌, Contains}
+use Rattle.pks_terms.specs.Problems.{Problem}
+use Rattle.pks_terms.specs.Settling.{History, At}
+use Rattle.pks_terms.specs.Trees.{Tree, cost, IsDerivedWithin}
+use Rattle.pks_search_nogoods.specs.declared.failures.Failure.{Failure}
+use Rattle.pks_search_nogoods.specs.declared.failures.Failures.{Failures}
+
+-- no tree that is derived at the history, and is no deeper than n, costs at most the limit
+abbrev pub HasNoTree : Problem → History → ℕ → ℕ → Type 0
+HasNoTree p h n limit = (t : Tree) → IsDerivedWithin p (At h) n t × (cost p t ≤ limit) → ⊥
+
+-- the entry is right of its history alone, whatever else a search carries
+abbrev pub IsRight : Problem → Failure → Type 0
+IsRight p x = HasNoTree p x.history x.depth x.limit
+
+-- each entry of the table is right
+abbrev pub AreRight : Problem → Failures → Type 0
+AreRight p f = (mark : ℕ) (x : Failure) → Contains f.table.entries (mark, x) → IsRight p x

@@ -1,0 +1,108 @@
+//! A world that may be the present one, and a bound on the actions that it is away from the goal.
+ghost use Rattle.std.specs.Prelude.{◌≡◌, ◌<◌, IfOk, IsTrue};
+ghost use Rattle.pks_terms.specs.Worlds.{value_of, all_true_in};
+ghost use Rattle.pks_terms.specs.Knowledge.{grounded, after_action};
+ghost use Rattle.pks_terms.specs.Valid.{IsValid};
+ghost use Rattle.pks_terms.specs.Views.{term_of, conj_of, instance_of, problem_of};
+ghost use Rattle.pks_world.specs.Contents.{world_of};
+ghost use Rattle.pks_search_distance.specs.Gained.{AreDeeds};
+ghost use Rattle.pks_search_witness.specs.Near.{world_in, is_beyond, IsCounted};
+
+use crate::idling::is_idle;
+use pks_search_distance::Deeds;
+use pks_terms::ids::ObjId;
+use pks_terms::literal::Conj;
+use pks_terms::problem::Problem;
+use pks_terms::schema::Instance;
+use pks_terms::term::Term;
+use pks_world::{World, grounded};
+use std::alloc::{AllocError, Global};
+use std::rc::Rc;
+
+/// A world that may be the present one, and a bound on the actions that it is away from the goal: no run of fewer leads there, and where
+/// there is no number none does.
+#[derive(Drop)]
+pub struct Witness {
+    pub(crate) world: Rc<World>,
+    pub(crate) needs: Option<u32>,
+}
+
+impl Witness {
+    /// The world with its bound, which is counted up to `most`.
+    pub fn of(
+        alloc: Global,
+        p: &Problem<'_>,
+        deeds: &Deeds,
+        world: World,
+        most: u32,
+    ) -> Result<Witness, AllocError>
+        requires { AreDeeds (problem_of p.now) deeds.now (world_of world) }
+        ensures world { IfOk result (λ x. world_in x ≡ world_of world) }
+        ensures counted { IfOk result (IsCounted (problem_of p.now)) }
+    {
+        let needs = deeds.needs(alloc, p, &world, most)?;
+        let world = Rc::new(alloc, world)?;
+        Ok(Witness { world, needs })
+    }
+
+    /// The world after the action with its bound, which is counted up to `most`.
+    pub fn after(
+        &self,
+        alloc: Global,
+        p: &Problem<'_>,
+        deeds: &Deeds,
+        step: &Instance,
+        most: u32,
+    ) -> Result<Witness, AllocError>
+        requires valid { IsValid (problem_of p.now) }
+        requires deeds { AreDeeds (problem_of p.now) deeds.now (after_action (problem_of p.now) (world_in self.now) (grounded (world_in self.now) (instance_of step.now))) }
+        ensures world { IfOk result (λ x. world_in x ≡ after_action (problem_of p.now) (world_in self.now) (grounded (world_in self.now) (instance_of step.now))) }
+        ensures counted { IfOk result (IsCounted (problem_of p.now)) }
+    {
+        let next = self.world.apply(p, &grounded(&self.world, step))?;
+        Witness::of(alloc, p, deeds, next, most)
+    }
+
+    /// Whether the action leaves the world as it is. Where it doesn't say so, it may do so all the same. It takes no memory.
+    pub fn stays(&self, p: &Problem<'_>, step: &Instance) -> bool
+        ensures { IsTrue result → after_action (problem_of p.now) (world_in self.now) (grounded (world_in self.now) (instance_of step.now)) ≡ world_in self.now }
+    {
+        is_idle(p, &self.world, &grounded(&self.world, step))
+    }
+
+    /// The same world with the same bound. The error is want of memory for one more reference.
+    pub fn share(&self) -> Result<Witness, AllocError>
+        ensures world { IfOk result (λ x. world_in x ≡ world_in self.now) }
+        ensures needs { IfOk result (λ x. x.needs ≡ self.now.needs) }
+    {
+        let world = self.world.clone()?;
+        Ok(Witness {
+            world,
+            needs: self.needs,
+        })
+    }
+
+    /// Whether the goal is more than `n` actions away.
+    pub fn is_beyond(&self, n: u32) -> bool
+        ensures { result ≡ is_beyond self.now n }
+    {
+        match self.needs {
+            Some(k) => n < k,
+            None => true,
+        }
+    }
+
+    /// Whether all literals of the conjunction are true.
+    pub fn holds_all(&self, test: &Conj) -> bool
+        ensures { result ≡ all_true_in (world_in self.now) (conj_of test.now) }
+    {
+        self.world.holds_all(test)
+    }
+
+    /// The value of the term.
+    pub fn value(&self, t: &Term) -> ObjId
+        ensures { result.0 ≡ value_of (world_in self.now) (term_of t.now) }
+    {
+        self.world.value(t)
+    }
+}

@@ -1,5 +1,0 @@
-use Rattle.pks_shown.proofs.Longer.{lines_still_allowed}
-use Rattle.pks_shown.proofs.laws.lines_stay_allowed_along_longer_paths.Goals as goal
-
-pub returns : goal.returns
-returns c = λ p path more proof h. lines_still_allowed p path more proof h

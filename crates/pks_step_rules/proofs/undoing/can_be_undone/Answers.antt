@@ -1,6 +1,0 @@
-use Rattle.pks_step_rules.specs.Changes.{signature_in, before_in, some_effects}
-use Rattle.pks_step_rules.proofs.Effects.{none_may}
-use Rattle.pks_step_rules.proofs.undoing.can_be_undone.Goals as goal
-
-pub returns-in-Clear : goal.returns-in-Clear
-returns-in-Clear c = rw c.in-Clear.is (none_may (signature_in c.args.change.now) (before_in c.args.change.now) (some_effects c.args.change.now c.args.later.now))

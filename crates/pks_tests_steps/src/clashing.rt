@@ -1,0 +1,113 @@
+//! Where databases clash: the answer is the clash, not want of memory.
+ghost use Rattle.pks_terms.specs.Typed.{AllJustified};
+ghost use Rattle.pks_terms.specs.ValidProblems.{IsValidProblem};
+ghost use Rattle.pks_terms.specs.Views.{problem_of};
+ghost use Rattle.pks_terms.specs.Moments.{AreMomentsOf};
+
+use crate::domains::SUNNY_LAWN;
+use crate::walks::{offered, read, text, walked};
+use pks_history::histories::History;
+use pks_history_replay::states::{State, start, taking};
+use pks_progress::progressing::progress;
+use pks_query::databases::Step;
+use pks_terms::choices::{Choice, Side};
+use pks_terms::problem::Problem;
+use std::alloc::Global;
+use std::test::Fail;
+
+// The only spot is where the robot is, which is told only once something is set there. Then p is neither true nor false.
+const SPOT: &str = "(pks 1)
+(domain
+  (types spot)
+  (objects (spot s))
+  (predicates (at spot) (p))
+  (functions (here spot))
+  (action mark (effects (set (at (here)))) (knows (kf (at (here))))))
+(problem
+  (init (kx (= (here) s) (p)) (kx (= (here) s) (not (p))))
+  (goal (k (p))))
+";
+
+// What is known contradicts itself from the start.
+const BOTH: &str = "(pks 1)
+(domain (predicates (p)))
+(problem (init (kf (p)) (kf (not (p)))) (goal (k (p))))
+";
+
+/// Whether the databases after the action clash.
+fn clashes(alloc: Global, p: &Problem<'_>, h: &History, wanted: &str) -> Result<bool, Fail>
+    requires valid { IsValidProblem p.now }
+    requires justified { AllJustified (problem_of p.now) }
+    requires moments { AreMomentsOf (problem_of p.now) h.now }
+{
+    let Choice::Act(step) = offered(alloc, p, h, wanted)? else {
+        return Err(Fail::new("the choice is no action"));
+    };
+    match progress(alloc, p, h.last(), &step)? {
+        Step::Clash(_) => Ok(true),
+        Step::Next(_) => Ok(false),
+    }
+}
+
+/// Whether the databases after the first action, in the file, clash.
+fn clashes_in(alloc: Global, text: &str, wanted: &str) -> Result<bool, Fail> {
+    let p = read(alloc, text)?;
+    let h = walked(alloc, &p, &[])?;
+    clashes(alloc, &p, &h, wanted)
+}
+
+/// Whether a plan of the file begins at a clash.
+fn is_stopped(alloc: Global, text: &str) -> Result<bool, Fail> {
+    let p = read(alloc, text)?;
+    match start(alloc, &p)? {
+        State::Stopped => Ok(true),
+        State::At(_) => Ok(false),
+    }
+}
+
+/// Whether a plan can't go on at the false side of a branch.
+fn is_closed(alloc: Global, p: &Problem<'_>, h: &History, wanted: &str) -> Result<bool, Fail>
+    requires valid { IsValidProblem p.now }
+    requires moments { AreMomentsOf (problem_of p.now) h.now }
+{
+    let c = offered(alloc, p, h, wanted)?;
+    let Choice::Branch(_) = c else {
+        return Err(Fail::new("the choice is no branch"));
+    };
+    match taking(alloc, p, h, &c, Side::False)? {
+        State::Stopped => Ok(true),
+        State::At(_) => Ok(false),
+    }
+}
+
+/// The same after actions, in a file.
+fn is_closed_after(
+    alloc: Global,
+    text: &str,
+    actions: &[&str],
+    wanted: &str,
+) -> Result<bool, Fail> {
+    let p = read(alloc, text)?;
+    let h = walked(alloc, &p, actions)?;
+    is_closed(alloc, &p, &h, wanted)
+}
+
+#[test]
+fn an_action_after_which_nothing_can_be(rt: HostRuntime) -> Result<(), Fail> {
+    assert!(rt; clashes_in(rt.alloc(), SPOT, "(mark)")?);
+    Ok(())
+}
+
+#[test]
+fn a_start_that_could_not_be(rt: HostRuntime) -> Result<(), Fail> {
+    assert!(rt; is_stopped(rt.alloc(), BOTH)?);
+    Ok(())
+}
+
+#[test]
+fn a_side_whose_past_could_not_be(rt: HostRuntime) -> Result<(), Fail> {
+    let text = text(rt.alloc(), &SUNNY_LAWN, "(kf (alive))")?;
+    let actions = &["(pour)", "(look)"];
+    assert!(rt; is_closed_after(rt.alloc(), &text, actions, "branch (alive)")?);
+    Ok(())
+}

@@ -1,5 +1,0 @@
-use Rattle.std.proofs.Common.{length}
-use Rattle.pks_worked_runs.proofs.peers.+leaves.Given as goal
-
-abbrev pub decreases-leaves : goal.decreases-leaves
-decreases-leaves l = length l.answers.now
