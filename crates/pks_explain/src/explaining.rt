@@ -9,7 +9,7 @@ ghost use Rattle.pks_plan.specs.TreeViews.{tree_of};
 ghost use Rattle.pks_explain.specs.EntryViews.{entry_of, entries_of, owed_of};
 ghost use Rattle.pks_explain.specs.Accepted.{IsProved, AreProved};
 
-use crate::entries::{Entry, Explained, Owed};
+use crate::entries::{ProvedLiteral, Explained, Owed};
 use crate::owing::owed;
 use crate::proving::prove_owed;
 use pks_explain_lines::lost;
@@ -21,14 +21,14 @@ use pks_terms::sequence::Sequence;
 use std::alloc::{AllocError, Global};
 
 /// The literal with its proof, which must be accepted for it.
-fn tested(p: &Problem<'_>, one: Owed, proof: Proof) -> Result<Entry, AllocError>
+fn tested(p: &Problem<'_>, one: Owed, proof: Proof) -> Result<ProvedLiteral, AllocError>
     requires { length p.now.signature.objects ≤ 65536 }
     ensures { IfOk result (λ e. IsProved (problem_of p.now) (owed_of one) (entry_of e)) }
 {
     if !accepts(p, &one.path, &proof, &one.literal) {
         return Err(lost());
     }
-    Ok(Entry {
+    Ok(ProvedLiteral {
         path: one.path,
         literal: one.literal,
         proof,
@@ -41,7 +41,7 @@ fn all_tested(
     p: &Problem<'_>,
     all: Vec<Owed>,
     proofs: Vec<Proof>,
-) -> Result<Vec<Entry>, AllocError>
+) -> Result<Vec<ProvedLiteral>, AllocError>
     requires { length p.now.signature.objects ≤ 65536 }
     ensures { IfOk result (λ es. AreProved (problem_of p.now) (map owed_of all.items) (entries_of es.items)) }
 {
@@ -60,7 +60,7 @@ fn tested_owed(
     p: &Problem<'_>,
     t: &Tree,
     proofs: Vec<Proof>,
-) -> Result<Vec<Entry>, AllocError>
+) -> Result<Vec<ProvedLiteral>, AllocError>
     requires { length p.now.signature.objects ≤ 65536 }
     ensures { IfOk result (λ es. AreProved (problem_of p.now) (owed (problem_of p.now) [] (tree_of t.now)) (entries_of es.items)) }
 {

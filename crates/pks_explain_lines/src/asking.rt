@@ -1,7 +1,7 @@
 //! What stands at the moments of a table.
 
 use crate::lines::Lines;
-use pks_explain_moment::{Form, lost};
+use pks_explain_moment::{NormalForm, lost};
 use pks_lcw::Entry;
 use pks_terms::group::Group;
 use pks_terms::literal::Literal;
@@ -80,7 +80,7 @@ impl Lines<'_> {
 
     /// The normal form of a term at the moment: each place in it, the inner ones first, has become its value where one is
     /// known. The error is want of memory, or `lost` where there is no such moment. `docs/RULES.md` has the rule.
-    pub fn normal_form(&self, alloc: Global, m: usize, t: &Term) -> Result<Form, AllocError> {
+    pub fn normal_form(&self, alloc: Global, m: usize, t: &Term) -> Result<NormalForm, AllocError> {
         match self.moments.get(m) {
             Some(moment) => moment.normal_form(alloc, t),
             None => Err(lost()),
@@ -89,7 +89,7 @@ impl Lines<'_> {
 
     /// The forms of a term at the moment, itself first: any of its arguments replaced by their values, and then the whole.
     /// The error is want of memory, or `lost` where there is no such moment.
-    pub fn forms(&self, alloc: Global, m: usize, t: &Term) -> Result<Vec<Form>, AllocError> {
+    pub fn forms(&self, alloc: Global, m: usize, t: &Term) -> Result<Vec<NormalForm>, AllocError> {
         match self.moments.get(m) {
             Some(moment) => moment.forms(alloc, t),
             None => Err(lost()),

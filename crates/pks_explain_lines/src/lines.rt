@@ -1,8 +1,8 @@
 //! The lines along a path, with what stands at each of its moments.
 
 use crate::joining::Joining;
-use crate::table::Table;
-use pks_explain_moment::{Moment, lost, push};
+use crate::table::LineTable;
+use pks_explain_moment::{MomentLines, lost, push};
 use pks_lcw::Entry;
 use pks_proof_lines::{Fact, Line, Reason};
 use pks_terms::group::Group;
@@ -14,8 +14,8 @@ use std::alloc::{AllocError, Global};
 /// a moment by how many actions come before it. `docs/REASONS.md` has the reasons of lines.
 #[derive(Drop)]
 pub struct Lines<'p> {
-    pub(crate) table: Table<'p>,
-    pub(crate) moments: Vec<Moment>,
+    pub(crate) table: LineTable<'p>,
+    pub(crate) moments: Vec<MomentLines>,
 }
 
 impl<'p> Lines<'p> {
@@ -38,13 +38,13 @@ impl<'p> Lines<'p> {
     pub fn begin_moment(&mut self, alloc: Global) -> Result<(), AllocError> {
         let _alloc = alloc;
         let number = self.moments.len();
-        push(&mut self.moments, Moment::empty(number))
+        push(&mut self.moments, MomentLines::empty(number))
     }
 
     /// The lines of the initial items, and what follows from them at the start, closed and in normal form. The error is want
     /// of memory, or `lost` where the problem has too many objects or items. `docs/REASONS.md` has the reasons.
     pub fn start(alloc: Global, p: &'p Problem<'_>) -> Result<Lines<'p>, AllocError> {
-        let table = Table::empty(alloc, &p.signature)?;
+        let table = LineTable::empty(alloc, &p.signature)?;
         let moments = Vec::new(alloc);
         let mut lines = Lines { table, moments };
         lines.begin(alloc, p)?;

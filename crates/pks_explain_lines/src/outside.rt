@@ -1,8 +1,8 @@
 //! Lines for the denials of atoms that a region shuts out.
 
 use crate::showing::found;
-use crate::table::Table;
-use pks_explain_moment::{Link, Moment, are_plainly_apart, denied, lost, push, with_fixed};
+use crate::table::LineTable;
+use pks_explain_moment::{LiteralRewrite, MomentLines, are_plainly_apart, denied, lost, push, with_fixed};
 use pks_lcw::Entry;
 use pks_proof_lines::Reason;
 use pks_terms::literal::{Atom, Literal, PredAtom};
@@ -20,8 +20,8 @@ fn shared(region: &Entry, line: u32) -> Result<Shutting, AllocError> {
     Ok(Shutting { region, line })
 }
 
-impl Table<'_> {
-    fn region_around(&self, at: &Moment, a: &PredAtom) -> Result<Shutting, AllocError> {
+impl LineTable<'_> {
+    fn region_around(&self, at: &MomentLines, a: &PredAtom) -> Result<Shutting, AllocError> {
         match at.shutting_out(self.signature, a) {
             Some((region, line)) => shared(region, line),
             None => Err(lost()),
@@ -32,7 +32,7 @@ impl Table<'_> {
     fn show_difference(
         &mut self,
         alloc: Global,
-        at: &mut Moment,
+        at: &mut MomentLines,
         a: &PredAtom,
         b: &PredAtom,
     ) -> Result<u32, AllocError> {
@@ -47,7 +47,7 @@ impl Table<'_> {
     fn put_difference(
         &mut self,
         alloc: Global,
-        at: &mut Moment,
+        at: &mut MomentLines,
         a: &PredAtom,
         b: &PredAtom,
         to: &mut Vec<u32>,
@@ -63,7 +63,7 @@ impl Table<'_> {
     fn put_differences(
         &mut self,
         alloc: Global,
-        at: &mut Moment,
+        at: &mut MomentLines,
         a: &PredAtom,
         others: &[PredAtom],
         to: &mut Vec<u32>,
@@ -78,7 +78,7 @@ impl Table<'_> {
     fn show_closed(
         &mut self,
         alloc: Global,
-        at: &mut Moment,
+        at: &mut MomentLines,
         fixed: &PredAtom,
         by: &Shutting,
     ) -> Result<(), AllocError> {
@@ -93,8 +93,8 @@ impl Table<'_> {
     fn show_by_region(
         &mut self,
         alloc: Global,
-        at: &mut Moment,
-        chain: &[Link],
+        at: &mut MomentLines,
+        chain: &[LiteralRewrite],
         fixed: &PredAtom,
         by: &Shutting,
     ) -> Result<u32, AllocError> {
@@ -109,7 +109,7 @@ impl Table<'_> {
     fn show_around(
         &mut self,
         alloc: Global,
-        at: &mut Moment,
+        at: &mut MomentLines,
         a: &PredAtom,
         by: &Shutting,
     ) -> Result<u32, AllocError> {
@@ -121,7 +121,7 @@ impl Table<'_> {
     fn show_denied(
         &mut self,
         alloc: Global,
-        at: &mut Moment,
+        at: &mut MomentLines,
         a: &PredAtom,
     ) -> Result<u32, AllocError> {
         let by = self.region_around(at, a)?;
@@ -133,7 +133,7 @@ impl Table<'_> {
     pub(crate) fn show_outside(
         &mut self,
         alloc: Global,
-        at: &mut Moment,
+        at: &mut MomentLines,
         l: &Literal,
     ) -> Result<u32, AllocError> {
         if l.positive {

@@ -2,7 +2,7 @@
 
 use crate::citing::join_made;
 use crate::regions::clear_region;
-use pks_explain_effects::{Step, Tests, literal_made, target_added};
+use pks_explain_effects::{ActionStep, Tests, literal_made, target_added};
 use pks_explain_lines::{Lines, lost};
 use pks_query::databases::Db;
 use pks_terms::literal::Literal;
@@ -26,7 +26,7 @@ fn are_answered(s: &Signature, d: &Db, i: &Instance, queries: &[Query]) -> bool 
 fn add_target(
     alloc: Global,
     lines: &mut Lines<'_>,
-    step: &Step,
+    step: &ActionStep,
     written: &Option<Target>,
 ) -> Result<(), AllocError> {
     let Some(written) = written else {
@@ -42,7 +42,7 @@ fn add_target(
 fn put_made(
     alloc: Global,
     lines: &mut Lines<'_>,
-    step: &Step,
+    step: &ActionStep,
     target: &Target,
     by: &[Literal],
 ) -> Result<(), AllocError> {
@@ -56,7 +56,7 @@ fn put_made(
 fn add_item(
     alloc: Global,
     lines: &mut Lines<'_>,
-    step: &Step,
+    step: &ActionStep,
     schema: &Schema<'_>,
     add: &Adds,
     i: &Instance,
@@ -75,7 +75,7 @@ pub(crate) fn add_all(
     lines: &mut Lines<'_>,
     d: &Db,
     i: &Instance,
-    step: &Step,
+    step: &ActionStep,
 ) -> Result<(), AllocError> {
     let Some(schema) = p.schemas.as_slice().get(usize::from(i.act.0)) else {
         return Err(lost());
