@@ -9,7 +9,7 @@ ghost use Rattle.pks_plan.specs.TreeViews.{tree_of};
 ghost use Rattle.pks_explain.specs.EntryViews.{entry_of, entries_of, owed_of};
 ghost use Rattle.pks_explain.specs.Accepted.{IsProved, AreProved};
 
-use crate::entries::{ProvedLiteral, Explained, Owed};
+use crate::entries::{Explained, Owed, ProvedLiteral};
 use crate::owing::owed;
 use crate::proving::prove_owed;
 use pks_explain_lines::lost;

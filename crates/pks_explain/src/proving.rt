@@ -10,7 +10,7 @@ ghost use Rattle.pks_terms.specs.ChoiceViews.{choice_of, side_of};
 ghost use Rattle.pks_history_replay.specs.Walking.{state_of, IsReady, AreReady, IsSideReady};
 
 use crate::owing::{literals_aimed, needed_before};
-use pks_explain_replay::{SavedReplay, Replay};
+use pks_explain_replay::{Replay, SavedReplay};
 use pks_history::histories::History;
 use pks_history_replay::{State, after, history, start, taking};
 use pks_plan::{CaseChain, Tree};

@@ -1,7 +1,7 @@
 //! Effects that are barred from doing something, with the literals on which that rests. `docs/REASONS.md` says when.
 
 use crate::doing::{EffectChange, is_alike, values_differ, writing};
-use crate::firing::{Firing, ActionStep};
+use crate::firing::{ActionStep, Firing};
 use crate::parts::Parts;
 use pks_explain_lines::{Lines, unequal};
 use pks_terms::literal::Literal;
@@ -117,7 +117,13 @@ impl Tests<'_, '_> {
     }
 
     /// What bars the effect, which does the one, from doing the other with whatever value.
-    fn bar_place(&self, firing: &Firing, own: &EffectChange, other: &EffectChange, noted: &[Literal]) -> Bar {
+    fn bar_place(
+        &self,
+        firing: &Firing,
+        own: &EffectChange,
+        other: &EffectChange,
+        noted: &[Literal],
+    ) -> Bar {
         if !is_alike(own, other) || some_two_objects(&own.parts, &other.parts) {
             return Bar::Never;
         }

@@ -75,7 +75,11 @@ fn denied(
 }
 
 /// The first of the literals that holds, and its place.
-fn first_holding(at: &MomentLines, s: &Signature, literals: &[Literal]) -> Option<(usize, Literal)> {
+fn first_holding(
+    at: &MomentLines,
+    s: &Signature,
+    literals: &[Literal],
+) -> Option<(usize, Literal)> {
     for (k, l) in literals.iter().enumerate() {
         if at.holds(s, l) {
             return Some((k, *l));
@@ -113,7 +117,12 @@ impl LineTable<'_> {
         self.join_by(alloc, at, &l, Reason::Range, &[], need.as_slice())
     }
 
-    fn close_range(&mut self, alloc: Global, at: &mut MomentLines, t: &Term) -> Result<(), AllocError> {
+    fn close_range(
+        &mut self,
+        alloc: Global,
+        at: &mut MomentLines,
+        t: &Term,
+    ) -> Result<(), AllocError> {
         if at.has_value(t) {
             return Ok(());
         }
@@ -206,7 +215,12 @@ impl LineTable<'_> {
         }
     }
 
-    fn close_group(&mut self, alloc: Global, at: &mut MomentLines, line: u32) -> Result<(), AllocError> {
+    fn close_group(
+        &mut self,
+        alloc: Global,
+        at: &mut MomentLines,
+        line: u32,
+    ) -> Result<(), AllocError> {
         let group = self.group_of(line)?;
         let literals = group.as_slice();
         self.close_members(alloc, at, Members { literals, line })

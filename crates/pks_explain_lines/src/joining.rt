@@ -107,7 +107,12 @@ impl LineTable<'_> {
     }
 
     /// Gives the literal a line, unless it has one or is evident.
-    fn give_line(&mut self, alloc: Global, at: &mut MomentLines, x: &Joining) -> Result<(), AllocError> {
+    fn give_line(
+        &mut self,
+        alloc: Global,
+        at: &mut MomentLines,
+        x: &Joining,
+    ) -> Result<(), AllocError> {
         if at.line_of(&x.literal).is_some() || is_evident(self.signature, &x.literal) {
             return Ok(());
         }

@@ -2,7 +2,9 @@
 
 use crate::showing::found;
 use crate::table::LineTable;
-use pks_explain_moment::{LiteralRewrite, MomentLines, are_plainly_apart, denied, lost, push, with_fixed};
+use pks_explain_moment::{
+    LiteralRewrite, MomentLines, are_plainly_apart, denied, lost, push, with_fixed,
+};
 use pks_lcw::Entry;
 use pks_proof_lines::Reason;
 use pks_terms::literal::{Atom, Literal, PredAtom};

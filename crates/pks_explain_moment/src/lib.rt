@@ -16,7 +16,7 @@ pub use coming::Swap;
 pub use holding::is_evident;
 pub use index::OpenItem;
 pub use moment::{MomentLines, lost};
-pub use normalizing::{NormalForm, LiteralRewrite};
+pub use normalizing::{LiteralRewrite, NormalForm};
 pub use placing::{equal, unequal};
 pub use pushing::push;
 pub use tidying::{GroupStep, RegionStep};

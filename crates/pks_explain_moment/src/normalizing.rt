@@ -217,7 +217,11 @@ impl MomentLines {
     }
 
     /// The literal, and what it becomes on its way to its normal form. The error is want of memory.
-    pub fn chain_down(&self, alloc: Global, l: &Literal) -> Result<Vec<LiteralRewrite>, AllocError> {
+    pub fn chain_down(
+        &self,
+        alloc: Global,
+        l: &Literal,
+    ) -> Result<Vec<LiteralRewrite>, AllocError> {
         let mut chain = Vec::new(alloc);
         push(&mut chain, first_of_chain(l))?;
         self.put_links(l, &mut chain)?;

@@ -56,7 +56,11 @@ pub fn are_plainly_apart(a: &PredAtom, b: &PredAtom) -> bool {
 }
 
 /// The steps backwards: what was there before each, and its equation, the last step first.
-fn backwards(alloc: Global, t: &Term, steps: &[TermRewrite]) -> Result<Vec<TermRewrite>, AllocError> {
+fn backwards(
+    alloc: Global,
+    t: &Term,
+    steps: &[TermRewrite],
+) -> Result<Vec<TermRewrite>, AllocError> {
     let mut before = *t;
     let mut back = Vec::new(alloc);
     for step in steps {
@@ -112,7 +116,12 @@ impl MomentLines {
     }
 
     /// The steps from the one term to the other: down to the normal form of both, and up from it.
-    fn steps_to(&self, alloc: Global, t: &Term, end: &Term) -> Result<Vec<TermRewrite>, AllocError> {
+    fn steps_to(
+        &self,
+        alloc: Global,
+        t: &Term,
+        end: &Term,
+    ) -> Result<Vec<TermRewrite>, AllocError> {
         let mut steps = self.steps(alloc, t)?;
         self.put_up(alloc, end, &mut steps)?;
         Ok(steps)

@@ -58,7 +58,12 @@ fn carried(
 }
 
 /// The known literals take the way.
-fn carry(alloc: Global, lines: &mut Lines<'_>, step: &ActionStep, way: &Way) -> Result<(), AllocError> {
+fn carry(
+    alloc: Global,
+    lines: &mut Lines<'_>,
+    step: &ActionStep,
+    way: &Way,
+) -> Result<(), AllocError> {
     let known = lines.known(alloc, way.from)?;
     let carried = carried(alloc, lines, step, way, known.as_slice())?;
     lines.join_all(alloc, way.to, carried)

@@ -3,7 +3,7 @@
 use crate::citing::put;
 use crate::numbering::rests_of;
 use crate::replaying::Replay;
-use pks_explain_effects::{Firing, ActionStep, TargetForm, Tests, step_of};
+use pks_explain_effects::{ActionStep, Firing, TargetForm, Tests, step_of};
 use pks_explain_lines::{Joining, Lines, lost};
 use pks_proof_lines::{Fact, Proof, Reason, Turn};
 use pks_terms::literal::Literal;
@@ -24,7 +24,12 @@ fn measured(alloc: Global, lines: &Lines<'_>, number: u32) -> Result<MeasuredLin
 }
 
 /// The line by which the literal, which holds at the moment, is shown, and on how many it rests.
-fn shown(alloc: Global, lines: &mut Lines<'_>, m: usize, l: &Literal) -> Result<MeasuredLine, AllocError> {
+fn shown(
+    alloc: Global,
+    lines: &mut Lines<'_>,
+    m: usize,
+    l: &Literal,
+) -> Result<MeasuredLine, AllocError> {
     let number = lines.show(alloc, m, l)?;
     measured(alloc, lines, number)
 }

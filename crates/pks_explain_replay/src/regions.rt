@@ -1,7 +1,7 @@
 //! Closed regions at an action: those that it keeps, with what comes into them, and those that it clears.
 
 use crate::citing::cite;
-use pks_explain_effects::{Staying, ActionStep, Tests};
+use pks_explain_effects::{ActionStep, Staying, Tests};
 use pks_explain_lines::{Lines, lost};
 use pks_lcw::{AtomSet, Entry};
 use pks_proof_lines::{Fact, Reason};

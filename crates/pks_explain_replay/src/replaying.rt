@@ -1,6 +1,6 @@
 //! A path, with the lines of what is known along it.
 
-use pks_explain_lines::{SavedLines, Lines, lost};
+use pks_explain_lines::{Lines, SavedLines, lost};
 use pks_proof_lines::Turn;
 use pks_terms::problem::Problem;
 use pks_terms::schema::Instance;

@@ -2,7 +2,7 @@
 
 use crate::citing::{cite, join_made};
 use crate::keeping::{bring_back, keep_literals};
-use pks_explain_effects::{Firing, ActionStep, TargetForm, Tests, step_of};
+use pks_explain_effects::{ActionStep, Firing, TargetForm, Tests, step_of};
 use pks_explain_lines::{Lines, lost};
 use pks_proof_lines::Reason;
 use pks_terms::literal::Literal;
@@ -146,7 +146,11 @@ fn settle_at(
 }
 
 /// The two moments of the step, which are closed again.
-fn settle_closed(alloc: Global, lines: &mut Lines<'_>, step: &ActionStep) -> Result<(), AllocError> {
+fn settle_closed(
+    alloc: Global,
+    lines: &mut Lines<'_>,
+    step: &ActionStep,
+) -> Result<(), AllocError> {
     settle_step(alloc, lines, step)?;
     lines.close(alloc, step.before)?;
     lines.close(alloc, step.after)
