@@ -12,7 +12,7 @@ ghost use Rattle.pks_explain.specs.Accepted.{IsProved, AreProved};
 use crate::entries::{Explained, Owed, ProvedLiteral};
 use crate::owing::owed;
 use crate::proving::prove_owed;
-use pks_explain_lines::lost;
+use pks_explain_lines::missing_as_memory;
 use pks_plan::Tree;
 use pks_proof::accepts;
 use pks_proof_lines::Proof;
@@ -26,7 +26,7 @@ fn tested(p: &Problem<'_>, one: Owed, proof: Proof) -> Result<ProvedLiteral, All
     ensures { IfOk result (λ e. IsProved (problem_of p.now) (owed_of one) (entry_of e)) }
 {
     if !accepts(p, &one.path, &proof, &one.literal) {
-        return Err(lost());
+        return Err(missing_as_memory());
     }
     Ok(ProvedLiteral {
         path: one.path,
@@ -48,7 +48,7 @@ fn all_tested(
     let mut entries = Vec::new(alloc);
     let mut left = proofs.into_iter();
     for one in all {
-        let proof = left.next().ok_or(lost())?;
+        let proof = left.next().ok_or(missing_as_memory())?;
         entries.push(tested(p, one, proof)?)?;
     }
     Ok(entries)

@@ -1,6 +1,6 @@
 //! The effects of an action that is done at a moment.
 
-use pks_explain_lines::{Lines, lost};
+use pks_explain_lines::{Lines, missing_as_memory};
 use pks_progress_interference::effects::effects_of;
 use pks_terms::literal::Literal;
 use pks_terms::problem::Problem;
@@ -82,7 +82,7 @@ pub fn step_of(
     i: &Instance,
 ) -> Result<ActionStep, AllocError> {
     let Some(after) = before.checked_add(1) else {
-        return Err(lost());
+        return Err(missing_as_memory());
     };
     let firings = firings(alloc, lines, before, i, effects_of(p, i).written)?;
     Ok(ActionStep {

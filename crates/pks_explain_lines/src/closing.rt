@@ -1,7 +1,7 @@
 //! The closing of a moment by groups and ranges. `docs/RULES.md` has the rules.
 
 use crate::table::LineTable;
-use pks_explain_moment::{MomentLines, OpenItem, equal, lost, push, unequal};
+use pks_explain_moment::{MomentLines, OpenItem, equal, missing_as_memory, push, unequal};
 use pks_proof_lines::{Fact, Reason};
 use pks_terms::group::Group;
 use pks_terms::ids::ObjId;
@@ -92,7 +92,7 @@ fn first_holding(
 fn group_in(fact: &Fact) -> Result<Group, AllocError> {
     match fact {
         Fact::Kx(group) => group.copied(),
-        Fact::Lit(_) | Fact::Lcw(_) => Err(lost()),
+        Fact::Lit(_) | Fact::Lcw(_) => Err(missing_as_memory()),
     }
 }
 
@@ -136,7 +136,7 @@ impl LineTable<'_> {
     fn group_of(&self, line: u32) -> Result<Group, AllocError> {
         match self.line(line) {
             Some(line) => group_in(&line.fact),
-            None => Err(lost()),
+            None => Err(missing_as_memory()),
         }
     }
 
@@ -235,6 +235,6 @@ impl LineTable<'_> {
                 OpenItem::Nothing => return Ok(()),
             }
         }
-        Err(lost())
+        Err(missing_as_memory())
     }
 }

@@ -1,7 +1,7 @@
 //! Literals that come into the database of a moment.
 
 use crate::table::LineTable;
-use pks_explain_moment::{MomentLines, Swap, is_evident, lost, push};
+use pks_explain_moment::{MomentLines, Swap, is_evident, missing_as_memory, push};
 use pks_proof_lines::Reason;
 use pks_terms::literal::Literal;
 use std::alloc::{AllocError, Global};
@@ -89,7 +89,7 @@ impl LineTable<'_> {
                 None => return Ok(()),
             }
         }
-        Err(lost())
+        Err(missing_as_memory())
     }
 
     /// The literal comes in, with all that the known values make of it.

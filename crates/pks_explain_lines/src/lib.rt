@@ -15,4 +15,4 @@ mod tidying;
 pub use going::SavedLines;
 pub use joining::Joining;
 pub use lines::Lines;
-pub use pks_explain_moment::{NormalForm, equal, lost, unequal};
+pub use pks_explain_moment::{NormalForm, equal, missing_as_memory, unequal};

@@ -3,7 +3,7 @@
 use crate::showing::found;
 use crate::table::LineTable;
 use pks_explain_moment::{
-    LiteralRewrite, MomentLines, are_plainly_apart, denied, lost, push, with_fixed,
+    LiteralRewrite, MomentLines, are_plainly_apart, denied, missing_as_memory, push, with_fixed,
 };
 use pks_lcw::Entry;
 use pks_proof_lines::Reason;
@@ -26,7 +26,7 @@ impl LineTable<'_> {
     fn region_around(&self, at: &MomentLines, a: &PredAtom) -> Result<Shutting, AllocError> {
         match at.shutting_out(self.signature, a) {
             Some((region, line)) => shared(region, line),
-            None => Err(lost()),
+            None => Err(missing_as_memory()),
         }
     }
 
@@ -39,7 +39,7 @@ impl LineTable<'_> {
         b: &PredAtom,
     ) -> Result<u32, AllocError> {
         let Some(l) = at.difference(self.signature, a, b) else {
-            return Err(lost());
+            return Err(missing_as_memory());
         };
         let line = self.show_plainly(alloc, at, &l)?;
         found(line)
@@ -139,11 +139,11 @@ impl LineTable<'_> {
         l: &Literal,
     ) -> Result<u32, AllocError> {
         if l.positive {
-            return Err(lost());
+            return Err(missing_as_memory());
         }
         match &l.atom {
             Atom::Pred(a) => self.show_denied(alloc, at, a),
-            Atom::Eq { .. } => Err(lost()),
+            Atom::Eq { .. } => Err(missing_as_memory()),
         }
     }
 }

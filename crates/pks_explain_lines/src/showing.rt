@@ -1,7 +1,7 @@
 //! Lines for literals that hold.
 
 use crate::table::LineTable;
-use pks_explain_moment::{LiteralRewrite, MomentLines, is_evident, lost, push};
+use pks_explain_moment::{LiteralRewrite, MomentLines, is_evident, missing_as_memory, push};
 use pks_proof_lines::Reason;
 use pks_terms::literal::Literal;
 use std::alloc::{AllocError, Global};
@@ -126,10 +126,10 @@ impl LineTable<'_> {
     }
 }
 
-/// The line, or `lost` where there is none.
+/// The line, or `missing_as_memory` where there is none.
 pub(crate) fn found(line: Option<u32>) -> Result<u32, AllocError> {
     match line {
         Some(line) => Ok(line),
-        None => Err(lost()),
+        None => Err(missing_as_memory()),
     }
 }

@@ -2,7 +2,7 @@
 
 use crate::joining::Joining;
 use crate::table::LineTable;
-use pks_explain_moment::{MomentLines, lost, push};
+use pks_explain_moment::{MomentLines, missing_as_memory, push};
 use pks_lcw::{AtomSet, Entry, Lcw};
 use pks_proof_lines::{Fact, Reason};
 use pks_query_initial::initial::initial;
@@ -19,7 +19,7 @@ const MOST_OBJECTS: usize = 65_536;
 fn ranges_of(alloc: Global, s: &Signature) -> Result<Vec<Vec<ObjId>>, AllocError> {
     let mut ranges = Vec::new(alloc);
     if s.objects.len() > MOST_OBJECTS {
-        return Err(lost());
+        return Err(missing_as_memory());
     }
     for shape in s.functions.as_slice() {
         let objects = s.objects_of(alloc, shape.result)?;
@@ -36,7 +36,7 @@ fn region_of(regions: &Lcw, pattern: &Pattern) -> Result<Entry, AllocError> {
     };
     match regions.first_from(&least) {
         Some(region) if region.pattern == *pattern => region.share(),
-        _ => Err(lost()),
+        _ => Err(missing_as_memory()),
     }
 }
 

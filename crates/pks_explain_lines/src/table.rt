@@ -1,6 +1,6 @@
 //! The table of lines.
 
-use pks_explain_moment::{MomentLines, lost, push};
+use pks_explain_moment::{MomentLines, missing_as_memory, push};
 use pks_proof_lines::{Fact, Line, Reason};
 use pks_terms::ids::ObjId;
 use pks_terms::literal::Literal;
@@ -60,7 +60,7 @@ impl LineTable<'_> {
     ) -> Result<u32, AllocError> {
         let before = self.lines.len();
         if before >= MOST_LINES || m >= MOST_LINES {
-            return Err(lost());
+            return Err(missing_as_memory());
         }
         let line = Line {
             moment: m as u32,

@@ -1,7 +1,7 @@
 //! Groups and regions in normal form. `docs/RULES.md` has the rule.
 
 use crate::table::LineTable;
-use pks_explain_moment::{GroupStep, MomentLines, RegionStep, lost};
+use pks_explain_moment::{GroupStep, MomentLines, RegionStep, missing_as_memory};
 use pks_lcw::Entry;
 use pks_proof_lines::Fact;
 use pks_terms::group::Group;
@@ -84,7 +84,7 @@ impl LineTable<'_> {
                 None => return Ok(now),
             }
         }
-        Err(lost())
+        Err(missing_as_memory())
     }
 
     /// The normal form of the region, by a line for each step.
@@ -101,7 +101,7 @@ impl LineTable<'_> {
                 None => return Ok(now),
             }
         }
-        Err(lost())
+        Err(missing_as_memory())
     }
 
     /// The group in normal form comes to stand in place of this one, of which this is the first step.

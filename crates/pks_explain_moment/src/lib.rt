@@ -15,7 +15,7 @@ mod ways;
 pub use coming::Swap;
 pub use holding::is_evident;
 pub use index::OpenItem;
-pub use moment::{MomentLines, lost};
+pub use moment::{MomentLines, missing_as_memory};
 pub use normalizing::{LiteralRewrite, NormalForm};
 pub use placing::{equal, unequal};
 pub use pushing::push;

@@ -62,8 +62,8 @@ pub struct MomentLines {
     pub(crate) index: Option<LineIndex>,
 }
 
-/// What is answered where a line that should be there isn't found. No file is known for which that is so.
-pub fn lost() -> AllocError {
+/// Want of memory, answered where a line that should be there is missing. No file is known for which that is so.
+pub fn missing_as_memory() -> AllocError {
     AllocError
 }
 

@@ -3,7 +3,7 @@
 use crate::citing::join_made;
 use crate::regions::clear_region;
 use pks_explain_effects::{ActionStep, Tests, literal_made, target_added};
-use pks_explain_lines::{Lines, lost};
+use pks_explain_lines::{Lines, missing_as_memory};
 use pks_query::databases::Db;
 use pks_terms::literal::Literal;
 use pks_terms::problem::{Problem, Signature};
@@ -48,7 +48,7 @@ fn put_made(
 ) -> Result<(), AllocError> {
     match literal_made(target) {
         Some(l) => join_made(alloc, lines, step, &l, by),
-        None => Err(lost()),
+        None => Err(missing_as_memory()),
     }
 }
 
@@ -78,7 +78,7 @@ pub(crate) fn add_all(
     step: &ActionStep,
 ) -> Result<(), AllocError> {
     let Some(schema) = p.schemas.as_slice().get(usize::from(i.act.0)) else {
-        return Err(lost());
+        return Err(missing_as_memory());
     };
     for add in schema.adds.as_slice() {
         if are_answered(&p.signature, d, i, front(&add.given, add.n)) {

@@ -4,7 +4,7 @@ use crate::citing::put;
 use crate::numbering::rests_of;
 use crate::replaying::Replay;
 use pks_explain_effects::{ActionStep, Firing, TargetForm, Tests, step_of};
-use pks_explain_lines::{Joining, Lines, lost};
+use pks_explain_lines::{Joining, Lines, missing_as_memory};
 use pks_proof_lines::{Fact, Proof, Reason, Turn};
 use pks_terms::literal::Literal;
 use pks_terms::schema::Instance;
@@ -168,10 +168,10 @@ impl Replay<'_, '_> {
     /// The step that leads to the moment.
     fn step_to(&self, alloc: Global, m: usize) -> Result<ActionStep, AllocError> {
         let Some(before) = m.checked_sub(1) else {
-            return Err(lost());
+            return Err(missing_as_memory());
         };
         let Some(i) = deed(self.path.as_slice(), before) else {
-            return Err(lost());
+            return Err(missing_as_memory());
         };
         step_of(alloc, self.problem, &self.lines, before, &i)
     }

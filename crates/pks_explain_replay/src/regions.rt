@@ -2,7 +2,7 @@
 
 use crate::citing::cite;
 use pks_explain_effects::{ActionStep, Staying, Tests};
-use pks_explain_lines::{Lines, lost};
+use pks_explain_lines::{Lines, missing_as_memory};
 use pks_lcw::{AtomSet, Entry};
 use pks_proof_lines::{Fact, Reason};
 use pks_terms::literal::{Literal, Pattern, PredAtom};
@@ -118,7 +118,7 @@ fn put_cleared(
     by: &[Literal],
 ) -> Result<(), AllocError> {
     let Target::Clear(pattern) = cleared else {
-        return Err(lost());
+        return Err(missing_as_memory());
     };
     let e = Entry {
         pattern: *pattern,

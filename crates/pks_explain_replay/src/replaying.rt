@@ -1,6 +1,6 @@
 //! A path, with the lines of what is known along it.
 
-use pks_explain_lines::{Lines, SavedLines, lost};
+use pks_explain_lines::{Lines, SavedLines, missing_as_memory};
 use pks_proof_lines::Turn;
 use pks_terms::problem::Problem;
 use pks_terms::schema::Instance;
@@ -57,7 +57,7 @@ impl<'p, 's> Replay<'p, 's> {
     pub(crate) fn last_moment(&self) -> Result<usize, AllocError> {
         match self.lines.moments().checked_sub(1) {
             Some(m) => Ok(m),
-            None => Err(lost()),
+            None => Err(missing_as_memory()),
         }
     }
 

@@ -3,7 +3,7 @@
 use crate::citing::{cite, join_made};
 use crate::keeping::{bring_back, keep_literals};
 use pks_explain_effects::{ActionStep, Firing, TargetForm, Tests, step_of};
-use pks_explain_lines::{Lines, lost};
+use pks_explain_lines::{Lines, missing_as_memory};
 use pks_proof_lines::Reason;
 use pks_terms::literal::Literal;
 use pks_terms::problem::Problem;
@@ -139,7 +139,7 @@ fn settle_at(
     m: usize,
 ) -> Result<(), AllocError> {
     let Some(i) = deeds.get(m) else {
-        return Err(lost());
+        return Err(missing_as_memory());
     };
     let step = step_of(alloc, p, lines, m, i)?;
     settle_closed(alloc, lines, &step)
