@@ -12,7 +12,7 @@ pub struct SavedLines {
 }
 
 /// The moments again, whose memory is shared.
-fn shared(alloc: Global, moments: &[MomentLines]) -> Result<Vec<MomentLines>, AllocError> {
+fn shared_moments(alloc: Global, moments: &[MomentLines]) -> Result<Vec<MomentLines>, AllocError> {
     let mut all = Vec::new(alloc);
     for moment in moments {
         let own = moment.share()?;
@@ -25,7 +25,7 @@ impl Lines<'_> {
     /// What the table is now. Its memory is shared but for the lines, of which the number alone is kept. The error is want of
     /// memory.
     pub fn keep(&self, alloc: Global) -> Result<SavedLines, AllocError> {
-        let moments = shared(alloc, self.moments.as_slice())?;
+        let moments = shared_moments(alloc, self.moments.as_slice())?;
         Ok(SavedLines {
             lines: self.table.lines.len(),
             moments,
@@ -35,7 +35,7 @@ impl Lines<'_> {
     /// The table as it was when this was kept: later lines are dropped, and the moments are what they were. The error is want
     /// of memory.
     pub fn go_back(&mut self, alloc: Global, kept: &SavedLines) -> Result<(), AllocError> {
-        let moments = shared(alloc, kept.moments.as_slice())?;
+        let moments = shared_moments(alloc, kept.moments.as_slice())?;
         self.moments = moments;
         self.table.lines.truncate(kept.lines);
         Ok(())

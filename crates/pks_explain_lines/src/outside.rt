@@ -17,7 +17,7 @@ struct Shutting {
     line: u32,
 }
 
-fn shared(region: &Entry, line: u32) -> Result<Shutting, AllocError> {
+fn shutting_by(region: &Entry, line: u32) -> Result<Shutting, AllocError> {
     let region = region.share()?;
     Ok(Shutting { region, line })
 }
@@ -25,7 +25,7 @@ fn shared(region: &Entry, line: u32) -> Result<Shutting, AllocError> {
 impl LineTable<'_> {
     fn region_around(&self, at: &MomentLines, a: &PredAtom) -> Result<Shutting, AllocError> {
         match at.shutting_out(self.signature, a) {
-            Some((region, line)) => shared(region, line),
+            Some((region, line)) => shutting_by(region, line),
             None => Err(missing_as_memory()),
         }
     }
