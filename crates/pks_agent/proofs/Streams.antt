@@ -8,9 +8,9 @@ use Rattle.pks_io.specs.declared.read.ReadEnd.{ReadEnd}
 use Rattle.pks_io.specs.declared.read.ReadEnd.TheVariants as read_end
 use Rattle.pks_terms.specs.Printed.{Text}
 use Rattle.pks_terms.specs.Talk.{lines_of, file_text}
-use Rattle.pks_agent.specs.declared.ahead.Ahead.{Ahead}
-use Rattle.pks_agent.specs.declared.files.Found.{Found}
-use Rattle.pks_agent.specs.declared.files.Found.TheVariants.{Byte, Dot, Stop, End}
+use Rattle.pks_agent.specs.declared.ahead.ReadAhead.{ReadAhead}
+use Rattle.pks_agent.specs.declared.files.Scanned.{Scanned}
+use Rattle.pks_agent.specs.declared.files.Scanned.TheVariants.{Byte, Dot, Stop, End}
 use Rattle.pks_agent.specs.declared.peers.Heard.{Heard}
 use Rattle.pks_agent.specs.declared.peers.Heard.TheVariants as heard
 use Rattle.pks_agent.specs.declared.peers.PeerFault.{PeerFault}
@@ -121,7 +121,7 @@ found_byte begins b None new e h = tt
 found_byte begins b (Some all) None e h = absurd h
 found_byte begins b (Some all) (Some rest) e h = ap (parts_from begins) h ∙ ap (λ (t : Bool). cond t (parts_at_stop rest) (before (b ∷ []) (parts_from (nat_eq b 10) rest))) e
 
-pub found_stop : (begins : Bool) (b : ℕ) (old mid new : Option Text) (found : Found) → (begins && nat_eq b 46) ≡ true → Consumes old mid (b ∷ []) → FindsStop mid new found → Finds begins old new found
+pub found_stop : (begins : Bool) (b : ℕ) (old mid new : Option Text) (found : Scanned) → (begins && nat_eq b 46) ≡ true → Consumes old mid (b ∷ []) → FindsStop mid new found → Finds begins old new found
 found_stop begins b None mid new found e h f = tt
 found_stop begins b (Some all) None new found e h f = absurd h
 found_stop begins b (Some all) (Some more) None found e h f = absurd f
@@ -130,7 +130,7 @@ found_stop begins b (Some all) (Some more) (Some rest) found e h f = by_kind fou
     stops : parts_from begins all ≡ parts_at_stop more
     stops = ap (parts_from begins) h ∙ ap (λ (t : Bool). cond t (parts_at_stop more) (before (b ∷ []) (parts_from (nat_eq b 10) more))) e
 
-    by_kind : (found : Found) → FindsStop (Some more) (Some rest) found → Finds begins (Some all) (Some rest) found
+    by_kind : (found : Scanned) → FindsStop (Some more) (Some rest) found → Finds begins (Some all) (Some rest) found
     by_kind (Byte c) f = absurd f
     by_kind (Dot c) f = stops ∙ f
     by_kind Stop f = stops ∙ f
@@ -160,19 +160,19 @@ read_first (Some all) = refl
 behind : (text bytes : Text) (parts : Text × Option Text) → before text (before bytes parts) ≡ before (text ++ bytes) parts
 behind text bytes parts = ap (λ (l : Text). (l, parts.1)) (sym (append_assoc text bytes parts.0))
 
-pub read_more : (all now new : Option Text) (text text' : Text) (begins next : Bool) (found : Found) → HasRead all now text begins → Finds begins now new found → Appended text text' found (Ok (Some next)) → HasRead all new text' next
+pub read_more : (all now new : Option Text) (text text' : Text) (begins next : Bool) (found : Scanned) → HasRead all now text begins → Finds begins now new found → Appended text text' found (Ok (Some next)) → HasRead all new text' next
 read_more None now new text text' begins next found h f a = tt
 read_more (Some all) None new text text' begins next found h f a = absurd h
 read_more (Some all) (Some mid) None text text' begins next found h f a = absurd f
 read_more (Some all) (Some mid) (Some rest) text text' begins next found h f a = by_kind found f a
   where
-    by_kind : (found : Found) → Finds begins (Some mid) (Some rest) found → Appended text text' found (Ok (Some next)) → HasRead (Some all) (Some rest) text' next
+    by_kind : (found : Scanned) → Finds begins (Some mid) (Some rest) found → Appended text text' found (Ok (Some next)) → HasRead (Some all) (Some rest) text' next
     by_kind (Byte b) f a = h ∙ ap (before text) f ∙ behind text (b ∷ []) (parts_from (nat_eq b 10) rest) ∙ ap₂ (λ t u. before t (parts_from u rest)) (sym a.0) (sym a.1)
     by_kind (Dot b) f a = h ∙ ap (before text) f ∙ behind text (46 ∷ b ∷ []) (parts_from false rest) ∙ ap₂ (λ t u. before t (parts_from u rest)) (sym a.0) (sym a.1)
     by_kind Stop f a = absurd a
     by_kind End f a = absurd a
 
-pub read_whole : (all now new : Option Text) (text text' : Text) (begins : Bool) (found : Found) → HasRead all now text begins → Finds begins now new found → Appended text text' found (Ok None) → IfSome all (λ bytes. HasFile bytes new text')
+pub read_whole : (all now new : Option Text) (text text' : Text) (begins : Bool) (found : Scanned) → HasRead all now text begins → Finds begins now new found → Appended text text' found (Ok None) → IfSome all (λ bytes. HasFile bytes new text')
 read_whole None now new text text' begins found h f a = tt
 read_whole (Some all) None new text text' begins found h f a = absurd h
 read_whole (Some all) (Some mid) None text text' begins found h f a = absurd f
@@ -186,13 +186,13 @@ read_whole (Some all) (Some mid) (Some rest) text text' begins found h f a = by_
       answers = answers_are all ∙ ap (λ x. lines_of (or_none x.1)) parts ∙ ap lines_of is;
     }
 
-    by_kind : (found : Found) → Finds begins (Some mid) (Some rest) found → Appended text text' found (Ok None) → HasFile all (Some rest) text'
+    by_kind : (found : Scanned) → Finds begins (Some mid) (Some rest) found → Appended text text' found (Ok None) → HasFile all (Some rest) text'
     by_kind (Byte b) f a = absurd a
     by_kind (Dot b) f a = absurd a
     by_kind Stop f a = whole (Some rest) (h ∙ ap (before text) f) a refl
     by_kind End f a = whole None (h ∙ ap (before text) f.0) a (sym f.1)
 
-pub read_long : (all now new : Option Text) (text text' : Text) (begins : Bool) (found : Found) → HasRead all now text begins → Finds begins now new found → Appended text text' found (Err read_end.TooLong) → IfSome all (λ bytes. 262144 < length (file_text bytes))
+pub read_long : (all now new : Option Text) (text text' : Text) (begins : Bool) (found : Scanned) → HasRead all now text begins → Finds begins now new found → Appended text text' found (Err read_end.TooLong) → IfSome all (λ bytes. 262144 < length (file_text bytes))
 read_long None now new text text' begins found h f a = tt
 read_long (Some all) None new text text' begins found h f a = absurd h
 read_long (Some all) (Some mid) None text text' begins found h f a = absurd f
@@ -205,13 +205,13 @@ read_long (Some all) (Some mid) (Some rest) text text' begins found h f a = by_k
         let inner = length-append bytes parts.0 in
         omega (arith, is, outer, inner, long)
 
-    by_kind : (found : Found) → Finds begins (Some mid) (Some rest) found → Appended text text' found (Err read_end.TooLong) → 262144 < length (file_text all)
+    by_kind : (found : Scanned) → Finds begins (Some mid) (Some rest) found → Appended text text' found (Err read_end.TooLong) → 262144 < length (file_text all)
     by_kind (Byte b) f a = longer (b ∷ []) (parts_from (nat_eq b 10) rest) (h ∙ ap (before text) f) (omega (arith, a))
     by_kind (Dot b) f a = longer (46 ∷ b ∷ []) (parts_from false rest) (h ∙ ap (before text) f) (omega (arith, a))
     by_kind Stop f a = absurd a
     by_kind End f a = absurd a
 
-pub read_stopped : (all now new later : Option Text) (text text' : Text) (begins : Bool) (found : Found) (end : ReadEnd) → HasRead all now text begins → Finds begins now new found → Appended text text' found (Err end) → IfSome all (ReadsFile 262144 later (Err end))
+pub read_stopped : (all now new later : Option Text) (text text' : Text) (begins : Bool) (found : Scanned) (end : ReadEnd) → HasRead all now text begins → Finds begins now new found → Appended text text' found (Err end) → IfSome all (ReadsFile 262144 later (Err end))
 read_stopped all now new later text text' begins found read_end.TooLong h f a = read_long all now new text text' begins found h f a
 read_stopped None now new later text text' begins found read_end.Fault h f a = tt
 read_stopped (Some all) now new later text text' begins found read_end.Fault h f a = tt
@@ -219,7 +219,7 @@ read_stopped None now new later text text' begins found read_end.Memory h f a = 
 read_stopped (Some all) now new later text text' begins found read_end.Memory h f a = tt
 
 -- with nothing read ahead at first
-pub read_front : (none : Ahead) (left left' : Option Text) (result : Result (Vec ℕ Global) ReadEnd) (ahead : Ahead) (front : Result (Vec ℕ Global × Ahead) ReadEnd) → ahead_of none ≡ [] → IfSome (coming none left) (ReadsFile 262144 (coming ahead left') result)
+pub read_front : (none : ReadAhead) (left left' : Option Text) (result : Result (Vec ℕ Global) ReadEnd) (ahead : ReadAhead) (front : Result (Vec ℕ Global × ReadAhead) ReadEnd) → ahead_of none ≡ [] → IfSome (coming none left) (ReadsFile 262144 (coming ahead left') result)
     → ((text : Vec ℕ Global) → result ≡ Ok text → front ≡ Ok (text, ahead)) → ((end : ReadEnd) → result ≡ Err end → front ≡ Err end) → IfSome left (ReadsFront 262144 left' front)
 read_front none None left' result ahead front e told ok err = tt
 read_front none (Some all) left' (Ok text) ahead front e told ok err =

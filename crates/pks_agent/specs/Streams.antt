@@ -7,18 +7,18 @@ use Rattle.pks_io.specs.declared.read.ReadEnd.{ReadEnd}
 use Rattle.pks_io.specs.declared.read.ReadEnd.TheVariants as read_end
 use Rattle.pks_terms.specs.Printed.{Text}
 use Rattle.pks_terms.specs.Talk.{lines_of, file_text, answers_in}
-use Rattle.pks_agent.specs.declared.ahead.Ahead.{Ahead}
-use Rattle.pks_agent.specs.declared.files.Found.{Found}
-use Rattle.pks_agent.specs.declared.files.Found.TheVariants.{Byte, Dot, Stop, End}
+use Rattle.pks_agent.specs.declared.ahead.ReadAhead.{ReadAhead}
+use Rattle.pks_agent.specs.declared.files.Scanned.{Scanned}
+use Rattle.pks_agent.specs.declared.files.Scanned.TheVariants.{Byte, Dot, Stop, End}
 
 -- ---- bytes to come
 
 -- the bytes that were read and not taken
-abbrev pub ahead_of : Ahead → Text
+abbrev pub ahead_of : ReadAhead → Text
 ahead_of x = take (x.end - x.at) (drop x.at x.bytes)
 
 -- all that is to come: these, and then what the source has left
-abbrev pub coming : Ahead → Option Text → Option Text
+abbrev pub coming : ReadAhead → Option Text → Option Text
 coming x left = option_map (λ bytes. ahead_of x ++ bytes) left
 
 -- the next byte was taken, or there is none
@@ -45,7 +45,7 @@ abbrev mutual
   parts_at_stop (b ∷ bytes) = if nat_eq b 10 then ([], Some bytes) else before (46 ∷ b ∷ []) (parts_from false bytes)
 
 -- what stands next: a byte of the file, a full stop and a byte of its line, the line that is a full stop, or nothing
-abbrev pub Finds : Bool → Option Text → Option Text → Found → Type 0
+abbrev pub Finds : Bool → Option Text → Option Text → Scanned → Type 0
 Finds begins None new found = Unit {0}
 Finds begins (Some all) None found = ⊥
 Finds begins (Some all) (Some rest) (Byte b) = parts_from begins all ≡ before (b ∷ []) (parts_from (nat_eq b 10) rest)
@@ -54,7 +54,7 @@ Finds begins (Some all) (Some rest) Stop = parts_from begins all ≡ ([], Some r
 Finds begins (Some all) (Some rest) End = (parts_from begins all ≡ ([], None)) × (rest ≡ [])
 
 -- so behind a full stop that begins a line
-abbrev pub FindsStop : Option Text → Option Text → Found → Type 0
+abbrev pub FindsStop : Option Text → Option Text → Scanned → Type 0
 FindsStop None new found = Unit {0}
 FindsStop (Some all) None found = ⊥
 FindsStop (Some all) (Some rest) (Byte b) = ⊥
@@ -63,7 +63,7 @@ FindsStop (Some all) (Some rest) Stop = parts_at_stop all ≡ ([], Some rest)
 FindsStop (Some all) (Some rest) End = ⊥
 
 -- what was found was appended, and a line begins behind it or doesn't, or the file ends; it has at most 262,144 bytes
-abbrev pub Appended : Text → Text → Found → Result (Option Bool) ReadEnd → Type 0
+abbrev pub Appended : Text → Text → Scanned → Result (Option Bool) ReadEnd → Type 0
 Appended old new (Byte b) (Ok (Some begins)) = (new ≡ old ++ b ∷ []) × (begins ≡ nat_eq b 10)
 Appended old new (Dot b) (Ok (Some begins)) = (new ≡ old ++ 46 ∷ b ∷ []) × (begins ≡ false)
 Appended old new Stop (Ok (Some begins)) = ⊥
@@ -100,7 +100,7 @@ ReadsFile limit now (Err read_end.Fault) all = Unit {0}
 ReadsFile limit now (Err read_end.Memory) all = Unit {0}
 
 -- so with what was read ahead
-abbrev pub ReadsFront : ℕ → Option Text → Result (Vec ℕ Global × Ahead) ReadEnd → Text → Type 0
+abbrev pub ReadsFront : ℕ → Option Text → Result (Vec ℕ Global × ReadAhead) ReadEnd → Text → Type 0
 ReadsFront limit left (Ok r) all = HasFile all (coming r.1 left) r.0.items
 ReadsFront limit left (Err read_end.TooLong) all = limit < length (file_text all)
 ReadsFront limit left (Err read_end.Fault) all = Unit {0}

@@ -8,18 +8,18 @@ use pks_io::{Failed, Source};
 
 /// The bytes that were read from a source and not taken.
 #[derive(Drop)]
-pub struct Ahead {
+pub struct ReadAhead {
     bytes: [u8; 512],
     at: usize,
     end: usize,
 }
 
-impl Ahead {
+impl ReadAhead {
     /// No bytes.
-    pub(crate) fn none() -> Ahead
+    pub(crate) fn none() -> ReadAhead
         ensures { ahead_of result ≡ [] }
     {
-        Ahead {
+        ReadAhead {
             bytes: [0; 512],
             at: 0,
             end: 0,
@@ -28,7 +28,7 @@ impl Ahead {
 
     /// Bytes that the source gives, at least one where it has one.
     #[tactic(auto, using(crate::proofs::Streams::read_ahead, crate::proofs::Streams::read_none))]
-    fn read<S: Source>(source: &mut S) -> Result<Ahead, Failed>
+    fn read<S: Source>(source: &mut S) -> Result<ReadAhead, Failed>
         ensures bytes { IfOk result (λ x. Consumes (S.left source.old) (S.left source.new) (ahead_of x)) }
         ensures end { IfOk result (λ x. ahead_of x ≡ [] → IsAtEnd (S.left source.new)) }
         ensures cause { HasCause (S.faults source.old) (S.faults source.new) result }
@@ -36,7 +36,7 @@ impl Ahead {
     {
         let mut bytes = [0u8; 512];
         let end = source.read(&mut bytes)?;
-        Ok(Ahead { bytes, at: 0, end })
+        Ok(ReadAhead { bytes, at: 0, end })
     }
 
     /// The next byte that was read.
@@ -64,7 +64,7 @@ impl Ahead {
         match self.pop() {
             Some(byte) => Ok(Some(byte)),
             None => {
-                *self = Ahead::read(source)?;
+                *self = ReadAhead::read(source)?;
                 Ok(self.pop())
             }
         }

@@ -3,13 +3,13 @@ ghost use Rattle.std.specs.Prelude.{◌≡◌, ◌≤◌, ◌<◌, ◌∷◌, �
 ghost use Rattle.pks_io.specs.Causes.{Rose, HasCause};
 ghost use Rattle.pks_agent.specs.Streams.{coming, Finds, FindsStop, Appended, ReadsFile, ReadsFront};
 
-use crate::ahead::Ahead;
+use crate::ahead::ReadAhead;
 use pks_io::{Failed, ReadEnd, Source};
 use std::alloc::Global;
 
 /// What stands next in an input.
 #[derive(Clone, Copy)]
-pub(crate) enum Found {
+pub(crate) enum Scanned {
     /// A byte of the file.
     Byte(u8),
     /// A full stop that begins a line, and a byte of that line behind it.
@@ -21,18 +21,18 @@ pub(crate) enum Found {
 }
 
 /// What stands behind a full stop that begins a line.
-fn find_stop<S: Source>(ahead: &mut Ahead, source: &mut S) -> Result<Found, Failed>
+fn find_stop<S: Source>(ahead: &mut ReadAhead, source: &mut S) -> Result<Scanned, Failed>
     ensures finds { IfOk result (FindsStop (coming ahead.old (S.left source.old)) (coming ahead.new (S.left source.new))) }
     ensures cause { HasCause (S.faults source.old) (S.faults source.new) result }
     ensures quiet { OnOk result (S.faults source.new ≡ S.faults source.old) }
 {
     match ahead.next(source) {
-        Ok(None) => Ok(Found::Stop),
+        Ok(None) => Ok(Scanned::Stop),
         Ok(Some(byte)) => {
             if byte == b'\n' {
-                Ok(Found::Stop)
+                Ok(Scanned::Stop)
             } else {
-                Ok(Found::Dot(byte))
+                Ok(Scanned::Dot(byte))
             }
         }
         Err(failed) => Err(failed),
@@ -40,18 +40,18 @@ fn find_stop<S: Source>(ahead: &mut Ahead, source: &mut S) -> Result<Found, Fail
 }
 
 /// What stands next, at the beginning of a line or within it.
-fn find<S: Source>(begins: bool, ahead: &mut Ahead, source: &mut S) -> Result<Found, Failed>
+fn find<S: Source>(begins: bool, ahead: &mut ReadAhead, source: &mut S) -> Result<Scanned, Failed>
     ensures finds { IfOk result (Finds begins (coming ahead.old (S.left source.old)) (coming ahead.new (S.left source.new))) }
     ensures cause { HasCause (S.faults source.old) (S.faults source.new) result }
     ensures quiet { OnOk result (S.faults source.new ≡ S.faults source.old) }
 {
     match ahead.next(source) {
-        Ok(None) => Ok(Found::End),
+        Ok(None) => Ok(Scanned::End),
         Ok(Some(byte)) => {
             if begins && byte == b'.' {
                 find_stop(ahead, source)
             } else {
-                Ok(Found::Byte(byte))
+                Ok(Scanned::Byte(byte))
             }
         }
         Err(failed) => Err(failed),
@@ -75,30 +75,34 @@ fn push_byte(text: &mut Vec<u8>, byte: u8) -> Result<(), ReadEnd>
 }
 
 /// Appends what was found, and says whether a line begins behind it, or that the file ends.
-fn append(text: &mut Vec<u8>, found: Found) -> Result<Option<bool>, ReadEnd>
+fn append(text: &mut Vec<u8>, found: Scanned) -> Result<Option<bool>, ReadEnd>
     requires { vec_len text.old ≤ 262144 }
     ensures appended { Appended text.old.items text.new.items found result }
     ensures bound { OnOk result (vec_len text.new ≤ 262144) }
     ensures more { IfOk result (λ next. IfSome next (λ begins. vec_len text.old < vec_len text.new)) }
 {
     match found {
-        Found::Byte(byte) => {
+        Scanned::Byte(byte) => {
             push_byte(text, byte)?;
             Ok(Some(byte == b'\n'))
         }
-        Found::Dot(byte) => {
+        Scanned::Dot(byte) => {
             push_byte(text, b'.')?;
             push_byte(text, byte)?;
             Ok(Some(false))
         }
-        Found::Stop | Found::End => Ok(None),
+        Scanned::Stop | Scanned::End => Ok(None),
     }
 }
 
 /// Reads the file to its end, which is the line that is a full stop alone, or the end of the source. What was read behind it is ahead.
 /// Each turn reads a byte of the file or ends.
 #[tactic(auto, using(crate::proofs::Streams::read_first, crate::proofs::Streams::read_more, crate::proofs::Streams::read_whole, crate::proofs::Streams::read_long))]
-fn read_on<S: Source>(alloc: Global, ahead: &mut Ahead, source: &mut S) -> Result<Vec<u8>, ReadEnd>
+fn read_on<S: Source>(
+    alloc: Global,
+    ahead: &mut ReadAhead,
+    source: &mut S,
+) -> Result<Vec<u8>, ReadEnd>
     ensures told { IfSome (coming ahead.old (S.left source.old)) (ReadsFile 262144 (coming ahead.new (S.left source.new)) result) }
     ensures bound { IfOk result (λ text. vec_len text ≤ 262144) }
     ensures later { S.faults source.old ≤ S.faults source.new }
@@ -129,7 +133,10 @@ fn read_on<S: Source>(alloc: Global, ahead: &mut Ahead, source: &mut S) -> Resul
 /// It answers `TooLong` exactly where the file has more than 262,144 bytes, `Fault` only where the source's count of faults rose, which
 /// else stands still, and `Memory` where memory ran out. Either of these two may come before the others.
 #[tactic(auto, using(crate::proofs::Streams::read_front))]
-pub fn read_file_text<S: Source>(alloc: Global, source: &mut S) -> Result<(Vec<u8>, Ahead), ReadEnd>
+pub fn read_file_text<S: Source>(
+    alloc: Global,
+    source: &mut S,
+) -> Result<(Vec<u8>, ReadAhead), ReadEnd>
     ensures told { IfSome (S.left source.old) (ReadsFront 262144 (S.left source.new) result) }
     ensures bound { IfOk result (λ r. vec_len r.0 ≤ 262144) }
     ensures later { S.faults source.old ≤ S.faults source.new }
@@ -138,7 +145,7 @@ pub fn read_file_text<S: Source>(alloc: Global, source: &mut S) -> Result<(Vec<u
     ensures quiet_memory { IsErrOf result ReadEnd.Memory → S.faults source.new ≡ S.faults source.old }
     ensures fault { IsErrOf result ReadEnd.Fault → Rose (S.faults source.old) (S.faults source.new) }
 {
-    let mut ahead = Ahead::none();
+    let mut ahead = ReadAhead::none();
     match read_on(alloc, &mut ahead, source) {
         Ok(text) => Ok((text, ahead)),
         Err(end) => Err(end),

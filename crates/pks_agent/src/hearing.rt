@@ -5,7 +5,7 @@ ghost use Rattle.pks_agent.specs.Answers.{answer_text};
 ghost use Rattle.pks_agent.specs.Hearing.{Hears};
 ghost use Rattle.pks_agent.specs.Streams.{coming, has_no_feed, answers_behind, answers_coming};
 
-use crate::ahead::Ahead;
+use crate::ahead::ReadAhead;
 use crate::answers::Answer;
 use crate::peers::{Heard, PeerFault};
 use pks_io::Source;
@@ -13,7 +13,7 @@ use pks_io::Source;
 /// Takes what is left of the next answer, which begins with what is held. It is taken up to its line feed, or up to 65 bytes.
 #[tactic(auto, using(crate::proofs::Streams::heard_last, crate::proofs::Streams::heard_line, crate::proofs::Streams::heard_long, crate::proofs::Streams::heard_more, crate::proofs::Lines::no_feed_more))]
 fn hear_on<S: Source>(
-    ahead: &mut Ahead,
+    ahead: &mut ReadAhead,
     source: &mut S,
     into: &mut Answer,
 ) -> Result<Heard, PeerFault>
@@ -48,7 +48,7 @@ fn hear_on<S: Source>(
 /// Takes the next answer. The source is asked only while the answer isn't whole.
 #[tactic(auto, using(crate::proofs::Streams::heard_from_none))]
 pub(crate) fn hear<S: Source>(
-    ahead: &mut Ahead,
+    ahead: &mut ReadAhead,
     source: &mut S,
     into: &mut Answer,
 ) -> Result<Heard, PeerFault>

@@ -17,7 +17,7 @@ mod questions;
 mod rooms;
 mod wire;
 
-pub use ahead::Ahead;
+pub use ahead::ReadAhead;
 pub use answers::Answer;
 pub use dialogue::converse;
 pub use ends::TalkEnd;

@@ -10,9 +10,9 @@ ghost use Rattle.pks_plan.specs.TreeViews.{tree_of};
 ghost use Rattle.pks_agent.specs.Leading.{Led, HasTalkCause};
 ghost use Rattle.pks_agent.specs.Rooms.{IsRoomOf};
 ghost use Rattle.pks_agent.specs.Streams.{coming, answers_coming};
-ghost use Rattle.pks_agent.specs.declared.ahead.Ahead.{Ahead};
+ghost use Rattle.pks_agent.specs.declared.ahead.ReadAhead.{ReadAhead};
 
-use crate::ahead::Ahead;
+use crate::ahead::ReadAhead;
 use crate::answers::Answer;
 use crate::dialogue::converse;
 use crate::ends::TalkEnd;
@@ -28,7 +28,7 @@ use pks_terms::problem::Problem;
 /// whole, and only then is the source asked for the answer.
 #[derive(Drop)]
 pub struct Wire<'a, 'b, S, K> {
-    ahead: Ahead,
+    ahead: ReadAhead,
     source: &'a mut S,
     sink: &'b mut K,
 }
@@ -48,7 +48,7 @@ fn say<K: Sink>(sink: &mut K, text: &[u8]) -> Result<(), SinkFailed>
 
 impl<'a, 'b, S: Source, K: Sink> Wire<'a, 'b, S, K> {
     /// A caller at the source and the sink, whose answers begin with what `read_file_text` read ahead from that source.
-    pub fn over(ahead: Ahead, source: &'a mut S, sink: &'b mut K) -> Wire<'a, 'b, S, K>
+    pub fn over(ahead: ReadAhead, source: &'a mut S, sink: &'b mut K) -> Wire<'a, 'b, S, K>
         ensures ahead { result.ahead ≡ ahead }
         ensures same_source { result.source.ghost_name ≡ source.entry.ghost_name }
         ensures source { result.source.now ≡ source.old }
@@ -116,14 +116,14 @@ fn converse_on<S: Source, K: Sink>(
 pub fn converse_over<S: Source, K: Sink>(
     p: &Problem<'_>,
     t: &Tree,
-    ahead: Ahead,
+    ahead: ReadAhead,
     source: &mut S,
     sink: &mut K,
     room: &mut Room,
 ) -> Result<End, TalkEnd>
     requires objects { length p.now.signature.objects ≤ 65536 }
     requires room { IsRoomOf (names_of p.now) (tree_of t.now) room.old }
-    ensures led { IfSome (answers_coming (coming ahead (S.left source.old))) (λ answers. (kept : Ahead) × Led (K.written sink.old) (K.written sink.new)
+    ensures led { IfSome (answers_coming (coming ahead (S.left source.old))) (λ answers. (kept : ReadAhead) × Led (K.written sink.old) (K.written sink.new)
         (answers_coming (coming kept (S.left source.new))) result (talk (signature_of p.now.signature) (names_of p.now) (tree_of t.now) answers)) }
     ensures cause { HasTalkCause (K.faults sink.old) (K.faults sink.new) (S.faults source.old) (S.faults source.new) result }
 {

@@ -10,7 +10,7 @@ use pks_terms::problem::Problem;
 use std::alloc::AllocError;
 
 /// What stands in a list, in the text of an action.
-pub(crate) trait Part {
+pub(crate) trait DerivedPart {
     ghost use Rattle.std.specs.Prelude.{List, ℕ};
     ghost use Rattle.pks_terms.specs.Printed.{Names};
 
@@ -28,7 +28,7 @@ pub(crate) trait Part {
 
 /// Each part behind a blank.
 #[tactic(auto, using(crate::proofs::Appended::appended))]
-pub(crate) fn print_parts<T: Part>(
+pub(crate) fn print_parts<T: DerivedPart>(
     p: &Problem<'_>,
     parameters: &[&str],
     parts: &[T],
@@ -49,7 +49,7 @@ pub(crate) fn print_parts<T: Part>(
 
 /// The head, and each part behind a blank, in parentheses.
 #[tactic(auto, using(crate::proofs::Appended::appended))]
-pub(crate) fn print_list<T: Part>(
+pub(crate) fn print_list<T: DerivedPart>(
     p: &Problem<'_>,
     parameters: &[&str],
     head: &[u8],

@@ -6,7 +6,7 @@ ghost use Rattle.std.specs.Option.{option_map_or};
 ghost use Rattle.pks_terms.specs.Printed.{name_in, relation_text, listed, lifted_term_text, lifted_literal_text, lifted_pattern_text, plain_text, query_text, item_text, add_text};
 ghost use Rattle.pks_terms.specs.Views.{names_of, term_of, relation_of, sides_of, literal_of, pattern_of, query_of, item_of, add_of};
 
-use crate::parts::{Part, print_list, print_parts};
+use crate::parts::{DerivedPart, print_list, print_parts};
 use pks_plan::put;
 use pks_terms::ids::ObjId;
 use pks_terms::literal::{Atom, Literal, Pattern};
@@ -36,7 +36,7 @@ fn print_parameter(parameters: &[&str], parameter: u8, out: &mut Vec<u8>) -> Res
     Ok(())
 }
 
-impl Part for ObjId {
+impl DerivedPart for ObjId {
     ghost use Rattle.pks_terms.specs.Printed.{name_in};
 
     ghost text = { λ names parameters d. name_in names.objects d.0 };
@@ -53,7 +53,7 @@ impl Part for ObjId {
     }
 }
 
-impl Part for Inner {
+impl DerivedPart for Inner {
     ghost use Rattle.pks_terms.specs.Printed.{name_in, lifted_form_text};
     ghost use Rattle.pks_terms.specs.Views.{inner_of};
 
@@ -83,7 +83,7 @@ impl Part for Inner {
     }
 }
 
-impl Part for Term {
+impl DerivedPart for Term {
     ghost use Rattle.pks_terms.specs.Printed.{lifted_term_text};
     ghost use Rattle.pks_terms.specs.Views.{term_of};
 
@@ -113,7 +113,7 @@ impl Part for Term {
     }
 }
 
-impl Part for Option<Term> {
+impl DerivedPart for Option<Term> {
     ghost use Rattle.std.specs.Prelude.{codes, option_map};
     ghost use Rattle.std.specs.Option.{option_map_or};
     ghost use Rattle.pks_terms.specs.Printed.{lifted_term_text};
@@ -135,7 +135,7 @@ impl Part for Option<Term> {
     }
 }
 
-impl Part for Atom {
+impl DerivedPart for Atom {
     ghost use Rattle.std.specs.Prelude.{map};
     ghost use Rattle.pks_terms.specs.Printed.{listed, relation_text, lifted_term_text};
     ghost use Rattle.pks_terms.specs.Views.{relation_of, sides_of};
@@ -161,7 +161,7 @@ impl Part for Atom {
     }
 }
 
-impl Part for Literal {
+impl DerivedPart for Literal {
     ghost use Rattle.pks_terms.specs.Printed.{lifted_literal_text};
     ghost use Rattle.pks_terms.specs.Views.{literal_of};
 
@@ -183,7 +183,7 @@ impl Part for Literal {
     }
 }
 
-impl Part for Pattern {
+impl DerivedPart for Pattern {
     ghost use Rattle.pks_terms.specs.Printed.{lifted_pattern_text};
     ghost use Rattle.pks_terms.specs.Views.{pattern_of};
 
@@ -237,7 +237,7 @@ fn print_asked(
     Ok(())
 }
 
-impl Part for Query {
+impl DerivedPart for Query {
     ghost use Rattle.pks_terms.specs.Printed.{query_text};
     ghost use Rattle.pks_terms.specs.Views.{query_of};
 

@@ -5,7 +5,7 @@ use Rattle.pks_terms.specs.Syntax.{Literal}
 use Rattle.pks_terms.specs.Proofs.{Path}
 use Rattle.pks_terms.specs.Explained.{Entry}
 use Rattle.pks_proof_lines.specs.ProofViews.{path_of, lines_of}
-use Rattle.pks_explain.specs.declared.entries.Entry.{Entry as DEntry}
+use Rattle.pks_explain.specs.declared.entries.ProvedLiteral.{ProvedLiteral as DEntry}
 use Rattle.pks_explain.specs.declared.entries.Owed.{Owed}
 
 -- an entry

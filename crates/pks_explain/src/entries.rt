@@ -6,7 +6,7 @@ use pks_terms::sequence::Sequence;
 
 /// A literal with the path at whose end it is known, and a proof of it.
 #[derive(Drop)]
-pub struct Entry {
+pub struct ProvedLiteral {
     /// The way from the root of the tree.
     pub path: Path,
     /// What is known at its end.
@@ -25,4 +25,4 @@ pub struct Owed {
 }
 
 /// The entries in the order of the printed tree.
-pub type Explained = Sequence<Entry>;
+pub type Explained = Sequence<ProvedLiteral>;

@@ -9,10 +9,10 @@ ghost use Rattle.pks_plan.specs.TreeViews.{tree_of};
 ghost use Rattle.pks_explain.specs.EntryViews.{entry_of, entries_of, owed_of};
 ghost use Rattle.pks_explain.specs.Accepted.{IsProved, AreProved};
 
-use crate::entries::{Entry, Explained, Owed};
+use crate::entries::{Explained, Owed, ProvedLiteral};
 use crate::owing::owed;
 use crate::proving::prove_owed;
-use pks_explain_lines::lost;
+use pks_explain_lines::missing_as_memory;
 use pks_plan::Tree;
 use pks_proof::accepts;
 use pks_proof_lines::Proof;
@@ -21,14 +21,14 @@ use pks_terms::sequence::Sequence;
 use std::alloc::{AllocError, Global};
 
 /// The literal with its proof, which must be accepted for it.
-fn tested(p: &Problem<'_>, one: Owed, proof: Proof) -> Result<Entry, AllocError>
+fn tested(p: &Problem<'_>, one: Owed, proof: Proof) -> Result<ProvedLiteral, AllocError>
     requires { length p.now.signature.objects ≤ 65536 }
     ensures { IfOk result (λ e. IsProved (problem_of p.now) (owed_of one) (entry_of e)) }
 {
     if !accepts(p, &one.path, &proof, &one.literal) {
-        return Err(lost());
+        return Err(missing_as_memory());
     }
-    Ok(Entry {
+    Ok(ProvedLiteral {
         path: one.path,
         literal: one.literal,
         proof,
@@ -41,14 +41,14 @@ fn all_tested(
     p: &Problem<'_>,
     all: Vec<Owed>,
     proofs: Vec<Proof>,
-) -> Result<Vec<Entry>, AllocError>
+) -> Result<Vec<ProvedLiteral>, AllocError>
     requires { length p.now.signature.objects ≤ 65536 }
     ensures { IfOk result (λ es. AreProved (problem_of p.now) (map owed_of all.items) (entries_of es.items)) }
 {
     let mut entries = Vec::new(alloc);
     let mut left = proofs.into_iter();
     for one in all {
-        let proof = left.next().ok_or(lost())?;
+        let proof = left.next().ok_or(missing_as_memory())?;
         entries.push(tested(p, one, proof)?)?;
     }
     Ok(entries)
@@ -60,7 +60,7 @@ fn tested_owed(
     p: &Problem<'_>,
     t: &Tree,
     proofs: Vec<Proof>,
-) -> Result<Vec<Entry>, AllocError>
+) -> Result<Vec<ProvedLiteral>, AllocError>
     requires { length p.now.signature.objects ≤ 65536 }
     ensures { IfOk result (λ es. AreProved (problem_of p.now) (owed (problem_of p.now) [] (tree_of t.now)) (entries_of es.items)) }
 {

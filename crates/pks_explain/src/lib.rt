@@ -7,7 +7,7 @@ mod owing;
 mod print;
 mod proving;
 
-pub use entries::{Entry, Explained, Owed};
+pub use entries::{Explained, Owed, ProvedLiteral};
 pub use explaining::explain;
 pub use owing::owed;
 pub use print::print_explained;

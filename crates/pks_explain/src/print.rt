@@ -9,7 +9,7 @@ ghost use Rattle.pks_lcw.specs.Entries.{atoms_of};
 ghost use Rattle.pks_proof_lines.specs.ProofViews.{fact_of, reason_of, line_of, lines_of};
 ghost use Rattle.pks_explain.specs.EntryViews.{entry_of, entries_of};
 
-use crate::entries::{Entry, Explained};
+use crate::entries::{Explained, ProvedLiteral};
 use pks_plan::{print_literal, print_pattern, put, put_number};
 use pks_proof_lines::{Fact, Line, Reason};
 use pks_terms::literal::{Atom, Literal, PredAtom};
@@ -176,7 +176,7 @@ fn print_lines(p: &Problem<'_>, lines: &[Line], out: &mut Vec<u8>) -> Result<(),
 
 /// Appends an entry: the literal, and its proof.
 #[tactic(auto, using(crate::proofs::Texts::appended), unfolding(pks_terms::specs::Explained::entry_text))]
-fn print_entry(p: &Problem<'_>, e: &Entry, out: &mut Vec<u8>) -> Result<(), AllocError>
+fn print_entry(p: &Problem<'_>, e: &ProvedLiteral, out: &mut Vec<u8>) -> Result<(), AllocError>
     ensures { OnOk result (out.new.items ≡ out.old.items ++ entry_text (names_of p.now) (entry_of e.now)) }
 {
     put(out, b"known ")?;
@@ -187,7 +187,11 @@ fn print_entry(p: &Problem<'_>, e: &Entry, out: &mut Vec<u8>) -> Result<(), Allo
 }
 
 /// Appends the entries in order.
-fn print_entries(p: &Problem<'_>, entries: &[Entry], out: &mut Vec<u8>) -> Result<(), AllocError>
+fn print_entries(
+    p: &Problem<'_>,
+    entries: &[ProvedLiteral],
+    out: &mut Vec<u8>,
+) -> Result<(), AllocError>
     ensures { OnOk result (out.new.items ≡ out.old.items ++ flat_map (entry_text (names_of p.now)) (entries_of entries.now)) }
 {
     for e in entries {

@@ -10,7 +10,7 @@ ghost use Rattle.pks_terms.specs.ChoiceViews.{choice_of, side_of};
 ghost use Rattle.pks_history_replay.specs.Walking.{state_of, IsReady, AreReady, IsSideReady};
 
 use crate::owing::{literals_aimed, needed_before};
-use pks_explain_replay::{Kept, Replay};
+use pks_explain_replay::{Replay, SavedReplay};
 use pks_history::histories::History;
 use pks_history_replay::{State, after, history, start, taking};
 use pks_plan::{CaseChain, Tree};
@@ -81,7 +81,7 @@ impl Prover<'_, '_> {
         &mut self,
         p: &Problem<'_>,
         h: &History,
-        before: &Kept,
+        before: &SavedReplay,
         c: &Choice,
         side: Side,
         next: &Tree,
@@ -106,7 +106,7 @@ impl Prover<'_, '_> {
         &mut self,
         p: &Problem<'_>,
         h: &History,
-        before: &Kept,
+        before: &SavedReplay,
         term: &Term,
         k: &CaseChain,
     ) -> Result<(), AllocError>

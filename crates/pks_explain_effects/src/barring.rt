@@ -1,7 +1,7 @@
 //! Effects that are barred from doing something, with the literals on which that rests. `docs/REASONS.md` says when.
 
-use crate::doing::{Doing, is_alike, values_differ, writing};
-use crate::firing::{Firing, Step};
+use crate::doing::{EffectChange, is_alike, values_differ, writing};
+use crate::firing::{ActionStep, Firing};
 use crate::parts::Parts;
 use pks_explain_lines::{Lines, unequal};
 use pks_terms::literal::Literal;
@@ -14,7 +14,7 @@ pub struct Tests<'a, 'p> {
     /// The lines.
     pub(crate) lines: &'a Lines<'p>,
     /// The step.
-    pub(crate) step: &'a Step,
+    pub(crate) step: &'a ActionStep,
 }
 
 /// What keeps an effect from doing something.
@@ -57,7 +57,7 @@ fn some_two_objects(x: &Parts, y: &Parts) -> bool {
 
 impl<'a, 'p> Tests<'a, 'p> {
     /// The tests of the step.
-    pub fn of(lines: &'a Lines<'p>, step: &'a Step) -> Tests<'a, 'p> {
+    pub fn of(lines: &'a Lines<'p>, step: &'a ActionStep) -> Tests<'a, 'p> {
         Tests { lines, step }
     }
 }
@@ -117,7 +117,13 @@ impl Tests<'_, '_> {
     }
 
     /// What bars the effect, which does the one, from doing the other with whatever value.
-    fn bar_place(&self, firing: &Firing, own: &Doing, other: &Doing, noted: &[Literal]) -> Bar {
+    fn bar_place(
+        &self,
+        firing: &Firing,
+        own: &EffectChange,
+        other: &EffectChange,
+        noted: &[Literal],
+    ) -> Bar {
         if !is_alike(own, other) || some_two_objects(&own.parts, &other.parts) {
             return Bar::Never;
         }
@@ -136,7 +142,7 @@ impl Tests<'_, '_> {
     }
 
     /// What bars the effect from doing it, beside what is noted.
-    pub(crate) fn bar(&self, firing: &Firing, doing: &Doing, noted: &[Literal]) -> Bar {
+    pub(crate) fn bar(&self, firing: &Firing, doing: &EffectChange, noted: &[Literal]) -> Bar {
         let Some(own) = writing(&firing.effect.target) else {
             return Bar::Never;
         };
@@ -151,7 +157,7 @@ impl Tests<'_, '_> {
     pub(crate) fn are_barred(
         &self,
         firings: &[Firing],
-        doing: &Option<Doing>,
+        doing: &Option<EffectChange>,
         noted: &mut Vec<Literal>,
     ) -> Result<bool, AllocError> {
         let Some(doing) = doing else {

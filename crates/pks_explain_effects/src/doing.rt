@@ -8,7 +8,7 @@ use pks_terms::term::Term;
 
 /// What an effect may do.
 #[derive(Clone, Copy)]
-pub(crate) struct Doing {
+pub(crate) struct EffectChange {
     /// Whether a place gets a value.
     is_value: bool,
     /// Whether what is made is true.
@@ -22,8 +22,8 @@ pub(crate) struct Doing {
 }
 
 /// The atom comes to be true, or false.
-fn making(a: &PredAtom, positive: bool) -> Doing {
-    Doing {
+fn making(a: &PredAtom, positive: bool) -> EffectChange {
+    EffectChange {
         is_value: false,
         positive,
         symbol: a.pred.0,
@@ -33,11 +33,11 @@ fn making(a: &PredAtom, positive: bool) -> Doing {
 }
 
 /// The place, if it is an application, gets the value.
-fn assigning(place: &Term, value: Option<Term>) -> Option<Doing> {
+fn assigning(place: &Term, value: Option<Term>) -> Option<EffectChange> {
     let Term::App { fun, .. } = place else {
         return None;
     };
-    Some(Doing {
+    Some(EffectChange {
         is_value: true,
         positive: true,
         symbol: fun.0,
@@ -47,7 +47,7 @@ fn assigning(place: &Term, value: Option<Term>) -> Option<Doing> {
 }
 
 /// The term, if it is an application, gets another value.
-pub(crate) fn changing(t: &Option<Term>) -> Option<Doing> {
+pub(crate) fn changing(t: &Option<Term>) -> Option<EffectChange> {
     match t {
         Some(place) => assigning(place, None),
         None => None,
@@ -55,7 +55,7 @@ pub(crate) fn changing(t: &Option<Term>) -> Option<Doing> {
 }
 
 /// The literal comes to be false, where it isn't an equation.
-pub(crate) fn denying(l: &Literal) -> Option<Doing> {
+pub(crate) fn denying(l: &Literal) -> Option<EffectChange> {
     match &l.atom {
         Atom::Pred(a) => Some(making(a, !l.positive)),
         Atom::Eq { .. } => None,
@@ -63,11 +63,11 @@ pub(crate) fn denying(l: &Literal) -> Option<Doing> {
 }
 
 /// What is done where the target is written.
-pub(crate) fn writing(target: &Target) -> Option<Doing> {
+pub(crate) fn writing(target: &Target) -> Option<EffectChange> {
     match target {
         Target::Set(a) => Some(making(a, true)),
         Target::Unset(a) => Some(making(a, false)),
-        Target::Clear(x) => Some(Doing {
+        Target::Clear(x) => Some(EffectChange {
             is_value: false,
             positive: false,
             symbol: x.pred.0,
@@ -79,9 +79,9 @@ pub(crate) fn writing(target: &Target) -> Option<Doing> {
 }
 
 /// What undoes that.
-pub(crate) fn undoing(d: Option<Doing>) -> Option<Doing> {
+pub(crate) fn undoing(d: Option<EffectChange>) -> Option<EffectChange> {
     match d {
-        Some(d) => Some(Doing {
+        Some(d) => Some(EffectChange {
             positive: d.is_value || !d.positive,
             value: None,
             ..d
@@ -91,12 +91,12 @@ pub(crate) fn undoing(d: Option<Doing>) -> Option<Doing> {
 }
 
 /// Whether both are done to the same predicate or function, and in the same way.
-pub(crate) fn is_alike(x: &Doing, y: &Doing) -> bool {
+pub(crate) fn is_alike(x: &EffectChange, y: &EffectChange) -> bool {
     x.is_value == y.is_value && x.positive == y.positive && x.symbol == y.symbol
 }
 
 /// That the values differ.
-pub(crate) fn values_differ(x: &Doing, y: &Doing) -> Option<Literal> {
+pub(crate) fn values_differ(x: &EffectChange, y: &EffectChange) -> Option<Literal> {
     match (&x.value, &y.value) {
         (Some(t), Some(u)) => Some(unequal(t, u)),
         _ => None,

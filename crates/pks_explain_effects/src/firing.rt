@@ -1,6 +1,6 @@
 //! The effects of an action that is done at a moment.
 
-use pks_explain_lines::{Lines, lost};
+use pks_explain_lines::{Lines, missing_as_memory};
 use pks_progress_interference::effects::effects_of;
 use pks_terms::literal::Literal;
 use pks_terms::problem::Problem;
@@ -19,7 +19,7 @@ pub struct Firing {
 
 /// The step that an action makes from one moment to the next.
 #[derive(Drop)]
-pub struct Step {
+pub struct ActionStep {
     /// The moment before.
     pub before: usize,
     /// The moment after.
@@ -80,12 +80,12 @@ pub fn step_of(
     lines: &Lines<'_>,
     before: usize,
     i: &Instance,
-) -> Result<Step, AllocError> {
+) -> Result<ActionStep, AllocError> {
     let Some(after) = before.checked_add(1) else {
-        return Err(lost());
+        return Err(missing_as_memory());
     };
     let firings = firings(alloc, lines, before, i, effects_of(p, i).written)?;
-    Ok(Step {
+    Ok(ActionStep {
         before,
         after,
         firings,

@@ -3,7 +3,7 @@
 use crate::barring::Tests;
 use crate::parts::{target_with, terms_of, whole_terms};
 use crate::targets::literal_made;
-use pks_explain_lines::Form;
+use pks_explain_lines::NormalForm;
 use pks_terms::literal::Literal;
 use pks_terms::schema::Target;
 use pks_terms::term::{Term, UNUSED};
@@ -22,29 +22,29 @@ pub struct TargetForm {
 
 /// One form of each term.
 #[derive(Clone, Copy)]
-struct Choice<'a> {
-    first: &'a Form,
-    second: &'a Form,
-    third: &'a Form,
+struct FormTriple<'a> {
+    first: &'a NormalForm,
+    second: &'a NormalForm,
+    third: &'a NormalForm,
 }
 
 /// The form of a term that isn't there.
-fn unused(alloc: Global) -> Form {
-    Form {
+fn unused(alloc: Global) -> NormalForm {
+    NormalForm {
         term: UNUSED,
         by: Vec::new(alloc),
     }
 }
 
 /// The forms of a term that isn't there.
-fn none_used(alloc: Global) -> Result<Vec<Form>, AllocError> {
+fn none_used(alloc: Global) -> Result<Vec<NormalForm>, AllocError> {
     let mut forms = Vec::new(alloc);
     forms.push(unused(alloc))?;
     Ok(forms)
 }
 
 /// What the forms rest on.
-fn joined(alloc: Global, choice: &Choice<'_>) -> Result<Vec<Literal>, AllocError> {
+fn joined(alloc: Global, choice: &FormTriple<'_>) -> Result<Vec<Literal>, AllocError> {
     let mut by = Vec::from_slice(alloc, choice.first.by.as_slice())?;
     by.extend_from_slice(choice.second.by.as_slice())?;
     by.extend_from_slice(choice.third.by.as_slice())?;
@@ -53,7 +53,7 @@ fn joined(alloc: Global, choice: &Choice<'_>) -> Result<Vec<Literal>, AllocError
 
 impl Tests<'_, '_> {
     /// The forms of the term at the moment before, if there is one.
-    fn forms_of(&self, alloc: Global, t: &Option<Term>) -> Result<Vec<Form>, AllocError> {
+    fn forms_of(&self, alloc: Global, t: &Option<Term>) -> Result<Vec<NormalForm>, AllocError> {
         match t {
             Some(t) => self.lines.forms(alloc, self.step.before, t),
             None => none_used(alloc),
@@ -65,7 +65,7 @@ impl Tests<'_, '_> {
         &self,
         alloc: Global,
         target: &Target,
-        choice: &Choice<'_>,
+        choice: &FormTriple<'_>,
     ) -> Result<Option<Vec<Literal>>, AllocError> {
         let mut by = joined(alloc, choice)?;
         if self.are_steady(&terms_of(target), &mut by)? {
@@ -80,7 +80,7 @@ impl Tests<'_, '_> {
         &self,
         alloc: Global,
         target: &Target,
-        choice: &Choice<'_>,
+        choice: &FormTriple<'_>,
         to: &mut Vec<TargetForm>,
     ) -> Result<(), AllocError> {
         let terms = [choice.first.term, choice.second.term, choice.third.term];
@@ -104,12 +104,12 @@ impl Tests<'_, '_> {
         &self,
         alloc: Global,
         target: &Target,
-        chosen: (&Form, &Form),
-        thirds: &[Form],
+        chosen: (&NormalForm, &NormalForm),
+        thirds: &[NormalForm],
         to: &mut Vec<TargetForm>,
     ) -> Result<(), AllocError> {
         for third in thirds {
-            let choice = Choice {
+            let choice = FormTriple {
                 first: chosen.0,
                 second: chosen.1,
                 third,
@@ -124,9 +124,9 @@ impl Tests<'_, '_> {
         &self,
         alloc: Global,
         target: &Target,
-        first: &Form,
-        seconds: &[Form],
-        thirds: &[Form],
+        first: &NormalForm,
+        seconds: &[NormalForm],
+        thirds: &[NormalForm],
         to: &mut Vec<TargetForm>,
     ) -> Result<(), AllocError> {
         for second in seconds {
@@ -140,9 +140,9 @@ impl Tests<'_, '_> {
         &self,
         alloc: Global,
         target: &Target,
-        firsts: &[Form],
-        seconds: &[Form],
-        thirds: &[Form],
+        firsts: &[NormalForm],
+        seconds: &[NormalForm],
+        thirds: &[NormalForm],
         to: &mut Vec<TargetForm>,
     ) -> Result<(), AllocError> {
         for first in firsts {

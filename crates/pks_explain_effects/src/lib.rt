@@ -13,7 +13,7 @@ mod regions;
 mod targets;
 
 pub use barring::Tests;
-pub use firing::{Firing, Step, step_of};
+pub use firing::{ActionStep, Firing, step_of};
 pub use forms::TargetForm;
 pub use making::Made;
 pub use regions::Staying;

@@ -5,7 +5,7 @@ use crate::firing::Firing;
 use crate::forms::TargetForm;
 use crate::parts::{target_by, terms_of};
 use crate::targets::same_target;
-use pks_explain_lines::lost;
+use pks_explain_lines::missing_as_memory;
 use pks_terms::literal::Literal;
 use pks_terms::schema::Target;
 use pks_terms::term::Term;
@@ -138,7 +138,7 @@ impl Tests<'_, '_> {
         };
         match self.making(alloc, written, &target, noted.as_slice())? {
             Some(by) => Ok(Some(Made { target, by })),
-            None => Err(lost()),
+            None => Err(missing_as_memory()),
         }
     }
 }

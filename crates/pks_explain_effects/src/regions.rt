@@ -1,7 +1,7 @@
 //! Closed regions at an action: what comes into one that stays.
 
 use crate::barring::{Tests, note};
-use crate::doing::{Doing, undoing, writing};
+use crate::doing::{EffectChange, undoing, writing};
 use crate::firing::Firing;
 use crate::parts::{arguments, fixed_terms};
 use pks_lcw::Entry;
@@ -60,7 +60,7 @@ impl Tests<'_, '_> {
     fn put_joining(
         &self,
         alloc: Global,
-        widening: &Doing,
+        widening: &EffectChange,
         noted: &mut Vec<Literal>,
         to: &mut Vec<PredAtom>,
     ) -> Result<bool, AllocError> {

@@ -1,7 +1,7 @@
 //! What stands at the moments of a table.
 
 use crate::lines::Lines;
-use pks_explain_moment::{Form, lost};
+use pks_explain_moment::{NormalForm, missing_as_memory};
 use pks_lcw::Entry;
 use pks_terms::group::Group;
 use pks_terms::literal::Literal;
@@ -34,12 +34,12 @@ impl Lines<'_> {
         }
     }
 
-    /// The known literals of the moment's database, in order, with their lines. The error is want of memory, or `lost` where
-    /// there is no such moment.
+    /// The known literals of the moment's database, in order, with their lines. The error is want of memory, or
+    /// `missing_as_memory` where there is no such moment.
     pub fn known(&self, alloc: Global, m: usize) -> Result<Vec<(Literal, u32)>, AllocError> {
         match self.moments.get(m) {
             Some(moment) => moment.known(alloc),
-            None => Err(lost()),
+            None => Err(missing_as_memory()),
         }
     }
 
@@ -52,21 +52,21 @@ impl Lines<'_> {
         count
     }
 
-    /// The groups of the moment, in order, with their lines. The error is want of memory, or `lost` where there is no such
-    /// moment.
+    /// The groups of the moment, in order, with their lines. The error is want of memory, or `missing_as_memory` where
+    /// there is no such moment.
     pub fn groups(&self, alloc: Global, m: usize) -> Result<Vec<(Group, u32)>, AllocError> {
         match self.moments.get(m) {
             Some(moment) => moment.groups(alloc),
-            None => Err(lost()),
+            None => Err(missing_as_memory()),
         }
     }
 
-    /// The closed regions of the moment, in order, with their lines. The error is want of memory, or `lost` where there is
-    /// no such moment.
+    /// The closed regions of the moment, in order, with their lines. The error is want of memory, or
+    /// `missing_as_memory` where there is no such moment.
     pub fn regions(&self, alloc: Global, m: usize) -> Result<Vec<(Entry, u32)>, AllocError> {
         match self.moments.get(m) {
             Some(moment) => moment.regions(alloc),
-            None => Err(lost()),
+            None => Err(missing_as_memory()),
         }
     }
 
@@ -78,21 +78,22 @@ impl Lines<'_> {
         }
     }
 
-    /// The normal form of a term at the moment: each place in it, the inner ones first, has become its value where one is
-    /// known. The error is want of memory, or `lost` where there is no such moment. `docs/RULES.md` has the rule.
-    pub fn normal_form(&self, alloc: Global, m: usize, t: &Term) -> Result<Form, AllocError> {
+    /// The normal form of a term at the moment: each place in it, the inner ones first, has become its value where one
+    /// is known. The error is want of memory, or `missing_as_memory` where there is no such moment. `docs/RULES.md` has
+    /// the rule.
+    pub fn normal_form(&self, alloc: Global, m: usize, t: &Term) -> Result<NormalForm, AllocError> {
         match self.moments.get(m) {
             Some(moment) => moment.normal_form(alloc, t),
-            None => Err(lost()),
+            None => Err(missing_as_memory()),
         }
     }
 
     /// The forms of a term at the moment, itself first: any of its arguments replaced by their values, and then the whole.
-    /// The error is want of memory, or `lost` where there is no such moment.
-    pub fn forms(&self, alloc: Global, m: usize, t: &Term) -> Result<Vec<Form>, AllocError> {
+    /// The error is want of memory, or `missing_as_memory` where there is no such moment.
+    pub fn forms(&self, alloc: Global, m: usize, t: &Term) -> Result<Vec<NormalForm>, AllocError> {
         match self.moments.get(m) {
             Some(moment) => moment.forms(alloc, t),
-            None => Err(lost()),
+            None => Err(missing_as_memory()),
         }
     }
 }

@@ -1,7 +1,7 @@
 //! The closing of a moment by groups and ranges. `docs/RULES.md` has the rules.
 
-use crate::table::Table;
-use pks_explain_moment::{Moment, Open, equal, lost, push, unequal};
+use crate::table::LineTable;
+use pks_explain_moment::{MomentLines, OpenItem, equal, missing_as_memory, push, unequal};
 use pks_proof_lines::{Fact, Reason};
 use pks_terms::group::Group;
 use pks_terms::ids::ObjId;
@@ -47,7 +47,7 @@ fn other_differences(
 }
 
 /// The one of the objects from which the term isn't known to be different, if there is just one.
-fn last_left(at: &Moment, s: &Signature, t: &Term, objects: &[ObjId]) -> Option<ObjId> {
+fn last_left(at: &MomentLines, s: &Signature, t: &Term, objects: &[ObjId]) -> Option<ObjId> {
     let mut left = None;
     for d in objects {
         if !at.are_different(s, t, &Term::Obj(*d)) {
@@ -63,7 +63,7 @@ fn last_left(at: &Moment, s: &Signature, t: &Term, objects: &[ObjId]) -> Option<
 /// Which of the literals are denied.
 fn denied(
     alloc: Global,
-    at: &Moment,
+    at: &MomentLines,
     s: &Signature,
     literals: &[Literal],
 ) -> Result<Vec<bool>, AllocError> {
@@ -75,7 +75,11 @@ fn denied(
 }
 
 /// The first of the literals that holds, and its place.
-fn first_holding(at: &Moment, s: &Signature, literals: &[Literal]) -> Option<(usize, Literal)> {
+fn first_holding(
+    at: &MomentLines,
+    s: &Signature,
+    literals: &[Literal],
+) -> Option<(usize, Literal)> {
     for (k, l) in literals.iter().enumerate() {
         if at.holds(s, l) {
             return Some((k, *l));
@@ -88,7 +92,7 @@ fn first_holding(at: &Moment, s: &Signature, literals: &[Literal]) -> Option<(us
 fn group_in(fact: &Fact) -> Result<Group, AllocError> {
     match fact {
         Fact::Kx(group) => group.copied(),
-        Fact::Lit(_) | Fact::Lcw(_) => Err(lost()),
+        Fact::Lit(_) | Fact::Lcw(_) => Err(missing_as_memory()),
     }
 }
 
@@ -99,12 +103,12 @@ struct Members<'g> {
     line: u32,
 }
 
-impl Table<'_> {
+impl LineTable<'_> {
     /// The term has this value, since it differs from all others of its type.
     fn join_last(
         &mut self,
         alloc: Global,
-        at: &mut Moment,
+        at: &mut MomentLines,
         t: &Term,
         d: ObjId,
     ) -> Result<(), AllocError> {
@@ -113,7 +117,12 @@ impl Table<'_> {
         self.join_by(alloc, at, &l, Reason::Range, &[], need.as_slice())
     }
 
-    fn close_range(&mut self, alloc: Global, at: &mut Moment, t: &Term) -> Result<(), AllocError> {
+    fn close_range(
+        &mut self,
+        alloc: Global,
+        at: &mut MomentLines,
+        t: &Term,
+    ) -> Result<(), AllocError> {
         if at.has_value(t) {
             return Ok(());
         }
@@ -127,7 +136,7 @@ impl Table<'_> {
     fn group_of(&self, line: u32) -> Result<Group, AllocError> {
         match self.line(line) {
             Some(line) => group_in(&line.fact),
-            None => Err(lost()),
+            None => Err(missing_as_memory()),
         }
     }
 
@@ -135,7 +144,7 @@ impl Table<'_> {
     fn join_only(
         &mut self,
         alloc: Global,
-        at: &mut Moment,
+        at: &mut MomentLines,
         l: &Literal,
         of: Members<'_>,
         place: usize,
@@ -148,7 +157,7 @@ impl Table<'_> {
     fn close_only(
         &mut self,
         alloc: Global,
-        at: &mut Moment,
+        at: &mut MomentLines,
         of: Members<'_>,
         denied: &[bool],
     ) -> Result<(), AllocError> {
@@ -169,7 +178,7 @@ impl Table<'_> {
     fn close_others(
         &mut self,
         alloc: Global,
-        at: &mut Moment,
+        at: &mut MomentLines,
         of: Members<'_>,
         place: usize,
         one: Literal,
@@ -185,7 +194,7 @@ impl Table<'_> {
     fn close_denied(
         &mut self,
         alloc: Global,
-        at: &mut Moment,
+        at: &mut MomentLines,
         of: Members<'_>,
     ) -> Result<(), AllocError> {
         let denied = denied(alloc, at, self.signature, of.literals)?;
@@ -195,7 +204,7 @@ impl Table<'_> {
     fn close_members(
         &mut self,
         alloc: Global,
-        at: &mut Moment,
+        at: &mut MomentLines,
         of: Members<'_>,
     ) -> Result<(), AllocError> {
         let holding = first_holding(at, self.signature, of.literals);
@@ -206,21 +215,26 @@ impl Table<'_> {
         }
     }
 
-    fn close_group(&mut self, alloc: Global, at: &mut Moment, line: u32) -> Result<(), AllocError> {
+    fn close_group(
+        &mut self,
+        alloc: Global,
+        at: &mut MomentLines,
+        line: u32,
+    ) -> Result<(), AllocError> {
         let group = self.group_of(line)?;
         let literals = group.as_slice();
         self.close_members(alloc, at, Members { literals, line })
     }
 
     /// Adds all that groups and ranges tell at the moment.
-    pub(crate) fn close(&mut self, alloc: Global, at: &mut Moment) -> Result<(), AllocError> {
+    pub(crate) fn close(&mut self, alloc: Global, at: &mut MomentLines) -> Result<(), AllocError> {
         for _ in 0..u64::MAX {
             match at.next_open(alloc)? {
-                Open::Term(t) => self.close_range(alloc, at, &t)?,
-                Open::Group(line) => self.close_group(alloc, at, line)?,
-                Open::Nothing => return Ok(()),
+                OpenItem::Term(t) => self.close_range(alloc, at, &t)?,
+                OpenItem::Group(line) => self.close_group(alloc, at, line)?,
+                OpenItem::Nothing => return Ok(()),
             }
         }
-        Err(lost())
+        Err(missing_as_memory())
     }
 }

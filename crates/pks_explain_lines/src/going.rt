@@ -1,18 +1,18 @@
 //! Keeping what a table of lines is, and going back to it.
 
 use crate::lines::Lines;
-use pks_explain_moment::{Moment, push};
+use pks_explain_moment::{MomentLines, push};
 use std::alloc::{AllocError, Global};
 
 /// What a table of lines was at a time: how many lines it had, and its moments.
 #[derive(Drop)]
-pub struct Kept {
+pub struct SavedLines {
     lines: usize,
-    moments: Vec<Moment>,
+    moments: Vec<MomentLines>,
 }
 
 /// The moments again, whose memory is shared.
-fn shared(alloc: Global, moments: &[Moment]) -> Result<Vec<Moment>, AllocError> {
+fn shared_moments(alloc: Global, moments: &[MomentLines]) -> Result<Vec<MomentLines>, AllocError> {
     let mut all = Vec::new(alloc);
     for moment in moments {
         let own = moment.share()?;
@@ -24,9 +24,9 @@ fn shared(alloc: Global, moments: &[Moment]) -> Result<Vec<Moment>, AllocError> 
 impl Lines<'_> {
     /// What the table is now. Its memory is shared but for the lines, of which the number alone is kept. The error is want of
     /// memory.
-    pub fn keep(&self, alloc: Global) -> Result<Kept, AllocError> {
-        let moments = shared(alloc, self.moments.as_slice())?;
-        Ok(Kept {
+    pub fn keep(&self, alloc: Global) -> Result<SavedLines, AllocError> {
+        let moments = shared_moments(alloc, self.moments.as_slice())?;
+        Ok(SavedLines {
             lines: self.table.lines.len(),
             moments,
         })
@@ -34,8 +34,8 @@ impl Lines<'_> {
 
     /// The table as it was when this was kept: later lines are dropped, and the moments are what they were. The error is want
     /// of memory.
-    pub fn go_back(&mut self, alloc: Global, kept: &Kept) -> Result<(), AllocError> {
-        let moments = shared(alloc, kept.moments.as_slice())?;
+    pub fn go_back(&mut self, alloc: Global, kept: &SavedLines) -> Result<(), AllocError> {
+        let moments = shared_moments(alloc, kept.moments.as_slice())?;
         self.moments = moments;
         self.table.lines.truncate(kept.lines);
         Ok(())

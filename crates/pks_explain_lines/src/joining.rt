@@ -1,7 +1,7 @@
 //! Literals that come into the database of a moment.
 
-use crate::table::Table;
-use pks_explain_moment::{Moment, Swap, is_evident, lost, push};
+use crate::table::LineTable;
+use pks_explain_moment::{MomentLines, Swap, is_evident, missing_as_memory, push};
 use pks_proof_lines::Reason;
 use pks_terms::literal::Literal;
 use std::alloc::{AllocError, Global};
@@ -17,12 +17,12 @@ pub struct Joining {
     pub cites: Vec<u32>,
 }
 
-impl Table<'_> {
+impl LineTable<'_> {
     /// A new line by which a literal becomes known.
     fn new_line(
         &mut self,
         alloc: Global,
-        at: &Moment,
+        at: &MomentLines,
         l: &Literal,
         reason: Reason,
         cites: &[u32],
@@ -37,7 +37,7 @@ impl Table<'_> {
     fn line_for(
         &mut self,
         alloc: Global,
-        at: &Moment,
+        at: &MomentLines,
         l: &Literal,
         reason: Reason,
         cites: &[u32],
@@ -52,7 +52,7 @@ impl Table<'_> {
     fn join_one(
         &mut self,
         alloc: Global,
-        at: &mut Moment,
+        at: &mut MomentLines,
         l: &Literal,
         reason: Reason,
         cites: &[u32],
@@ -68,7 +68,7 @@ impl Table<'_> {
     fn join_swap(
         &mut self,
         alloc: Global,
-        at: &mut Moment,
+        at: &mut MomentLines,
         x: &Swap,
         to: &mut Vec<Swap>,
     ) -> Result<(), AllocError> {
@@ -80,7 +80,7 @@ impl Table<'_> {
     fn join_swaps(
         &mut self,
         alloc: Global,
-        at: &mut Moment,
+        at: &mut MomentLines,
         open: &mut Vec<Swap>,
     ) -> Result<(), AllocError> {
         for _ in 0..u64::MAX {
@@ -89,14 +89,14 @@ impl Table<'_> {
                 None => return Ok(()),
             }
         }
-        Err(lost())
+        Err(missing_as_memory())
     }
 
     /// The literal comes in, with all that the known values make of it.
     pub(crate) fn join(
         &mut self,
         alloc: Global,
-        at: &mut Moment,
+        at: &mut MomentLines,
         l: &Literal,
         reason: Reason,
         cites: &[u32],
@@ -107,7 +107,12 @@ impl Table<'_> {
     }
 
     /// Gives the literal a line, unless it has one or is evident.
-    fn give_line(&mut self, alloc: Global, at: &mut Moment, x: &Joining) -> Result<(), AllocError> {
+    fn give_line(
+        &mut self,
+        alloc: Global,
+        at: &mut MomentLines,
+        x: &Joining,
+    ) -> Result<(), AllocError> {
         if at.line_of(&x.literal).is_some() || is_evident(self.signature, &x.literal) {
             return Ok(());
         }
@@ -119,7 +124,7 @@ impl Table<'_> {
     fn give_new(
         &mut self,
         alloc: Global,
-        at: &mut Moment,
+        at: &mut MomentLines,
         x: &Joining,
         to: &mut Vec<Literal>,
     ) -> Result<(), AllocError> {
@@ -134,7 +139,7 @@ impl Table<'_> {
     fn give_all(
         &mut self,
         alloc: Global,
-        at: &mut Moment,
+        at: &mut MomentLines,
         all: &[Joining],
     ) -> Result<Vec<Literal>, AllocError> {
         let mut new = Vec::new(alloc);
@@ -148,7 +153,7 @@ impl Table<'_> {
     fn join_each(
         &mut self,
         alloc: Global,
-        at: &mut Moment,
+        at: &mut MomentLines,
         literals: &[Literal],
     ) -> Result<(), AllocError> {
         for l in literals {
@@ -161,7 +166,7 @@ impl Table<'_> {
     pub(crate) fn join_all(
         &mut self,
         alloc: Global,
-        at: &mut Moment,
+        at: &mut MomentLines,
         all: &[Joining],
     ) -> Result<(), AllocError> {
         let new = self.give_all(alloc, at, all)?;
@@ -172,7 +177,7 @@ impl Table<'_> {
     fn join_shown(
         &mut self,
         alloc: Global,
-        at: &mut Moment,
+        at: &mut MomentLines,
         l: &Literal,
     ) -> Result<(), AllocError> {
         self.show(alloc, at, l)?;
@@ -183,7 +188,7 @@ impl Table<'_> {
     fn join_new(
         &mut self,
         alloc: Global,
-        at: &mut Moment,
+        at: &mut MomentLines,
         l: &Literal,
         reason: Reason,
         rest: &[u32],
@@ -199,7 +204,7 @@ impl Table<'_> {
     pub(crate) fn join_by(
         &mut self,
         alloc: Global,
-        at: &mut Moment,
+        at: &mut MomentLines,
         l: &Literal,
         reason: Reason,
         rest: &[u32],

@@ -12,7 +12,7 @@ mod starting;
 mod table;
 mod tidying;
 
-pub use going::Kept;
+pub use going::SavedLines;
 pub use joining::Joining;
 pub use lines::Lines;
-pub use pks_explain_moment::{Form, equal, lost, unequal};
+pub use pks_explain_moment::{NormalForm, equal, missing_as_memory, unequal};

@@ -1,8 +1,8 @@
 //! The lines along a path, with what stands at each of its moments.
 
 use crate::joining::Joining;
-use crate::table::Table;
-use pks_explain_moment::{Moment, lost, push};
+use crate::table::LineTable;
+use pks_explain_moment::{MomentLines, missing_as_memory, push};
 use pks_lcw::Entry;
 use pks_proof_lines::{Fact, Line, Reason};
 use pks_terms::group::Group;
@@ -14,8 +14,8 @@ use std::alloc::{AllocError, Global};
 /// a moment by how many actions come before it. `docs/REASONS.md` has the reasons of lines.
 #[derive(Drop)]
 pub struct Lines<'p> {
-    pub(crate) table: Table<'p>,
-    pub(crate) moments: Vec<Moment>,
+    pub(crate) table: LineTable<'p>,
+    pub(crate) moments: Vec<MomentLines>,
 }
 
 impl<'p> Lines<'p> {
@@ -38,13 +38,14 @@ impl<'p> Lines<'p> {
     pub fn begin_moment(&mut self, alloc: Global) -> Result<(), AllocError> {
         let _alloc = alloc;
         let number = self.moments.len();
-        push(&mut self.moments, Moment::empty(number))
+        push(&mut self.moments, MomentLines::empty(number))
     }
 
-    /// The lines of the initial items, and what follows from them at the start, closed and in normal form. The error is want
-    /// of memory, or `lost` where the problem has too many objects or items. `docs/REASONS.md` has the reasons.
+    /// The lines of the initial items, and what follows from them at the start, closed and in normal form. The error is
+    /// want of memory, or `missing_as_memory` where the problem has too many objects or items. `docs/REASONS.md` has
+    /// the reasons.
     pub fn start(alloc: Global, p: &'p Problem<'_>) -> Result<Lines<'p>, AllocError> {
-        let table = Table::empty(alloc, &p.signature)?;
+        let table = LineTable::empty(alloc, &p.signature)?;
         let moments = Vec::new(alloc);
         let mut lines = Lines { table, moments };
         lines.begin(alloc, p)?;
@@ -56,12 +57,13 @@ impl<'p> Lines<'p> {
         self.begin_moment(alloc)?;
         match self.moments.get_mut(0) {
             Some(at) => self.table.begin(alloc, at, p),
-            None => Err(lost()),
+            None => Err(missing_as_memory()),
         }
     }
 
-    /// Puts a line behind the others and answers its number. What it cites is put in order, each number once. Nothing comes
-    /// to stand at the moment by it. The error is want of memory, or `lost` where there are too many lines.
+    /// Puts a line behind the others and answers its number. What it cites is put in order, each number once. Nothing
+    /// comes to stand at the moment by it. The error is want of memory, or `missing_as_memory` where there are too many
+    /// lines.
     pub fn add_line(
         &mut self,
         alloc: Global,
@@ -74,8 +76,8 @@ impl<'p> Lines<'p> {
         self.table.add(m, fact, reason, cites)
     }
 
-    /// The group stands at the moment, by the line of this number. The error is want of memory, or `lost` where there is no
-    /// such moment.
+    /// The group stands at the moment, by the line of this number. The error is want of memory, or `missing_as_memory`
+    /// where there is no such moment.
     pub fn add_group(
         &mut self,
         alloc: Global,
@@ -85,12 +87,12 @@ impl<'p> Lines<'p> {
     ) -> Result<(), AllocError> {
         match self.moments.get_mut(m) {
             Some(at) => at.add_group(alloc, g, line),
-            None => Err(lost()),
+            None => Err(missing_as_memory()),
         }
     }
 
-    /// The region stands at the moment, by the line of this number. The error is want of memory, or `lost` where there is no
-    /// such moment.
+    /// The region stands at the moment, by the line of this number. The error is want of memory, or `missing_as_memory`
+    /// where there is no such moment.
     pub fn add_region(
         &mut self,
         alloc: Global,
@@ -100,13 +102,13 @@ impl<'p> Lines<'p> {
     ) -> Result<(), AllocError> {
         match self.moments.get_mut(m) {
             Some(at) => at.add_region(alloc, e, line),
-            None => Err(lost()),
+            None => Err(missing_as_memory()),
         }
     }
 
     /// The literal comes into the database of the moment, with all that the known values make of it. Where it is known it
     /// stays as it is, where it has a line that is its line, and where it is evident its reason is that. The error is want
-    /// of memory, or `lost` where there is no such moment.
+    /// of memory, or `missing_as_memory` where there is no such moment.
     pub fn join(
         &mut self,
         alloc: Global,
@@ -117,7 +119,7 @@ impl<'p> Lines<'p> {
     ) -> Result<(), AllocError> {
         match self.moments.get_mut(m) {
             Some(at) => self.table.join(alloc, at, l, reason, cites.as_slice()),
-            None => Err(lost()),
+            None => Err(missing_as_memory()),
         }
     }
 
@@ -131,13 +133,13 @@ impl<'p> Lines<'p> {
     ) -> Result<(), AllocError> {
         match self.moments.get_mut(m) {
             Some(at) => self.table.join_all(alloc, at, all.as_slice()),
-            None => Err(lost()),
+            None => Err(missing_as_memory()),
         }
     }
 
-    /// A literal that a rule adds: by what holds already, where it does; else for the reason, which rests on the lines and on
-    /// the literals needed, which hold and are shown. The error is want of memory, or `lost` where one of these doesn't hold
-    /// or there is no such moment.
+    /// A literal that a rule adds: by what holds already, where it does; else for the reason, which rests on the lines
+    /// and on the literals needed, which hold and are shown. The error is want of memory, or `missing_as_memory` where
+    /// one of these doesn't hold or there is no such moment.
     pub fn join_by(
         &mut self,
         alloc: Global,
@@ -149,17 +151,17 @@ impl<'p> Lines<'p> {
     ) -> Result<(), AllocError> {
         match self.moments.get_mut(m) {
             Some(at) => self.table.join_by(alloc, at, l, reason, rest, need),
-            None => Err(lost()),
+            None => Err(missing_as_memory()),
         }
     }
 
-    /// The number of a line that says so of the moment, which is made where there is none: from the normal form back, one
-    /// line for each step. It is for literals that hold: of another it says `lost`, as where there is no such moment. The
-    /// other error is want of memory.
+    /// The number of a line that says so of the moment, which is made where there is none: from the normal form back,
+    /// one line for each step. It is for literals that hold: of another it says `missing_as_memory`, as where there is
+    /// no such moment. The other error is want of memory.
     pub fn show(&mut self, alloc: Global, m: usize, l: &Literal) -> Result<u32, AllocError> {
         match self.moments.get_mut(m) {
             Some(at) => self.table.show(alloc, at, l),
-            None => Err(lost()),
+            None => Err(missing_as_memory()),
         }
     }
 
@@ -172,25 +174,25 @@ impl<'p> Lines<'p> {
     ) -> Result<Vec<u32>, AllocError> {
         match self.moments.get_mut(m) {
             Some(at) => self.table.show_all(alloc, at, ls),
-            None => Err(lost()),
+            None => Err(missing_as_memory()),
         }
     }
 
-    /// Adds all that groups and ranges tell at the moment. The error is want of memory, or `lost` where there is no such
-    /// moment.
+    /// Adds all that groups and ranges tell at the moment. The error is want of memory, or `missing_as_memory` where
+    /// there is no such moment.
     pub fn close(&mut self, alloc: Global, m: usize) -> Result<(), AllocError> {
         match self.moments.get_mut(m) {
             Some(at) => self.table.close(alloc, at),
-            None => Err(lost()),
+            None => Err(missing_as_memory()),
         }
     }
 
     /// Groups and regions of the moment come to their normal forms, by one line for each step. The error is want of memory,
-    /// or `lost` where there is no such moment.
+    /// or `missing_as_memory` where there is no such moment.
     pub fn tidy(&mut self, alloc: Global, m: usize) -> Result<(), AllocError> {
         match self.moments.get_mut(m) {
             Some(at) => self.table.tidy(alloc, at),
-            None => Err(lost()),
+            None => Err(missing_as_memory()),
         }
     }
 }

@@ -1,8 +1,10 @@
 //! Lines for the denials of atoms that a region shuts out.
 
 use crate::showing::found;
-use crate::table::Table;
-use pks_explain_moment::{Link, Moment, are_plainly_apart, denied, lost, push, with_fixed};
+use crate::table::LineTable;
+use pks_explain_moment::{
+    LiteralRewrite, MomentLines, are_plainly_apart, denied, missing_as_memory, push, with_fixed,
+};
 use pks_lcw::Entry;
 use pks_proof_lines::Reason;
 use pks_terms::literal::{Atom, Literal, PredAtom};
@@ -15,16 +17,16 @@ struct Shutting {
     line: u32,
 }
 
-fn shared(region: &Entry, line: u32) -> Result<Shutting, AllocError> {
+fn shutting_by(region: &Entry, line: u32) -> Result<Shutting, AllocError> {
     let region = region.share()?;
     Ok(Shutting { region, line })
 }
 
-impl Table<'_> {
-    fn region_around(&self, at: &Moment, a: &PredAtom) -> Result<Shutting, AllocError> {
+impl LineTable<'_> {
+    fn region_around(&self, at: &MomentLines, a: &PredAtom) -> Result<Shutting, AllocError> {
         match at.shutting_out(self.signature, a) {
-            Some((region, line)) => shared(region, line),
-            None => Err(lost()),
+            Some((region, line)) => shutting_by(region, line),
+            None => Err(missing_as_memory()),
         }
     }
 
@@ -32,12 +34,12 @@ impl Table<'_> {
     fn show_difference(
         &mut self,
         alloc: Global,
-        at: &mut Moment,
+        at: &mut MomentLines,
         a: &PredAtom,
         b: &PredAtom,
     ) -> Result<u32, AllocError> {
         let Some(l) = at.difference(self.signature, a, b) else {
-            return Err(lost());
+            return Err(missing_as_memory());
         };
         let line = self.show_plainly(alloc, at, &l)?;
         found(line)
@@ -47,7 +49,7 @@ impl Table<'_> {
     fn put_difference(
         &mut self,
         alloc: Global,
-        at: &mut Moment,
+        at: &mut MomentLines,
         a: &PredAtom,
         b: &PredAtom,
         to: &mut Vec<u32>,
@@ -63,7 +65,7 @@ impl Table<'_> {
     fn put_differences(
         &mut self,
         alloc: Global,
-        at: &mut Moment,
+        at: &mut MomentLines,
         a: &PredAtom,
         others: &[PredAtom],
         to: &mut Vec<u32>,
@@ -78,7 +80,7 @@ impl Table<'_> {
     fn show_closed(
         &mut self,
         alloc: Global,
-        at: &mut Moment,
+        at: &mut MomentLines,
         fixed: &PredAtom,
         by: &Shutting,
     ) -> Result<(), AllocError> {
@@ -93,8 +95,8 @@ impl Table<'_> {
     fn show_by_region(
         &mut self,
         alloc: Global,
-        at: &mut Moment,
-        chain: &[Link],
+        at: &mut MomentLines,
+        chain: &[LiteralRewrite],
         fixed: &PredAtom,
         by: &Shutting,
     ) -> Result<u32, AllocError> {
@@ -109,7 +111,7 @@ impl Table<'_> {
     fn show_around(
         &mut self,
         alloc: Global,
-        at: &mut Moment,
+        at: &mut MomentLines,
         a: &PredAtom,
         by: &Shutting,
     ) -> Result<u32, AllocError> {
@@ -121,7 +123,7 @@ impl Table<'_> {
     fn show_denied(
         &mut self,
         alloc: Global,
-        at: &mut Moment,
+        at: &mut MomentLines,
         a: &PredAtom,
     ) -> Result<u32, AllocError> {
         let by = self.region_around(at, a)?;
@@ -133,15 +135,15 @@ impl Table<'_> {
     pub(crate) fn show_outside(
         &mut self,
         alloc: Global,
-        at: &mut Moment,
+        at: &mut MomentLines,
         l: &Literal,
     ) -> Result<u32, AllocError> {
         if l.positive {
-            return Err(lost());
+            return Err(missing_as_memory());
         }
         match &l.atom {
             Atom::Pred(a) => self.show_denied(alloc, at, a),
-            Atom::Eq { .. } => Err(lost()),
+            Atom::Eq { .. } => Err(missing_as_memory()),
         }
     }
 }

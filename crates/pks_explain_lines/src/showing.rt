@@ -1,17 +1,17 @@
 //! Lines for literals that hold.
 
-use crate::table::Table;
-use pks_explain_moment::{Link, Moment, is_evident, lost, push};
+use crate::table::LineTable;
+use pks_explain_moment::{LiteralRewrite, MomentLines, is_evident, missing_as_memory, push};
 use pks_proof_lines::Reason;
 use pks_terms::literal::Literal;
 use std::alloc::{AllocError, Global};
 
-impl Table<'_> {
+impl LineTable<'_> {
     /// The line of a literal that has none, if it is evident.
     fn evident_line(
         &mut self,
         alloc: Global,
-        at: &mut Moment,
+        at: &mut MomentLines,
         l: &Literal,
     ) -> Result<Option<u32>, AllocError> {
         if !is_evident(self.signature, l) {
@@ -25,7 +25,7 @@ impl Table<'_> {
     fn standing_line(
         &mut self,
         alloc: Global,
-        at: &mut Moment,
+        at: &mut MomentLines,
         l: &Literal,
     ) -> Result<Option<u32>, AllocError> {
         match at.line_of(l) {
@@ -38,7 +38,7 @@ impl Table<'_> {
     fn swapped_line(
         &mut self,
         alloc: Global,
-        at: &mut Moment,
+        at: &mut MomentLines,
         l: &Literal,
         next: u32,
         equation: u32,
@@ -54,8 +54,8 @@ impl Table<'_> {
     pub(crate) fn climb(
         &mut self,
         alloc: Global,
-        at: &mut Moment,
-        chain: &[Link],
+        at: &mut MomentLines,
+        chain: &[LiteralRewrite],
     ) -> Result<Option<u32>, AllocError> {
         let [link, rest @ ..] = chain else {
             return Ok(None);
@@ -77,7 +77,7 @@ impl Table<'_> {
     fn show_down(
         &mut self,
         alloc: Global,
-        at: &mut Moment,
+        at: &mut MomentLines,
         l: &Literal,
     ) -> Result<Option<u32>, AllocError> {
         let chain = at.chain_down(alloc, l)?;
@@ -88,7 +88,7 @@ impl Table<'_> {
     pub(crate) fn show_plainly(
         &mut self,
         alloc: Global,
-        at: &mut Moment,
+        at: &mut MomentLines,
         l: &Literal,
     ) -> Result<Option<u32>, AllocError> {
         match at.line_of(l) {
@@ -101,7 +101,7 @@ impl Table<'_> {
     pub(crate) fn show(
         &mut self,
         alloc: Global,
-        at: &mut Moment,
+        at: &mut MomentLines,
         l: &Literal,
     ) -> Result<u32, AllocError> {
         match self.show_plainly(alloc, at, l)? {
@@ -114,7 +114,7 @@ impl Table<'_> {
     pub(crate) fn show_all(
         &mut self,
         alloc: Global,
-        at: &mut Moment,
+        at: &mut MomentLines,
         ls: &[Literal],
     ) -> Result<Vec<u32>, AllocError> {
         let mut lines = Vec::new(alloc);
@@ -126,10 +126,10 @@ impl Table<'_> {
     }
 }
 
-/// The line, or `lost` where there is none.
+/// The line, or `missing_as_memory` where there is none.
 pub(crate) fn found(line: Option<u32>) -> Result<u32, AllocError> {
     match line {
         Some(line) => Ok(line),
-        None => Err(lost()),
+        None => Err(missing_as_memory()),
     }
 }

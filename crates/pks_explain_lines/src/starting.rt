@@ -1,8 +1,8 @@
 //! The lines of what is known at the start.
 
 use crate::joining::Joining;
-use crate::table::Table;
-use pks_explain_moment::{Moment, lost, push};
+use crate::table::LineTable;
+use pks_explain_moment::{MomentLines, missing_as_memory, push};
 use pks_lcw::{AtomSet, Entry, Lcw};
 use pks_proof_lines::{Fact, Reason};
 use pks_query_initial::initial::initial;
@@ -19,7 +19,7 @@ const MOST_OBJECTS: usize = 65_536;
 fn ranges_of(alloc: Global, s: &Signature) -> Result<Vec<Vec<ObjId>>, AllocError> {
     let mut ranges = Vec::new(alloc);
     if s.objects.len() > MOST_OBJECTS {
-        return Err(lost());
+        return Err(missing_as_memory());
     }
     for shape in s.functions.as_slice() {
         let objects = s.objects_of(alloc, shape.result)?;
@@ -36,7 +36,7 @@ fn region_of(regions: &Lcw, pattern: &Pattern) -> Result<Entry, AllocError> {
     };
     match regions.first_from(&least) {
         Some(region) if region.pattern == *pattern => region.share(),
-        _ => Err(lost()),
+        _ => Err(missing_as_memory()),
     }
 }
 
@@ -57,11 +57,11 @@ fn put_given_literal(
     )
 }
 
-impl<'p> Table<'p> {
+impl<'p> LineTable<'p> {
     /// The table that has no lines yet.
-    pub(crate) fn empty(alloc: Global, s: &'p Signature) -> Result<Table<'p>, AllocError> {
+    pub(crate) fn empty(alloc: Global, s: &'p Signature) -> Result<LineTable<'p>, AllocError> {
         let ranges = ranges_of(alloc, s)?;
-        Ok(Table {
+        Ok(LineTable {
             signature: s,
             ranges,
             lines: Vec::new(alloc),
@@ -69,11 +69,11 @@ impl<'p> Table<'p> {
     }
 }
 
-impl Table<'_> {
+impl LineTable<'_> {
     fn put_group(
         &mut self,
         alloc: Global,
-        at: &mut Moment,
+        at: &mut MomentLines,
         group: &Group,
         reason: Reason,
     ) -> Result<(), AllocError> {
@@ -85,7 +85,7 @@ impl Table<'_> {
     fn put_region(
         &mut self,
         alloc: Global,
-        at: &mut Moment,
+        at: &mut MomentLines,
         region: Entry,
         reason: Reason,
     ) -> Result<(), AllocError> {
@@ -97,7 +97,7 @@ impl Table<'_> {
     fn put_given_group(
         &mut self,
         alloc: Global,
-        at: &mut Moment,
+        at: &mut MomentLines,
         group: &Group,
         reason: Reason,
     ) -> Result<(), AllocError> {
@@ -110,7 +110,7 @@ impl Table<'_> {
     fn put_given_region(
         &mut self,
         alloc: Global,
-        at: &mut Moment,
+        at: &mut MomentLines,
         pattern: &Pattern,
         reason: Reason,
         regions: &Lcw,
@@ -126,7 +126,7 @@ impl Table<'_> {
     fn put_given(
         &mut self,
         alloc: Global,
-        at: &mut Moment,
+        at: &mut MomentLines,
         item: &Init,
         reason: Reason,
         regions: &Lcw,
@@ -144,7 +144,7 @@ impl Table<'_> {
     fn put_all_given(
         &mut self,
         alloc: Global,
-        at: &mut Moment,
+        at: &mut MomentLines,
         items: &[InitItem],
         regions: &Lcw,
     ) -> Result<Vec<Joining>, AllocError> {
@@ -162,7 +162,7 @@ impl Table<'_> {
     fn join_given(
         &mut self,
         alloc: Global,
-        at: &mut Moment,
+        at: &mut MomentLines,
         items: &[InitItem],
         regions: &Lcw,
     ) -> Result<(), AllocError> {
@@ -173,7 +173,7 @@ impl Table<'_> {
     fn join_initial(
         &mut self,
         alloc: Global,
-        at: &mut Moment,
+        at: &mut MomentLines,
         p: &Problem<'_>,
     ) -> Result<(), AllocError> {
         let first = initial(alloc, p)?;
@@ -184,7 +184,7 @@ impl Table<'_> {
     pub(crate) fn begin(
         &mut self,
         alloc: Global,
-        at: &mut Moment,
+        at: &mut MomentLines,
         p: &Problem<'_>,
     ) -> Result<(), AllocError> {
         self.join_initial(alloc, at, p)?;

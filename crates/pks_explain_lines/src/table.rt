@@ -1,6 +1,6 @@
 //! The table of lines.
 
-use pks_explain_moment::{Moment, lost, push};
+use pks_explain_moment::{MomentLines, missing_as_memory, push};
 use pks_proof_lines::{Fact, Line, Reason};
 use pks_terms::ids::ObjId;
 use pks_terms::literal::Literal;
@@ -11,7 +11,7 @@ use std::alloc::{AllocError, Global};
 
 /// The lines found so far along a path, and what the problem declares.
 #[derive(Drop)]
-pub(crate) struct Table<'p> {
+pub(crate) struct LineTable<'p> {
     pub signature: &'p Signature,
     /// The objects of the result type of each function.
     pub ranges: Vec<Vec<ObjId>>,
@@ -29,7 +29,7 @@ fn in_order(numbers: Vec<u32>) -> Sequence<u32> {
     Sequence::of(numbers)
 }
 
-impl Table<'_> {
+impl LineTable<'_> {
     /// The line of this number, if there is one.
     pub(crate) fn line(&self, number: u32) -> Option<&Line> {
         if number == 0 {
@@ -60,7 +60,7 @@ impl Table<'_> {
     ) -> Result<u32, AllocError> {
         let before = self.lines.len();
         if before >= MOST_LINES || m >= MOST_LINES {
-            return Err(lost());
+            return Err(missing_as_memory());
         }
         let line = Line {
             moment: m as u32,
@@ -76,7 +76,7 @@ impl Table<'_> {
     pub(crate) fn add_literal(
         &mut self,
         alloc: Global,
-        at: &Moment,
+        at: &MomentLines,
         l: &Literal,
         reason: Reason,
         cites: &[u32],
@@ -89,7 +89,7 @@ impl Table<'_> {
     pub(crate) fn add_swap(
         &mut self,
         alloc: Global,
-        at: &Moment,
+        at: &MomentLines,
         fact: Fact,
         line: u32,
         equation: u32,
@@ -102,7 +102,7 @@ impl Table<'_> {
     pub(crate) fn add_shown(
         &mut self,
         alloc: Global,
-        at: &mut Moment,
+        at: &mut MomentLines,
         l: &Literal,
         reason: Reason,
         cites: &[u32],

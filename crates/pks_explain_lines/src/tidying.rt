@@ -1,7 +1,7 @@
 //! Groups and regions in normal form. `docs/RULES.md` has the rule.
 
-use crate::table::Table;
-use pks_explain_moment::{GroupStep, Moment, RegionStep, lost};
+use crate::table::LineTable;
+use pks_explain_moment::{GroupStep, MomentLines, RegionStep, missing_as_memory};
 use pks_lcw::Entry;
 use pks_proof_lines::Fact;
 use pks_terms::group::Group;
@@ -22,7 +22,7 @@ struct RegionLine {
 }
 
 /// The group comes to stand, unless it does.
-fn put_group(alloc: Global, at: &mut Moment, last: GroupLine) -> Result<(), AllocError> {
+fn put_group(alloc: Global, at: &mut MomentLines, last: GroupLine) -> Result<(), AllocError> {
     if at.has_group(&last.group) {
         return Ok(());
     }
@@ -30,19 +30,19 @@ fn put_group(alloc: Global, at: &mut Moment, last: GroupLine) -> Result<(), Allo
 }
 
 /// The region comes to stand, unless it does.
-fn put_region(alloc: Global, at: &mut Moment, last: RegionLine) -> Result<(), AllocError> {
+fn put_region(alloc: Global, at: &mut MomentLines, last: RegionLine) -> Result<(), AllocError> {
     if at.has_region(&last.region) {
         return Ok(());
     }
     at.add_region(alloc, last.region, last.line)
 }
 
-impl Table<'_> {
+impl LineTable<'_> {
     /// The group after the step, with a line for that.
     fn line_group(
         &mut self,
         alloc: Global,
-        at: &Moment,
+        at: &MomentLines,
         step: GroupStep,
         line: u32,
     ) -> Result<GroupLine, AllocError> {
@@ -58,7 +58,7 @@ impl Table<'_> {
     fn line_region(
         &mut self,
         alloc: Global,
-        at: &Moment,
+        at: &MomentLines,
         step: RegionStep,
         line: u32,
     ) -> Result<RegionLine, AllocError> {
@@ -74,7 +74,7 @@ impl Table<'_> {
     fn last_group(
         &mut self,
         alloc: Global,
-        at: &Moment,
+        at: &MomentLines,
         first: GroupLine,
     ) -> Result<GroupLine, AllocError> {
         let mut now = first;
@@ -84,14 +84,14 @@ impl Table<'_> {
                 None => return Ok(now),
             }
         }
-        Err(lost())
+        Err(missing_as_memory())
     }
 
     /// The normal form of the region, by a line for each step.
     fn last_region(
         &mut self,
         alloc: Global,
-        at: &Moment,
+        at: &MomentLines,
         first: RegionLine,
     ) -> Result<RegionLine, AllocError> {
         let mut now = first;
@@ -101,14 +101,14 @@ impl Table<'_> {
                 None => return Ok(now),
             }
         }
-        Err(lost())
+        Err(missing_as_memory())
     }
 
     /// The group in normal form comes to stand in place of this one, of which this is the first step.
     fn tidy_group(
         &mut self,
         alloc: Global,
-        at: &mut Moment,
+        at: &mut MomentLines,
         group: &Group,
         line: u32,
         step: GroupStep,
@@ -123,7 +123,7 @@ impl Table<'_> {
     fn tidy_region(
         &mut self,
         alloc: Global,
-        at: &mut Moment,
+        at: &mut MomentLines,
         region: &Entry,
         line: u32,
         step: RegionStep,
@@ -134,7 +134,7 @@ impl Table<'_> {
         put_region(alloc, at, last)
     }
 
-    fn tidy_groups(&mut self, alloc: Global, at: &mut Moment) -> Result<(), AllocError> {
+    fn tidy_groups(&mut self, alloc: Global, at: &mut MomentLines) -> Result<(), AllocError> {
         let groups = at.groups(alloc)?;
         for (group, line) in groups.as_slice() {
             if let Some(step) = at.group_step(alloc, group)? {
@@ -144,7 +144,7 @@ impl Table<'_> {
         Ok(())
     }
 
-    fn tidy_regions(&mut self, alloc: Global, at: &mut Moment) -> Result<(), AllocError> {
+    fn tidy_regions(&mut self, alloc: Global, at: &mut MomentLines) -> Result<(), AllocError> {
         let regions = at.regions(alloc)?;
         for (region, line) in regions.as_slice() {
             if let Some(step) = at.region_step(alloc, region)? {
@@ -155,7 +155,7 @@ impl Table<'_> {
     }
 
     /// Groups and regions of the moment come to their normal forms, by one line for each step.
-    pub(crate) fn tidy(&mut self, alloc: Global, at: &mut Moment) -> Result<(), AllocError> {
+    pub(crate) fn tidy(&mut self, alloc: Global, at: &mut MomentLines) -> Result<(), AllocError> {
         at.open_all();
         self.tidy_groups(alloc, at)?;
         self.tidy_regions(alloc, at)

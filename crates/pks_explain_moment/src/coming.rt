@@ -1,6 +1,6 @@
 //! Literals that come to be known at a moment, and what the known values make of them.
 
-use crate::moment::{Moment, Valued, forget, put};
+use crate::moment::{MomentLines, Valued, forget, put};
 use crate::placing::{SPOTS_OF_LITERAL, applications_in, place_of, replaced, value_told};
 use crate::pushing::push;
 use pks_pmap::map::PMap;
@@ -76,7 +76,7 @@ fn put_all_swaps(
     Ok(())
 }
 
-impl Moment {
+impl MomentLines {
     /// The application occurs in the literal.
     fn put_occurring(&mut self, alloc: Global, t: &Term, x: &Lined) -> Result<(), AllocError> {
         let Some(place) = place_of(t) else {

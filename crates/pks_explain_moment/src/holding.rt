@@ -1,6 +1,6 @@
 //! What holds at a moment. `docs/RULES.md` has the rule.
 
-use crate::moment::Moment;
+use crate::moment::MomentLines;
 use crate::placing::unequal;
 use pks_lcw::Entry;
 use pks_terms::literal::{Atom, Literal, Pattern, PredAtom};
@@ -49,7 +49,7 @@ fn fixed_at(p: &Pattern, a: &PredAtom, position: usize) -> Option<(Term, Term)> 
     Some((slot?, argument(a, position)?))
 }
 
-impl Moment {
+impl MomentLines {
     /// Whether the normal form of the literal has a line or is evident.
     fn holds_normally(&self, s: &Signature, normal: &Literal) -> bool {
         self.line_of(normal).is_some() || is_evident(s, normal)

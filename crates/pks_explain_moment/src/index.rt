@@ -1,6 +1,6 @@
 //! What closing has to look at again at a moment.
 
-use crate::moment::{Moment, forget, put};
+use crate::moment::{MomentLines, forget, put};
 use crate::placing::affirmed;
 use crate::pushing::{push, put_behind, put_in};
 use pks_terms::group::Group;
@@ -12,7 +12,7 @@ use std::collections::{BTreeMap, BTreeSet};
 /// The groups and applications of a moment, found by the normal forms of what they are about, and those that are open:
 /// closing has to look at them. It is made anew where a value comes in.
 #[derive(Drop)]
-pub(crate) struct Index {
+pub(crate) struct LineIndex {
     /// The line of each group, in the order of the groups.
     lines: Vec<u32>,
     /// The places of the groups that have a member of this normal form, the sign left out.
@@ -25,7 +25,7 @@ pub(crate) struct Index {
 
 /// What closing looks at next.
 #[derive(Clone, Copy)]
-pub enum Open {
+pub enum OpenItem {
     /// An application.
     Term(Term),
     /// The group of the line of this number.
@@ -49,9 +49,9 @@ fn open_each<V: Ord + Copy>(set: &mut BTreeSet<V>, values: &[V]) -> Result<(), A
     Ok(())
 }
 
-impl Index {
-    fn empty(alloc: Global) -> Index {
-        Index {
+impl LineIndex {
+    fn empty(alloc: Global) -> LineIndex {
+        LineIndex {
             lines: Vec::new(alloc),
             groups: BTreeMap::new(alloc),
             terms: BTreeMap::new(alloc),
@@ -121,24 +121,24 @@ impl Index {
     }
 
     /// What is open, the least first, which then is open no more.
-    fn take_first(&mut self) -> Open {
+    fn take_first(&mut self) -> OpenItem {
         if let Some(t) = self.open_terms.pop_first() {
-            return Open::Term(t);
+            return OpenItem::Term(t);
         }
         match self.take_group() {
-            Some(line) => Open::Group(line),
-            None => Open::Nothing,
+            Some(line) => OpenItem::Group(line),
+            None => OpenItem::Nothing,
         }
     }
 }
 
-impl Moment {
+impl MomentLines {
     fn index_group(
         &self,
         alloc: Global,
         group: &Group,
         line: u32,
-        to: &mut Index,
+        to: &mut LineIndex,
     ) -> Result<(), AllocError> {
         let place = to.put_line(line)?;
         for l in group.as_slice() {
@@ -147,14 +147,14 @@ impl Moment {
         Ok(())
     }
 
-    fn index_groups(&self, alloc: Global, to: &mut Index) -> Result<(), AllocError> {
+    fn index_groups(&self, alloc: Global, to: &mut LineIndex) -> Result<(), AllocError> {
         for (group, line) in self.beside.groups.iter() {
             self.index_group(alloc, group, *line, to)?;
         }
         Ok(())
     }
 
-    fn index_terms(&self, alloc: Global, to: &mut Index) -> Result<(), AllocError> {
+    fn index_terms(&self, alloc: Global, to: &mut LineIndex) -> Result<(), AllocError> {
         for (t, _) in self.occurring.applications.iter() {
             to.put_term(alloc, t, self.normal(t))?;
         }
@@ -162,8 +162,8 @@ impl Moment {
     }
 
     /// The index in which all is open.
-    fn made_index(&self, alloc: Global) -> Result<Index, AllocError> {
-        let mut index = Index::empty(alloc);
+    fn made_index(&self, alloc: Global) -> Result<LineIndex, AllocError> {
+        let mut index = LineIndex::empty(alloc);
         self.index_groups(alloc, &mut index)?;
         self.index_terms(alloc, &mut index)?;
         Ok(index)
@@ -176,13 +176,13 @@ impl Moment {
     }
 
     /// What closing looks at next. The error is want of memory.
-    pub fn next_open(&mut self, alloc: Global) -> Result<Open, AllocError> {
+    pub fn next_open(&mut self, alloc: Global) -> Result<OpenItem, AllocError> {
         if self.index.is_none() {
             self.make_index(alloc)?;
         }
         match &mut self.index {
             Some(index) => Ok(index.take_first()),
-            None => Ok(Open::Nothing),
+            None => Ok(OpenItem::Nothing),
         }
     }
 

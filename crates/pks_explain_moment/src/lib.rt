@@ -14,9 +14,9 @@ mod ways;
 
 pub use coming::Swap;
 pub use holding::is_evident;
-pub use index::Open;
-pub use moment::{Moment, lost};
-pub use normalizing::{Form, Link};
+pub use index::OpenItem;
+pub use moment::{MomentLines, missing_as_memory};
+pub use normalizing::{LiteralRewrite, NormalForm};
 pub use placing::{equal, unequal};
 pub use pushing::push;
 pub use tidying::{GroupStep, RegionStep};

@@ -1,6 +1,6 @@
 //! What stands at one moment, in maps whose versions share their memory.
 
-use crate::index::Index;
+use crate::index::LineIndex;
 use crate::pushing::both;
 use pks_lcw::Entry;
 use pks_pmap::counting::Steps;
@@ -53,17 +53,17 @@ pub(crate) struct Occurring {
 
 /// What stands at a moment of a path, each with the number of its line.
 #[derive(Drop)]
-pub struct Moment {
+pub struct MomentLines {
     number: usize,
     pub(crate) stated: Stated,
     pub(crate) beside: Beside,
     pub(crate) occurring: Occurring,
     /// What closing has to look at, where this has been made.
-    pub(crate) index: Option<Index>,
+    pub(crate) index: Option<LineIndex>,
 }
 
-/// What is answered where a line that should be there isn't found. No file is known for which that is so.
-pub fn lost() -> AllocError {
+/// Want of memory, answered where a line that should be there is missing. No file is known for which that is so.
+pub fn missing_as_memory() -> AllocError {
     AllocError
 }
 
@@ -93,7 +93,7 @@ pub(crate) fn drop_at<K: Ord + Drop, V: Drop>(
 }
 
 /// Closing has to look at all again.
-pub(crate) fn forget(index: &mut Option<Index>) {
+pub(crate) fn forget(index: &mut Option<LineIndex>) {
     *index = None;
 }
 
@@ -123,10 +123,10 @@ impl Occurring {
     }
 }
 
-impl Moment {
+impl MomentLines {
     /// The moment of this number, at which nothing stands.
-    pub fn empty(number: usize) -> Moment {
-        Moment {
+    pub fn empty(number: usize) -> MomentLines {
+        MomentLines {
             number,
             stated: Stated {
                 known: PMap::empty(),
@@ -147,10 +147,10 @@ impl Moment {
 
     /// An equal moment, whose maps are shared. What closing has to look at is left out, so that it looks at all. The error is
     /// want of memory.
-    pub fn share(&self) -> Result<Moment, AllocError> {
+    pub fn share(&self) -> Result<MomentLines, AllocError> {
         let literals = both(self.stated.share(), self.occurring.share());
         let ((stated, occurring), beside) = both(literals, self.beside.share())?;
-        Ok(Moment {
+        Ok(MomentLines {
             number: self.number,
             stated,
             beside,

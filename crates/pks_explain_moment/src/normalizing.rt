@@ -1,6 +1,6 @@
 //! Normal forms at a moment, with the equations that lead to them. `docs/RULES.md` has the rule.
 
-use crate::moment::{Moment, Valued};
+use crate::moment::{MomentLines, Valued};
 use crate::placing::{
     SPOTS_OF_LITERAL, SPOTS_OF_TERM, equal, place_at, place_of, with_object, with_term, with_terms,
 };
@@ -11,7 +11,7 @@ use std::alloc::{AllocError, Global};
 
 /// A term as it is read at a moment, and the equations by which it came to be so.
 #[derive(Drop)]
-pub struct Form {
+pub struct NormalForm {
     /// What the term has become.
     pub term: Term,
     /// The equations, each known at the moment.
@@ -20,7 +20,7 @@ pub struct Form {
 
 /// One replacement of an application in a term by its value.
 #[derive(Clone, Copy)]
-pub(crate) struct Step {
+pub(crate) struct TermRewrite {
     /// What comes of the term.
     pub term: Term,
     /// The application and its value.
@@ -39,7 +39,7 @@ pub(crate) struct Move {
 /// A literal on its way to another one, and the number of the line of the equation by which it came to be so, which is 0 for
 /// the first.
 #[derive(Clone, Copy)]
-pub struct Link {
+pub struct LiteralRewrite {
     /// What it has become.
     pub literal: Literal,
     /// The line of the equation, known at the moment.
@@ -52,53 +52,53 @@ fn equation_of(by: &Valued) -> Literal {
 }
 
 /// What the literal becomes.
-fn moved(l: &Literal, x: &Move) -> Link {
-    Link {
+fn moved(l: &Literal, x: &Move) -> LiteralRewrite {
+    LiteralRewrite {
         literal: with_terms(l, &x.items),
         equation: x.equation,
     }
 }
 
 /// The literal as it is.
-pub(crate) fn first_of_chain(l: &Literal) -> Link {
-    Link {
+pub(crate) fn first_of_chain(l: &Literal) -> LiteralRewrite {
+    LiteralRewrite {
         literal: *l,
         equation: 0,
     }
 }
 
-impl Form {
+impl NormalForm {
     /// The term as it is.
-    fn of(alloc: Global, t: &Term) -> Form {
-        Form {
+    fn of(alloc: Global, t: &Term) -> NormalForm {
+        NormalForm {
             term: *t,
             by: Vec::new(alloc),
         }
     }
 
     /// The form after one more step.
-    fn go(&mut self, step: &Step) -> Result<(), AllocError> {
+    fn go(&mut self, step: &TermRewrite) -> Result<(), AllocError> {
         self.term = step.term;
         push(&mut self.by, equation_of(&step.by))
     }
 
-    fn copied(&self, alloc: Global) -> Result<Form, AllocError> {
+    fn copied(&self, alloc: Global) -> Result<NormalForm, AllocError> {
         let by = Vec::from_slice(alloc, self.by.as_slice())?;
-        Ok(Form {
+        Ok(NormalForm {
             term: self.term,
             by,
         })
     }
 
     /// Another form, which is this one and one more step.
-    fn then(&self, alloc: Global, step: &Step) -> Result<Form, AllocError> {
+    fn then(&self, alloc: Global, step: &TermRewrite) -> Result<NormalForm, AllocError> {
         let mut form = self.copied(alloc)?;
         form.go(step)?;
         Ok(form)
     }
 }
 
-impl Moment {
+impl MomentLines {
     fn normal_inner(&self, t: &Inner) -> Inner {
         match self.valued(t) {
             Some(by) => Inner::Obj(by.value),
@@ -148,14 +148,14 @@ impl Moment {
     }
 
     /// The replacement at this spot of the term.
-    fn step(&self, t: &Term, spot: usize) -> Option<Step> {
+    fn step(&self, t: &Term, spot: usize) -> Option<TermRewrite> {
         let by = self.valued(&place_at(t, spot)?)?;
         let term = with_object(t, spot, by.value);
-        Some(Step { term, by })
+        Some(TermRewrite { term, by })
     }
 
     /// The first step of a term on its way to its normal form.
-    pub(crate) fn first_step(&self, t: &Term) -> Option<Step> {
+    pub(crate) fn first_step(&self, t: &Term) -> Option<TermRewrite> {
         for spot in 0..SPOTS_OF_TERM {
             if let Some(step) = self.step(t, spot) {
                 return Some(step);
@@ -165,7 +165,7 @@ impl Moment {
     }
 
     /// All steps of a term on its way to its normal form, the arguments first.
-    pub(crate) fn steps(&self, alloc: Global, t: &Term) -> Result<Vec<Step>, AllocError> {
+    pub(crate) fn steps(&self, alloc: Global, t: &Term) -> Result<Vec<TermRewrite>, AllocError> {
         let mut steps = Vec::new(alloc);
         let mut now = *t;
         for spot in 0..SPOTS_OF_TERM {
@@ -199,13 +199,13 @@ impl Moment {
     }
 
     /// What the literal becomes first on its way to its normal form.
-    pub(crate) fn first_link(&self, l: &Literal) -> Option<Link> {
+    pub(crate) fn first_link(&self, l: &Literal) -> Option<LiteralRewrite> {
         let x = self.first_move(&l.atom.arguments())?;
         Some(moved(l, &x))
     }
 
     /// Puts what the literal becomes at each spot on its way to its normal form.
-    fn put_links(&self, l: &Literal, to: &mut Vec<Link>) -> Result<(), AllocError> {
+    fn put_links(&self, l: &Literal, to: &mut Vec<LiteralRewrite>) -> Result<(), AllocError> {
         let mut given = l.atom.arguments();
         for spot in 0..SPOTS_OF_LITERAL {
             if let Some(x) = self.move_at(&given, spot) {
@@ -217,7 +217,11 @@ impl Moment {
     }
 
     /// The literal, and what it becomes on its way to its normal form. The error is want of memory.
-    pub fn chain_down(&self, alloc: Global, l: &Literal) -> Result<Vec<Link>, AllocError> {
+    pub fn chain_down(
+        &self,
+        alloc: Global,
+        l: &Literal,
+    ) -> Result<Vec<LiteralRewrite>, AllocError> {
         let mut chain = Vec::new(alloc);
         push(&mut chain, first_of_chain(l))?;
         self.put_links(l, &mut chain)?;
@@ -228,9 +232,9 @@ impl Moment {
     fn next_form(
         &self,
         alloc: Global,
-        form: &Form,
+        form: &NormalForm,
         spot: usize,
-    ) -> Result<Option<Form>, AllocError> {
+    ) -> Result<Option<NormalForm>, AllocError> {
         let Some(step) = self.step(&form.term, spot) else {
             return Ok(None);
         };
@@ -242,9 +246,9 @@ impl Moment {
     fn next_forms(
         &self,
         alloc: Global,
-        forms: &[Form],
+        forms: &[NormalForm],
         spot: usize,
-    ) -> Result<Vec<Form>, AllocError> {
+    ) -> Result<Vec<NormalForm>, AllocError> {
         let mut next = Vec::new(alloc);
         for form in forms {
             if let Some(more) = self.next_form(alloc, form, spot)? {
@@ -259,13 +263,13 @@ impl Moment {
         &self,
         alloc: Global,
         spot: usize,
-        forms: &mut Vec<Form>,
+        forms: &mut Vec<NormalForm>,
     ) -> Result<(), AllocError> {
         let mut next = self.next_forms(alloc, forms.as_slice(), spot)?;
         forms.append(&mut next)
     }
 
-    fn put_step(&self, spot: usize, form: &mut Form) -> Result<(), AllocError> {
+    fn put_step(&self, spot: usize, form: &mut NormalForm) -> Result<(), AllocError> {
         match self.step(&form.term, spot) {
             Some(step) => form.go(&step),
             None => Ok(()),
@@ -274,8 +278,8 @@ impl Moment {
 
     /// The normal form of a term: each place in it, the inner ones first, has become its value where one is known. The error
     /// is want of memory. `docs/RULES.md` has the rule.
-    pub fn normal_form(&self, alloc: Global, t: &Term) -> Result<Form, AllocError> {
-        let mut form = Form::of(alloc, t);
+    pub fn normal_form(&self, alloc: Global, t: &Term) -> Result<NormalForm, AllocError> {
+        let mut form = NormalForm::of(alloc, t);
         for spot in 0..SPOTS_OF_TERM {
             self.put_step(spot, &mut form)?;
         }
@@ -284,9 +288,9 @@ impl Moment {
 
     /// The forms of a term, itself first: any of its arguments replaced by their values, and then the whole. The error is
     /// want of memory.
-    pub fn forms(&self, alloc: Global, t: &Term) -> Result<Vec<Form>, AllocError> {
+    pub fn forms(&self, alloc: Global, t: &Term) -> Result<Vec<NormalForm>, AllocError> {
         let mut forms = Vec::new(alloc);
-        push(&mut forms, Form::of(alloc, t))?;
+        push(&mut forms, NormalForm::of(alloc, t))?;
         for spot in 0..SPOTS_OF_TERM {
             self.put_forms(alloc, spot, &mut forms)?;
         }

@@ -1,6 +1,6 @@
 //! What is known of a moment, and its groups and regions.
 
-use crate::moment::{Moment, drop_at, forget, put};
+use crate::moment::{MomentLines, drop_at, forget, put};
 use crate::placing::equal;
 use crate::pushing::push;
 use pks_lcw::Entry;
@@ -9,7 +9,7 @@ use pks_terms::literal::Literal;
 use pks_terms::term::Term;
 use std::alloc::{AllocError, Global};
 
-impl Moment {
+impl MomentLines {
     /// Whether the literal is a known one, as it is written. It takes no memory.
     pub fn knows(&self, l: &Literal) -> bool {
         self.stated.known.get(l).is_some()

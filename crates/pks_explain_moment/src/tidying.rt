@@ -1,8 +1,8 @@
 //! Groups and regions on their way to their normal forms. `docs/RULES.md` has the rule.
 
 use crate::holding::MOST_ARGUMENTS;
-use crate::moment::Moment;
-use crate::normalizing::{Link, Step};
+use crate::moment::MomentLines;
+use crate::normalizing::{LiteralRewrite, TermRewrite};
 use crate::placing::{arguments_of, with_arguments};
 use crate::pushing::{push, with_item};
 use pks_lcw::{AtomSet, Entry};
@@ -95,9 +95,9 @@ fn put_region(region: &Entry, line: u32, to: &mut Vec<(Entry, u32)>) -> Result<(
     push(to, (region, line))
 }
 
-impl Moment {
+impl MomentLines {
     /// The first of the literals that isn't in normal form, one step on: its place and the step.
-    fn open_member(&self, literals: &[Literal]) -> Option<(usize, Link)> {
+    fn open_member(&self, literals: &[Literal]) -> Option<(usize, LiteralRewrite)> {
         for (place, l) in literals.iter().enumerate() {
             if let Some(link) = self.first_link(l) {
                 return Some((place, link));
@@ -121,7 +121,7 @@ impl Moment {
     }
 
     /// The first step of the fixed term at this position of the pattern.
-    fn slot_step(&self, p: &Pattern, position: usize) -> Option<Step> {
+    fn slot_step(&self, p: &Pattern, position: usize) -> Option<TermRewrite> {
         self.first_step(&fixed_term(p, position)?)
     }
 

@@ -1,8 +1,8 @@
 //! The way from an atom that a region shuts out to the region's own terms, and differences of atoms.
 
 use crate::holding::{MOST_ARGUMENTS, argument, pair_at};
-use crate::moment::Moment;
-use crate::normalizing::{Link, Step, first_of_chain};
+use crate::moment::MomentLines;
+use crate::normalizing::{LiteralRewrite, TermRewrite, first_of_chain};
 use crate::placing::{with_arguments, with_term};
 use crate::pushing::push;
 use pks_terms::literal::{Atom, Literal, Pattern, PredAtom};
@@ -56,13 +56,17 @@ pub fn are_plainly_apart(a: &PredAtom, b: &PredAtom) -> bool {
 }
 
 /// The steps backwards: what was there before each, and its equation, the last step first.
-fn backwards(alloc: Global, t: &Term, steps: &[Step]) -> Result<Vec<Step>, AllocError> {
+fn backwards(
+    alloc: Global,
+    t: &Term,
+    steps: &[TermRewrite],
+) -> Result<Vec<TermRewrite>, AllocError> {
     let mut before = *t;
     let mut back = Vec::new(alloc);
     for step in steps {
         push(
             &mut back,
-            Step {
+            TermRewrite {
                 term: before,
                 by: step.by,
             },
@@ -77,13 +81,13 @@ fn backwards(alloc: Global, t: &Term, steps: &[Step]) -> Result<Vec<Step>, Alloc
 fn put_link(
     a: &mut PredAtom,
     position: usize,
-    step: &Step,
-    to: &mut Vec<Link>,
+    step: &TermRewrite,
+    to: &mut Vec<LiteralRewrite>,
 ) -> Result<(), AllocError> {
     *a = with_arguments(a, &with_term(&a.args, position, &step.term));
     push(
         to,
-        Link {
+        LiteralRewrite {
             literal: denied(a),
             equation: step.by.line,
         },
@@ -94,8 +98,8 @@ fn put_link(
 fn put_links(
     a: &mut PredAtom,
     position: usize,
-    steps: &[Step],
-    to: &mut Vec<Link>,
+    steps: &[TermRewrite],
+    to: &mut Vec<LiteralRewrite>,
 ) -> Result<(), AllocError> {
     for step in steps {
         put_link(a, position, step, to)?;
@@ -103,16 +107,21 @@ fn put_links(
     Ok(())
 }
 
-impl Moment {
+impl MomentLines {
     /// Puts the steps from the normal form of the term up to itself.
-    fn put_up(&self, alloc: Global, t: &Term, to: &mut Vec<Step>) -> Result<(), AllocError> {
+    fn put_up(&self, alloc: Global, t: &Term, to: &mut Vec<TermRewrite>) -> Result<(), AllocError> {
         let down = self.steps(alloc, t)?;
         let up = backwards(alloc, t, down.as_slice())?;
         to.extend_from_slice(up.as_slice())
     }
 
     /// The steps from the one term to the other: down to the normal form of both, and up from it.
-    fn steps_to(&self, alloc: Global, t: &Term, end: &Term) -> Result<Vec<Step>, AllocError> {
+    fn steps_to(
+        &self,
+        alloc: Global,
+        t: &Term,
+        end: &Term,
+    ) -> Result<Vec<TermRewrite>, AllocError> {
         let mut steps = self.steps(alloc, t)?;
         self.put_up(alloc, end, &mut steps)?;
         Ok(steps)
@@ -125,7 +134,7 @@ impl Moment {
         a: &mut PredAtom,
         position: usize,
         end: &Term,
-        to: &mut Vec<Link>,
+        to: &mut Vec<LiteralRewrite>,
     ) -> Result<(), AllocError> {
         let Some(own) = argument(a, position) else {
             return Ok(());
@@ -143,7 +152,7 @@ impl Moment {
         alloc: Global,
         a: &PredAtom,
         fixed: &PredAtom,
-        to: &mut Vec<Link>,
+        to: &mut Vec<LiteralRewrite>,
     ) -> Result<(), AllocError> {
         let mut now = *a;
         self.put_way(alloc, &mut now, 0, &fixed.args[0], to)?;
@@ -157,7 +166,7 @@ impl Moment {
         alloc: Global,
         a: &PredAtom,
         fixed: &PredAtom,
-    ) -> Result<Vec<Link>, AllocError> {
+    ) -> Result<Vec<LiteralRewrite>, AllocError> {
         let mut chain = Vec::new(alloc);
         push(&mut chain, first_of_chain(&denied(a)))?;
         self.put_ways(alloc, a, fixed, &mut chain)?;

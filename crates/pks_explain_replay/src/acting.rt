@@ -4,7 +4,7 @@ use crate::adding::add_all;
 use crate::keeping::{keep_groups, keep_literals};
 use crate::regions::keep_regions;
 use crate::replaying::Replay;
-use pks_explain_effects::{Step, step_of};
+use pks_explain_effects::{ActionStep, step_of};
 use pks_explain_lines::Lines;
 use pks_proof_lines::Turn;
 use pks_query::databases::Db;
@@ -12,7 +12,7 @@ use pks_terms::schema::Instance;
 use std::alloc::{AllocError, Global};
 
 /// What the action keeps stays.
-fn keep_all(alloc: Global, lines: &mut Lines<'_>, step: &Step) -> Result<(), AllocError> {
+fn keep_all(alloc: Global, lines: &mut Lines<'_>, step: &ActionStep) -> Result<(), AllocError> {
     keep_literals(alloc, lines, step)?;
     keep_groups(alloc, lines, step)?;
     keep_regions(alloc, lines, step)
@@ -36,7 +36,7 @@ impl Replay<'_, '_> {
         alloc: Global,
         d: &Db,
         i: &Instance,
-        step: &Step,
+        step: &ActionStep,
     ) -> Result<(), AllocError> {
         keep_all(alloc, &mut self.lines, step)?;
         add_all(alloc, self.problem, &mut self.lines, d, i, step)?;

@@ -2,8 +2,8 @@
 
 use crate::citing::join_made;
 use crate::regions::clear_region;
-use pks_explain_effects::{Step, Tests, literal_made, target_added};
-use pks_explain_lines::{Lines, lost};
+use pks_explain_effects::{ActionStep, Tests, literal_made, target_added};
+use pks_explain_lines::{Lines, missing_as_memory};
 use pks_query::databases::Db;
 use pks_terms::literal::Literal;
 use pks_terms::problem::{Problem, Signature};
@@ -26,7 +26,7 @@ fn are_answered(s: &Signature, d: &Db, i: &Instance, queries: &[Query]) -> bool 
 fn add_target(
     alloc: Global,
     lines: &mut Lines<'_>,
-    step: &Step,
+    step: &ActionStep,
     written: &Option<Target>,
 ) -> Result<(), AllocError> {
     let Some(written) = written else {
@@ -42,13 +42,13 @@ fn add_target(
 fn put_made(
     alloc: Global,
     lines: &mut Lines<'_>,
-    step: &Step,
+    step: &ActionStep,
     target: &Target,
     by: &[Literal],
 ) -> Result<(), AllocError> {
     match literal_made(target) {
         Some(l) => join_made(alloc, lines, step, &l, by),
-        None => Err(lost()),
+        None => Err(missing_as_memory()),
     }
 }
 
@@ -56,7 +56,7 @@ fn put_made(
 fn add_item(
     alloc: Global,
     lines: &mut Lines<'_>,
-    step: &Step,
+    step: &ActionStep,
     schema: &Schema<'_>,
     add: &Adds,
     i: &Instance,
@@ -75,10 +75,10 @@ pub(crate) fn add_all(
     lines: &mut Lines<'_>,
     d: &Db,
     i: &Instance,
-    step: &Step,
+    step: &ActionStep,
 ) -> Result<(), AllocError> {
     let Some(schema) = p.schemas.as_slice().get(usize::from(i.act.0)) else {
-        return Err(lost());
+        return Err(missing_as_memory());
     };
     for add in schema.adds.as_slice() {
         if are_answered(&p.signature, d, i, front(&add.given, add.n)) {

@@ -1,6 +1,6 @@
 //! The lines on which literals rest that come in.
 
-use pks_explain_effects::Step;
+use pks_explain_effects::ActionStep;
 use pks_explain_lines::{Joining, Lines};
 use pks_proof_lines::Reason;
 use pks_terms::literal::Literal;
@@ -38,7 +38,7 @@ pub(crate) fn put(
 pub(crate) fn join_made(
     alloc: Global,
     lines: &mut Lines<'_>,
-    step: &Step,
+    step: &ActionStep,
     l: &Literal,
     by: &[Literal],
 ) -> Result<(), AllocError> {

@@ -1,7 +1,7 @@
 //! Literals and groups that an action keeps. `docs/RULES.md`, "Progression" and "Settling", has the rules.
 
 use crate::citing::{cite, put};
-use pks_explain_effects::{Step, Tests};
+use pks_explain_effects::{ActionStep, Tests};
 use pks_explain_lines::{Joining, Lines};
 use pks_proof_lines::{Fact, Reason};
 use pks_terms::group::Group;
@@ -27,7 +27,7 @@ fn unspoiled(way: &Way, l: &Literal) -> Literal {
 fn put_carried(
     alloc: Global,
     lines: &mut Lines<'_>,
-    step: &Step,
+    step: &ActionStep,
     way: &Way,
     known: &(Literal, u32),
     to: &mut Vec<Joining>,
@@ -44,7 +44,7 @@ fn put_carried(
 fn carried(
     alloc: Global,
     lines: &mut Lines<'_>,
-    step: &Step,
+    step: &ActionStep,
     way: &Way,
     known: &[(Literal, u32)],
 ) -> Result<Vec<Joining>, AllocError> {
@@ -58,7 +58,12 @@ fn carried(
 }
 
 /// The known literals take the way.
-fn carry(alloc: Global, lines: &mut Lines<'_>, step: &Step, way: &Way) -> Result<(), AllocError> {
+fn carry(
+    alloc: Global,
+    lines: &mut Lines<'_>,
+    step: &ActionStep,
+    way: &Way,
+) -> Result<(), AllocError> {
     let known = lines.known(alloc, way.from)?;
     let carried = carried(alloc, lines, step, way, known.as_slice())?;
     lines.join_all(alloc, way.to, carried)
@@ -68,7 +73,7 @@ fn carry(alloc: Global, lines: &mut Lines<'_>, step: &Step, way: &Way) -> Result
 pub(crate) fn keep_literals(
     alloc: Global,
     lines: &mut Lines<'_>,
-    step: &Step,
+    step: &ActionStep,
 ) -> Result<(), AllocError> {
     let way = Way {
         from: step.before,
@@ -83,7 +88,7 @@ pub(crate) fn keep_literals(
 pub(crate) fn bring_back(
     alloc: Global,
     lines: &mut Lines<'_>,
-    step: &Step,
+    step: &ActionStep,
 ) -> Result<(), AllocError> {
     let way = Way {
         from: step.after,
@@ -111,7 +116,7 @@ fn put_group(
 fn keep_group(
     alloc: Global,
     lines: &mut Lines<'_>,
-    step: &Step,
+    step: &ActionStep,
     g: &Group,
     line: u32,
 ) -> Result<(), AllocError> {
@@ -126,7 +131,7 @@ fn keep_group(
 pub(crate) fn keep_groups(
     alloc: Global,
     lines: &mut Lines<'_>,
-    step: &Step,
+    step: &ActionStep,
 ) -> Result<(), AllocError> {
     let groups = lines.groups(alloc, step.before)?;
     for one in groups.as_slice() {

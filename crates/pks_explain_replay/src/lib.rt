@@ -12,4 +12,4 @@ pub mod replaying;
 mod settling;
 mod taking;
 
-pub use replaying::{Kept, Replay};
+pub use replaying::{Replay, SavedReplay};

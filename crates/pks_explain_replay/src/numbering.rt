@@ -1,6 +1,6 @@
 //! Of lines those on which one rests, each fact once, and a proof of these.
 
-use pks_explain_lines::{Lines, lost};
+use pks_explain_lines::{Lines, missing_as_memory};
 use pks_proof_lines::lines::same_fact;
 use pks_proof_lines::{Fact, Line, Proof};
 use pks_terms::literal::Literal;
@@ -132,7 +132,7 @@ fn first_of(
     again: &mut Vec<u32>,
 ) -> Result<u32, AllocError> {
     let Some(line) = lines.line(number) else {
-        return Err(lost());
+        return Err(missing_as_memory());
     };
     let Fact::Lit(l) = &line.fact else {
         return Ok(number);

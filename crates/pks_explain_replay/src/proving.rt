@@ -3,8 +3,8 @@
 use crate::citing::put;
 use crate::numbering::rests_of;
 use crate::replaying::Replay;
-use pks_explain_effects::{Firing, Step, TargetForm, Tests, step_of};
-use pks_explain_lines::{Joining, Lines, lost};
+use pks_explain_effects::{ActionStep, Firing, TargetForm, Tests, step_of};
+use pks_explain_lines::{Joining, Lines, missing_as_memory};
 use pks_proof_lines::{Fact, Proof, Reason, Turn};
 use pks_terms::literal::Literal;
 use pks_terms::schema::Instance;
@@ -12,19 +12,24 @@ use std::alloc::{AllocError, Global};
 
 /// A line, and on how many it rests.
 #[derive(Clone, Copy)]
-struct Found {
+struct MeasuredLine {
     number: u32,
     size: usize,
 }
 
 /// The line of this number, and on how many it rests.
-fn measured(alloc: Global, lines: &Lines<'_>, number: u32) -> Result<Found, AllocError> {
+fn measured(alloc: Global, lines: &Lines<'_>, number: u32) -> Result<MeasuredLine, AllocError> {
     let size = rests_of(alloc, lines, number)?.count();
-    Ok(Found { number, size })
+    Ok(MeasuredLine { number, size })
 }
 
 /// The line by which the literal, which holds at the moment, is shown, and on how many it rests.
-fn shown(alloc: Global, lines: &mut Lines<'_>, m: usize, l: &Literal) -> Result<Found, AllocError> {
+fn shown(
+    alloc: Global,
+    lines: &mut Lines<'_>,
+    m: usize,
+    l: &Literal,
+) -> Result<MeasuredLine, AllocError> {
     let number = lines.show(alloc, m, l)?;
     measured(alloc, lines, number)
 }
@@ -48,7 +53,7 @@ fn deed(path: &[Turn], before: usize) -> Option<Instance> {
 fn keeping(
     alloc: Global,
     lines: &mut Lines<'_>,
-    step: &Step,
+    step: &ActionStep,
     l: &Literal,
 ) -> Result<Option<Vec<u32>>, AllocError> {
     if !lines.holds(step.before, l) {
@@ -65,7 +70,7 @@ fn keeping(
 fn put_form(
     alloc: Global,
     lines: &mut Lines<'_>,
-    step: &Step,
+    step: &ActionStep,
     k: usize,
     firing: &Firing,
     form: &TargetForm,
@@ -83,7 +88,7 @@ fn put_form(
 fn put_effect(
     alloc: Global,
     lines: &mut Lines<'_>,
-    step: &Step,
+    step: &ActionStep,
     k: usize,
     firing: &Firing,
     l: &Literal,
@@ -102,7 +107,7 @@ fn put_effect(
 fn put_effects(
     alloc: Global,
     lines: &mut Lines<'_>,
-    step: &Step,
+    step: &ActionStep,
     l: &Literal,
     to: &mut Vec<Joining>,
 ) -> Result<(), AllocError> {
@@ -120,14 +125,14 @@ fn found_by(
     lines: &mut Lines<'_>,
     m: usize,
     way: &Joining,
-) -> Result<Found, AllocError> {
+) -> Result<MeasuredLine, AllocError> {
     let cites = Vec::from_slice(alloc, way.cites.as_slice())?;
     let number = lines.add_line(alloc, m, Fact::Lit(way.literal), way.reason, cites)?;
     measured(alloc, lines, number)
 }
 
 /// Of two lines the one that rests on fewer, or else the first.
-fn better(first: Found, second: Found) -> Found {
+fn better(first: MeasuredLine, second: MeasuredLine) -> MeasuredLine {
     if second.size < first.size {
         second
     } else {
@@ -140,7 +145,7 @@ fn best_of(
     alloc: Global,
     lines: &mut Lines<'_>,
     m: usize,
-    shown: Found,
+    shown: MeasuredLine,
     ways: &[Joining],
 ) -> Result<u32, AllocError> {
     let mut best = shown;
@@ -161,12 +166,12 @@ impl Replay<'_, '_> {
     }
 
     /// The step that leads to the moment.
-    fn step_to(&self, alloc: Global, m: usize) -> Result<Step, AllocError> {
+    fn step_to(&self, alloc: Global, m: usize) -> Result<ActionStep, AllocError> {
         let Some(before) = m.checked_sub(1) else {
-            return Err(lost());
+            return Err(missing_as_memory());
         };
         let Some(i) = deed(self.path.as_slice(), before) else {
-            return Err(lost());
+            return Err(missing_as_memory());
         };
         step_of(alloc, self.problem, &self.lines, before, &i)
     }

@@ -1,8 +1,8 @@
 //! Closed regions at an action: those that it keeps, with what comes into them, and those that it clears.
 
 use crate::citing::cite;
-use pks_explain_effects::{Staying, Step, Tests};
-use pks_explain_lines::{Lines, lost};
+use pks_explain_effects::{ActionStep, Staying, Tests};
+use pks_explain_lines::{Lines, missing_as_memory};
 use pks_lcw::{AtomSet, Entry};
 use pks_proof_lines::{Fact, Reason};
 use pks_terms::literal::{Literal, Pattern, PredAtom};
@@ -54,7 +54,7 @@ fn put_region(
 fn add_region(
     alloc: Global,
     lines: &mut Lines<'_>,
-    step: &Step,
+    step: &ActionStep,
     e: &Entry,
     reason: Reason,
     by: &[Literal],
@@ -71,7 +71,7 @@ fn add_region(
 fn widen_region(
     alloc: Global,
     lines: &mut Lines<'_>,
-    step: &Step,
+    step: &ActionStep,
     e: &Entry,
     line: u32,
     staying: &Staying,
@@ -86,7 +86,7 @@ fn widen_region(
 fn keep_region(
     alloc: Global,
     lines: &mut Lines<'_>,
-    step: &Step,
+    step: &ActionStep,
     e: &Entry,
     line: u32,
 ) -> Result<(), AllocError> {
@@ -100,7 +100,7 @@ fn keep_region(
 pub(crate) fn keep_regions(
     alloc: Global,
     lines: &mut Lines<'_>,
-    step: &Step,
+    step: &ActionStep,
 ) -> Result<(), AllocError> {
     let regions = lines.regions(alloc, step.before)?;
     for one in regions.as_slice() {
@@ -113,12 +113,12 @@ pub(crate) fn keep_regions(
 fn put_cleared(
     alloc: Global,
     lines: &mut Lines<'_>,
-    step: &Step,
+    step: &ActionStep,
     cleared: &Target,
     by: &[Literal],
 ) -> Result<(), AllocError> {
     let Target::Clear(pattern) = cleared else {
-        return Err(lost());
+        return Err(missing_as_memory());
     };
     let e = Entry {
         pattern: *pattern,
@@ -131,7 +131,7 @@ fn put_cleared(
 pub(crate) fn clear_region(
     alloc: Global,
     lines: &mut Lines<'_>,
-    step: &Step,
+    step: &ActionStep,
     x: &Pattern,
 ) -> Result<(), AllocError> {
     match Tests::of(lines, step).made(alloc, &Target::Clear(*x))? {

@@ -1,6 +1,6 @@
 //! A path, with the lines of what is known along it.
 
-use pks_explain_lines::{Kept as KeptLines, Lines, lost};
+use pks_explain_lines::{Lines, SavedLines, missing_as_memory};
 use pks_proof_lines::Turn;
 use pks_terms::problem::Problem;
 use pks_terms::schema::Instance;
@@ -17,8 +17,8 @@ pub struct Replay<'p, 's> {
 
 /// What a path and its lines were at a time.
 #[derive(Drop)]
-pub struct Kept {
-    lines: KeptLines,
+pub struct SavedReplay {
+    lines: SavedLines,
     turns: usize,
 }
 
@@ -35,14 +35,14 @@ impl<'p, 's> Replay<'p, 's> {
     }
 
     /// What the path and its lines are now, for `go_back`. The error is want of memory.
-    pub fn keep(&self, alloc: Global) -> Result<Kept, AllocError> {
+    pub fn keep(&self, alloc: Global) -> Result<SavedReplay, AllocError> {
         let lines = self.lines.keep(alloc)?;
         let turns = self.path.len();
-        Ok(Kept { lines, turns })
+        Ok(SavedReplay { lines, turns })
     }
 
     /// The path and its lines as they were when this was kept, for another side from there. The error is want of memory.
-    pub fn go_back(&mut self, alloc: Global, kept: &Kept) -> Result<(), AllocError> {
+    pub fn go_back(&mut self, alloc: Global, kept: &SavedReplay) -> Result<(), AllocError> {
         self.path.truncate(kept.turns);
         self.lines.go_back(alloc, &kept.lines)?;
         Ok(())
@@ -57,7 +57,7 @@ impl<'p, 's> Replay<'p, 's> {
     pub(crate) fn last_moment(&self) -> Result<usize, AllocError> {
         match self.lines.moments().checked_sub(1) {
             Some(m) => Ok(m),
-            None => Err(lost()),
+            None => Err(missing_as_memory()),
         }
     }
 

@@ -2,8 +2,8 @@
 
 use crate::citing::{cite, join_made};
 use crate::keeping::{bring_back, keep_literals};
-use pks_explain_effects::{Firing, Step, TargetForm, Tests, step_of};
-use pks_explain_lines::{Lines, lost};
+use pks_explain_effects::{ActionStep, Firing, TargetForm, Tests, step_of};
+use pks_explain_lines::{Lines, missing_as_memory};
 use pks_proof_lines::Reason;
 use pks_terms::literal::Literal;
 use pks_terms::problem::Problem;
@@ -12,7 +12,7 @@ use std::alloc::{AllocError, Global};
 
 /// The conditions of an effect that don't hold: how many there are, and the place of the last.
 #[derive(Clone, Copy)]
-struct Open {
+struct OpenConditions {
     count: usize,
     last: usize,
 }
@@ -21,19 +21,19 @@ struct Open {
 #[derive(Clone, Copy)]
 struct Told<'a> {
     /// The step.
-    step: &'a Step,
+    step: &'a ActionStep,
     /// Its place among the effects of the step.
     k: usize,
     /// Its conditions.
     conditions: &'a [Literal],
     /// Those that don't hold.
-    open: Open,
+    open: OpenConditions,
     /// The form.
     form: &'a TargetForm,
 }
 
 /// The conditions that don't hold at the moment.
-fn open_at(lines: &Lines<'_>, m: usize, conditions: &[Literal]) -> Open {
+fn open_at(lines: &Lines<'_>, m: usize, conditions: &[Literal]) -> OpenConditions {
     let mut count: usize = 0;
     let mut last = 0;
     for (n, c) in conditions.iter().enumerate() {
@@ -42,11 +42,11 @@ fn open_at(lines: &Lines<'_>, m: usize, conditions: &[Literal]) -> Open {
             last = n;
         }
     }
-    Open { count, last }
+    OpenConditions { count, last }
 }
 
 /// Whether no condition but the n-th is open.
-fn no_other(open: &Open, n: usize) -> bool {
+fn no_other(open: &OpenConditions, n: usize) -> bool {
     open.count == 0 || (open.count == 1 && open.last == n)
 }
 
@@ -139,21 +139,25 @@ fn settle_at(
     m: usize,
 ) -> Result<(), AllocError> {
     let Some(i) = deeds.get(m) else {
-        return Err(lost());
+        return Err(missing_as_memory());
     };
     let step = step_of(alloc, p, lines, m, i)?;
     settle_closed(alloc, lines, &step)
 }
 
 /// The two moments of the step, which are closed again.
-fn settle_closed(alloc: Global, lines: &mut Lines<'_>, step: &Step) -> Result<(), AllocError> {
+fn settle_closed(
+    alloc: Global,
+    lines: &mut Lines<'_>,
+    step: &ActionStep,
+) -> Result<(), AllocError> {
     settle_step(alloc, lines, step)?;
     lines.close(alloc, step.before)?;
     lines.close(alloc, step.after)
 }
 
 /// What the two moments of the step tell each other.
-fn settle_step(alloc: Global, lines: &mut Lines<'_>, step: &Step) -> Result<(), AllocError> {
+fn settle_step(alloc: Global, lines: &mut Lines<'_>, step: &ActionStep) -> Result<(), AllocError> {
     keep_literals(alloc, lines, step)?;
     bring_back(alloc, lines, step)?;
     for (k, firing) in step.firings.as_slice().iter().enumerate() {
@@ -166,7 +170,7 @@ fn settle_step(alloc: Global, lines: &mut Lines<'_>, step: &Step) -> Result<(), 
 fn settle_effect(
     alloc: Global,
     lines: &mut Lines<'_>,
-    step: &Step,
+    step: &ActionStep,
     k: usize,
     firing: &Firing,
 ) -> Result<(), AllocError> {
@@ -311,7 +315,7 @@ fn join_all_denied(
 fn join_denied(
     alloc: Global,
     lines: &mut Lines<'_>,
-    step: &Step,
+    step: &ActionStep,
     denied: &Literal,
     l: &Literal,
     need: &[Literal],

@@ -3,7 +3,7 @@
 use crate::citing::put;
 use crate::replaying::Replay;
 use crate::settling::settle;
-use pks_explain_lines::{Lines, equal, lost};
+use pks_explain_lines::{Lines, equal, missing_as_memory};
 use pks_proof_lines::{Reason, Turn};
 use pks_query::databases::Db;
 use pks_terms::choices::{Choice, Side};
@@ -129,7 +129,7 @@ impl Replay<'_, '_> {
             (Choice::Cases(t), Side::Is(e)) => {
                 assume_value(alloc, &mut self.lines, m, &equal(t, &Term::Obj(e)), reason)
             }
-            _ => Err(lost()),
+            _ => Err(missing_as_memory()),
         }
     }
 

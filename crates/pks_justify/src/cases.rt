@@ -15,7 +15,7 @@ ghost use Rattle.pks_terms.specs.Problems.{schema_of as action_of};
 
 use crate::deciding::{is_decided, some_assigns_known, some_clears_all};
 use crate::fitting::{is_among_found, is_found, is_made_so, is_value_found};
-use crate::given::{Given, queries_of};
+use crate::given::{Premises, queries_of};
 use pks_terms::ids::ActId;
 use pks_terms::literal::{Atom, Conj, Literal, Pattern};
 use pks_terms::problem::Problem;
@@ -43,7 +43,7 @@ pub enum Case {
     J8,
 }
 
-fn literal_case(g: &Given<'_>, schema: &Schema<'_>, l: &Literal) -> Option<Case>
+fn literal_case(g: &Premises<'_>, schema: &Schema<'_>, l: &Literal) -> Option<Case>
     requires { AssignToPlaces schema.now.effects }
     ensures { option_map case_view result ≡ item_case (given_view g.now) (schema_of schema.now) (ItemKf (literal_of l.now)) }
 {
@@ -57,7 +57,7 @@ fn literal_case(g: &Given<'_>, schema: &Schema<'_>, l: &Literal) -> Option<Case>
     }
 }
 
-fn one_case(g: &Given<'_>, schema: &Schema<'_>, l: &Literal) -> Option<Case>
+fn one_case(g: &Premises<'_>, schema: &Schema<'_>, l: &Literal) -> Option<Case>
     ensures { option_map case_view result ≡ alone_case (given_view g.now) (schema_of schema.now) (literal_of l.now ∷ []) }
 {
     if is_among_found(l, schema.senses.as_slice()) {
@@ -69,7 +69,7 @@ fn one_case(g: &Given<'_>, schema: &Schema<'_>, l: &Literal) -> Option<Case>
     }
 }
 
-fn alone_case(g: &Given<'_>, schema: &Schema<'_>, literals: &[Literal]) -> Option<Case>
+fn alone_case(g: &Premises<'_>, schema: &Schema<'_>, literals: &[Literal]) -> Option<Case>
     ensures { option_map case_view result ≡ alone_case (given_view g.now) (schema_of schema.now) (literals_in literals.now) }
 {
     match literals {
@@ -81,7 +81,7 @@ fn alone_case(g: &Given<'_>, schema: &Schema<'_>, literals: &[Literal]) -> Optio
     }
 }
 
-fn formula_case(g: &Given<'_>, schema: &Schema<'_>, c: &Conj) -> Option<Case>
+fn formula_case(g: &Premises<'_>, schema: &Schema<'_>, c: &Conj) -> Option<Case>
     ensures { option_map case_view result ≡ whether_case (given_view g.now) (schema_of schema.now) (conj_of c.now) }
 {
     if is_found(c, schema.senses.as_slice()) {
@@ -90,7 +90,7 @@ fn formula_case(g: &Given<'_>, schema: &Schema<'_>, c: &Conj) -> Option<Case>
     alone_case(g, schema, front(&c.literals, c.n))
 }
 
-fn value_case(g: &Given<'_>, schema: &Schema<'_>, t: &Term) -> Option<Case>
+fn value_case(g: &Premises<'_>, schema: &Schema<'_>, t: &Term) -> Option<Case>
     requires { AssignToPlaces schema.now.effects }
     ensures { option_map case_view result ≡ item_case (given_view g.now) (schema_of schema.now) (ItemKv (term_of t.now)) }
 {
@@ -103,7 +103,7 @@ fn value_case(g: &Given<'_>, schema: &Schema<'_>, t: &Term) -> Option<Case>
     }
 }
 
-fn region_case(g: &Given<'_>, schema: &Schema<'_>, x: &Pattern) -> Option<Case>
+fn region_case(g: &Premises<'_>, schema: &Schema<'_>, x: &Pattern) -> Option<Case>
     ensures { option_map case_view result ≡ item_case (given_view g.now) (schema_of schema.now) (ItemLcw (pattern_of x.now)) }
 {
     if some_clears_all(x, schema.effects.as_slice()) {
@@ -113,7 +113,7 @@ fn region_case(g: &Given<'_>, schema: &Schema<'_>, x: &Pattern) -> Option<Case>
     }
 }
 
-fn item_case(g: &Given<'_>, schema: &Schema<'_>, item: &Item) -> Option<Case>
+fn item_case(g: &Premises<'_>, schema: &Schema<'_>, item: &Item) -> Option<Case>
     requires { AssignToPlaces schema.now.effects }
     ensures { option_map case_view result ≡ item_case (given_view g.now) (schema_of schema.now) (item_of item.now) }
 {

@@ -11,7 +11,7 @@ ghost use Rattle.pks_justify.specs.Asked.{given_view};
 ghost use Rattle.pks_justify.specs.Effects.{effects_of, is_this_or_negation, knows_condition, only_one};
 
 use crate::fitting::{is_plain_term, is_same};
-use crate::given::Given;
+use crate::given::Premises;
 use crate::undoing::may_be_undone;
 use pks_terms::ids::PredId;
 use pks_terms::literal::{Atom, Literal, Pattern, atom_literal};
@@ -61,13 +61,13 @@ fn is_about(l: &Literal, target: &Target) -> bool
 }
 
 // The condition is given, as a whole or literal by literal.
-fn knows_condition(g: &Given<'_>, e: &Effect) -> bool
+fn knows_condition(g: &Premises<'_>, e: &Effect) -> bool
     ensures { result ≡ knows_condition (given_view g.now) (effect_of e.now).condition }
 {
     g.knows_whether(&e.cond) || g.knows_each_either_way(front(&e.cond.literals, e.cond.n))
 }
 
-fn decides(g: &Given<'_>, l: &Literal, e: &Effect) -> bool
+fn decides(g: &Premises<'_>, l: &Literal, e: &Effect) -> bool
     ensures { result ≡ decides (given_view g.now) (literal_of l.now) (effect_of e.now) }
 {
     is_about(l, &e.target)
@@ -75,7 +75,7 @@ fn decides(g: &Given<'_>, l: &Literal, e: &Effect) -> bool
 }
 
 // The one effect on the predicate decides the literal.
-fn only_one_decides(g: &Given<'_>, l: &Literal, p: PredId, effects: &[Effect]) -> bool
+fn only_one_decides(g: &Premises<'_>, l: &Literal, p: PredId, effects: &[Effect]) -> bool
     ensures { result ≡ only_one (λ e. is_target_on p.0 e.target) (decides (given_view g.now) (literal_of l.now)) (effects_of effects.now) }
 {
     match effects {
@@ -92,7 +92,7 @@ fn only_one_decides(g: &Given<'_>, l: &Literal, p: PredId, effects: &[Effect]) -
 
 /// The one effect on the literal's predicate decides it.
 #[tactic(auto, using(crate::proofs::Alone::only_single))]
-pub fn is_decided(g: &Given<'_>, l: &Literal, effects: &[Effect]) -> bool
+pub fn is_decided(g: &Premises<'_>, l: &Literal, effects: &[Effect]) -> bool
     ensures { result ≡ is_decided_by (given_view g.now) (literal_of l.now) (relation_of l.now.atom) (effects_of effects.now) }
 {
     match &l.atom {
@@ -101,14 +101,14 @@ pub fn is_decided(g: &Given<'_>, l: &Literal, effects: &[Effect]) -> bool
     }
 }
 
-fn is_plain_value(g: &Given<'_>, t: &Term) -> bool
+fn is_plain_value(g: &Premises<'_>, t: &Term) -> bool
     ensures { result ≡ is_plain_value (given_view g.now) (term_of t.now) }
 {
     is_plain_term(t) || g.knows_value(t)
 }
 
 // The effect gives the place a known value, unconditionally, and none of the later ones may undo it.
-fn assigns_known(g: &Given<'_>, t: &Term, e: &Effect, later: &[Effect]) -> bool
+fn assigns_known(g: &Premises<'_>, t: &Term, e: &Effect, later: &[Effect]) -> bool
     requires { AssignsToPlace e.now.target }
     ensures { result ≡ assigns_known (given_view g.now) (term_of t.now) (effect_of e.now, effects_of later.now) }
 {
@@ -123,7 +123,7 @@ fn assigns_known(g: &Given<'_>, t: &Term, e: &Effect, later: &[Effect]) -> bool
 }
 
 /// Some effect does so.
-pub fn some_assigns_known(g: &Given<'_>, t: &Term, effects: &[Effect]) -> bool
+pub fn some_assigns_known(g: &Premises<'_>, t: &Term, effects: &[Effect]) -> bool
     requires { AssignToPlaces effects.now }
     ensures { result ≡ list_any (assigns_known (given_view g.now) (term_of t.now)) (with_later (effects_of effects.now)) }
 {

@@ -10,7 +10,7 @@ ghost use Rattle.pks_justify.specs.Places.{AssignToPlaces};
 ghost use Rattle.pks_justify.specs.Asked.{given_view};
 ghost use Rattle.pks_justify.specs.Effects.{slots_of, effects_of, senses_of};
 
-use crate::given::Given;
+use crate::given::Premises;
 use crate::undoing::may_be_undone;
 use pks_terms::literal::{Atom, Conj, Literal, atom_literal, equation};
 use pks_terms::schema::{Effect, Sense, Target};
@@ -43,7 +43,7 @@ fn makes_literal(l: &Literal, target: &Target) -> bool
 
 /// The effect makes the literal so, all its conditions given, and none of the later ones may undo it (`docs/RULES.md`,
 /// "Justified adds"). It asks that what is assigned to is an application, and takes no memory.
-pub fn makes_so(g: &Given<'_>, l: &Literal, e: &Effect, later: &[Effect]) -> bool
+pub fn makes_so(g: &Premises<'_>, l: &Literal, e: &Effect, later: &[Effect]) -> bool
     requires { AssignsToPlace e.now.target }
     ensures { result ≡ makes_so (given_view g.now) (literal_of l.now) (effect_of e.now, effects_of later.now) }
 {
@@ -53,7 +53,7 @@ pub fn makes_so(g: &Given<'_>, l: &Literal, e: &Effect, later: &[Effect]) -> boo
 
 /// Some effect makes the literal so.
 #[tactic(auto, unfolding(pks_terms::specs::Justified::is_made_so))]
-pub fn is_made_so(g: &Given<'_>, l: &Literal, effects: &[Effect]) -> bool
+pub fn is_made_so(g: &Premises<'_>, l: &Literal, effects: &[Effect]) -> bool
     requires { AssignToPlaces effects.now }
     ensures { result ≡ is_made_so (given_view g.now) (literal_of l.now) (effects_of effects.now) }
 {

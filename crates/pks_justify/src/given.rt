@@ -13,7 +13,7 @@ use pks_terms::term::{Term, front};
 
 /// The queries of an add and the preconditions of its action.
 #[derive(Clone, Copy)]
-pub struct Given<'a> {
+pub struct Premises<'a> {
     /// The queries of the add.
     pub own: &'a [Query],
     /// The preconditions of the action.
@@ -22,17 +22,17 @@ pub struct Given<'a> {
 
 /// What a query may ask for.
 #[derive(Clone, Copy)]
-pub enum Fact<'a> {
+pub enum QuerySubject<'a> {
     Known(&'a Literal),
     Whether(&'a Conj),
     Value(&'a Term),
 }
 
 /// The queries that are answered where the add is applied (`docs/RULES.md`, "Justified adds"). It takes no memory.
-pub fn queries_of<'a>(schema: &'a Schema<'_>, add: &'a Adds) -> Given<'a>
+pub fn queries_of<'a>(schema: &'a Schema<'_>, add: &'a Adds) -> Premises<'a>
     ensures { given_view result ≡ given_of (schema_of schema.now) (add_of add.now) }
 {
-    Given {
+    Premises {
         own: front(&add.given, add.n),
         pre: schema.pre.as_slice(),
     }
@@ -67,17 +67,17 @@ fn asks_value(q: &Query, t: &Term) -> bool
     }
 }
 
-fn asks(q: &Query, fact: Fact<'_>) -> bool
+fn asks(q: &Query, fact: QuerySubject<'_>) -> bool
     ensures { result ≡ is_asked (asks_for fact.entry) (query_of q.now) }
 {
     match fact {
-        Fact::Known(l) => asks_known(q, l),
-        Fact::Whether(c) => asks_whether(q, c),
-        Fact::Value(t) => asks_value(q, t),
+        QuerySubject::Known(l) => asks_known(q, l),
+        QuerySubject::Whether(c) => asks_whether(q, c),
+        QuerySubject::Value(t) => asks_value(q, t),
     }
 }
 
-fn some_asks(queries: &[Query], fact: Fact<'_>) -> bool
+fn some_asks(queries: &[Query], fact: QuerySubject<'_>) -> bool
     ensures { result ≡ list_any (is_asked (asks_for fact.entry)) (map query_of queries.now) }
 {
     match queries {
@@ -93,9 +93,9 @@ fn alone(l: &Literal) -> Conj
     Conj::empty().with(l)
 }
 
-impl<'a> Given<'a> {
+impl<'a> Premises<'a> {
     #[tactic(auto, using(crate::proofs::Asking::given_any))]
-    fn gives(&self, fact: Fact<'_>) -> bool
+    fn gives(&self, fact: QuerySubject<'_>) -> bool
         ensures { result ≡ list_any (asks_for fact.entry) (given_view self.now) }
     {
         some_asks(self.own, fact) || some_asks(self.pre, fact)
@@ -106,7 +106,7 @@ impl<'a> Given<'a> {
     pub fn knows(&self, l: &Literal) -> bool
         ensures { result ≡ is_given (given_view self.now) (literal_of l.now) }
     {
-        self.gives(Fact::Known(l))
+        self.gives(QuerySubject::Known(l))
     }
 
     /// `kw` of the formula is given.
@@ -114,7 +114,7 @@ impl<'a> Given<'a> {
     pub fn knows_whether(&self, c: &Conj) -> bool
         ensures { result ≡ is_given_whether (given_view self.now) (conj_of c.now) }
     {
-        self.gives(Fact::Whether(c))
+        self.gives(QuerySubject::Whether(c))
     }
 
     /// `kv` of the term is given.
@@ -122,7 +122,7 @@ impl<'a> Given<'a> {
     pub fn knows_value(&self, t: &Term) -> bool
         ensures { result ≡ is_given_value (given_view self.now) (term_of t.now) }
     {
-        self.gives(Fact::Value(t))
+        self.gives(QuerySubject::Value(t))
     }
 
     fn knows_alone(&self, l: &Literal) -> bool

@@ -9,4 +9,4 @@ mod undoing;
 
 pub use cases::{Case, Unjustified, case_in, case_of, case_with, justify};
 pub use fitting::{is_same, literal_of_target, makes_so};
-pub use given::{Given, queries_of};
+pub use given::{Premises, queries_of};

@@ -9,19 +9,19 @@ ghost use Rattle.pks_terms.specs.Views.{inner_of, term_of, terms_of, atom_of, ta
 ghost use Rattle.pks_justify.specs.Asked.{given_view};
 ghost use Rattle.pks_justify.specs.Effects.{slots_of, inners_of, effects_of};
 
-use crate::given::Given;
+use crate::given::Premises;
 use pks_terms::literal::{PredAtom, equation};
 use pks_terms::schema::{Effect, Target};
 use pks_terms::term::{Inner, Term, are_two_objects, front};
 
 #[tactic(auto, unfolding(pks_terms::specs::Justified::apart))]
-fn are_apart(g: &Given<'_>, t: &Term, u: &Term) -> bool
+fn are_apart(g: &Premises<'_>, t: &Term, u: &Term) -> bool
     ensures { result ≡ apart (given_view g.now) (term_of t.now) (term_of u.now) }
 {
     are_two_objects(t, u) || g.knows(&equation(t, u, false))
 }
 
-fn some_are_apart(g: &Given<'_>, ts: &[Term], us: &[Term]) -> bool
+fn some_are_apart(g: &Premises<'_>, ts: &[Term], us: &[Term]) -> bool
     ensures { result ≡ some_apart (given_view g.now) (terms_of ts.now) (terms_of us.now) }
 {
     match ts {
@@ -33,7 +33,7 @@ fn some_are_apart(g: &Given<'_>, ts: &[Term], us: &[Term]) -> bool
     }
 }
 
-fn some_fixed_are_apart(g: &Given<'_>, ts: &[Term], slots: &[Option<Term>]) -> bool
+fn some_fixed_are_apart(g: &Premises<'_>, ts: &[Term], slots: &[Option<Term>]) -> bool
     ensures { result ≡ some_fixed_apart (given_view g.now) (terms_of ts.now) (slots_of slots.now) }
 {
     match ts {
@@ -46,13 +46,13 @@ fn some_fixed_are_apart(g: &Given<'_>, ts: &[Term], slots: &[Option<Term>]) -> b
     }
 }
 
-fn are_apart_inside(g: &Given<'_>, t: &Inner, u: &Inner) -> bool
+fn are_apart_inside(g: &Premises<'_>, t: &Inner, u: &Inner) -> bool
     ensures { result ≡ apart (given_view g.now) (lifted (inner_of t.now)) (lifted (inner_of u.now)) }
 {
     are_apart(g, &t.as_term(), &u.as_term())
 }
 
-fn some_inside_are_apart(g: &Given<'_>, ts: &[Inner], us: &[Inner]) -> bool
+fn some_inside_are_apart(g: &Premises<'_>, ts: &[Inner], us: &[Inner]) -> bool
     ensures { result ≡ some_apart (given_view g.now) (map lifted (inners_of ts.now)) (map lifted (inners_of us.now)) }
 {
     match ts {
@@ -64,13 +64,13 @@ fn some_inside_are_apart(g: &Given<'_>, ts: &[Inner], us: &[Inner]) -> bool
     }
 }
 
-fn places_are_apart(g: &Given<'_>, place: &Term, other: &Term) -> bool
+fn places_are_apart(g: &Premises<'_>, place: &Term, other: &Term) -> bool
     ensures { result ≡ some_apart (given_view g.now) (map lifted (arguments_of (term_of place.now))) (map lifted (arguments_of (term_of other.now))) }
 {
     some_inside_are_apart(g, place.arguments(), other.arguments())
 }
 
-fn may_make_false(g: &Given<'_>, a: &PredAtom, later: &Target) -> bool
+fn may_make_false(g: &Premises<'_>, a: &PredAtom, later: &Target) -> bool
     ensures { result ≡ may_undo (given_view g.now) (Set (atom_of a.now)) (target_of later.now) }
 {
     match later {
@@ -82,7 +82,7 @@ fn may_make_false(g: &Given<'_>, a: &PredAtom, later: &Target) -> bool
     }
 }
 
-fn may_make_true(g: &Given<'_>, a: &PredAtom, later: &Target) -> bool
+fn may_make_true(g: &Premises<'_>, a: &PredAtom, later: &Target) -> bool
     ensures { result ≡ may_undo (given_view g.now) (Unset (atom_of a.now)) (target_of later.now) }
 {
     match later {
@@ -92,7 +92,7 @@ fn may_make_true(g: &Given<'_>, a: &PredAtom, later: &Target) -> bool
     }
 }
 
-fn may_assign_again(g: &Given<'_>, place: &Term, later: &Target) -> bool
+fn may_assign_again(g: &Premises<'_>, place: &Term, later: &Target) -> bool
     ensures { (v : Value) → result ≡ may_undo (given_view g.now) (Assign (number_of (term_of place.now)) (arguments_of (term_of place.now)) v) (target_of later.now) }
 {
     match later {
@@ -103,7 +103,7 @@ fn may_assign_again(g: &Given<'_>, place: &Term, later: &Target) -> bool
 }
 
 /// The second, written later, may undo the first.
-pub fn may_undo(g: &Given<'_>, first: &Target, later: &Target) -> bool
+pub fn may_undo(g: &Premises<'_>, first: &Target, later: &Target) -> bool
     ensures { result ≡ may_undo (given_view g.now) (target_of first.now) (target_of later.now) }
 {
     match first {
@@ -115,7 +115,7 @@ pub fn may_undo(g: &Given<'_>, first: &Target, later: &Target) -> bool
 }
 
 /// One of these effects may undo the target.
-pub fn may_be_undone(g: &Given<'_>, first: &Target, later: &[Effect]) -> bool
+pub fn may_be_undone(g: &Premises<'_>, first: &Target, later: &[Effect]) -> bool
     ensures { result ≡ list_any (λ f. may_undo (given_view g.now) (target_of first.now) f.target) (effects_of later.now) }
 {
     match later {

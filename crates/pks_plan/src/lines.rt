@@ -7,7 +7,7 @@ ghost use Rattle.pks_plan.specs.Appending.{AppendsPart};
 ghost use Rattle.pks_plan.specs.Indents.{indent};
 
 use crate::bytes::{put, put_number};
-use crate::parts::Part;
+use crate::parts::PlanPart;
 use crate::text::{print_conj, print_instance, print_term};
 use pks_terms::ids::ObjId;
 use pks_terms::literal::Conj;

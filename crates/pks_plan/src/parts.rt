@@ -11,7 +11,7 @@ use pks_terms::problem::Problem;
 use std::alloc::AllocError;
 
 /// What stands in a list.
-pub(crate) trait Part {
+pub(crate) trait PlanPart {
     ghost use Rattle.std.specs.Prelude.{List, ℕ};
     ghost use Rattle.pks_terms.specs.Printed.{Names};
 
@@ -25,7 +25,7 @@ pub(crate) trait Part {
 
 /// Each part behind a blank.
 #[tactic(auto, using(crate::proofs::Appended::appended))]
-pub(crate) fn print_parts<T: Part>(
+pub(crate) fn print_parts<T: PlanPart>(
     p: &Problem<'_>,
     parts: &[T],
     out: &mut Vec<u8>,
@@ -42,7 +42,7 @@ pub(crate) fn print_parts<T: Part>(
 
 /// The head, and each part behind a blank, in parentheses.
 #[tactic(auto, using(crate::proofs::Appended::appended))]
-pub(crate) fn print_list<T: Part>(
+pub(crate) fn print_list<T: PlanPart>(
     p: &Problem<'_>,
     head: &[u8],
     parts: &[T],

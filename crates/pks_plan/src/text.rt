@@ -6,7 +6,7 @@ ghost use Rattle.pks_terms.specs.Views.{names_of, inner_of, term_of, relation_of
 ghost use Rattle.pks_plan.specs.Appending.{AppendsPart};
 
 use crate::bytes::put;
-use crate::parts::{Part, print_list, print_parts};
+use crate::parts::{PlanPart, print_list, print_parts};
 use pks_terms::ids::ObjId;
 use pks_terms::literal::{Atom, Conj, Literal, Pattern};
 use pks_terms::lookup::{action_name, function_name, object_name, predicate_name, relation_text};
@@ -15,7 +15,7 @@ use pks_terms::schema::Instance;
 use pks_terms::term::{Inner, Term, front};
 use std::alloc::AllocError;
 
-impl Part for ObjId {
+impl PlanPart for ObjId {
     ghost use Rattle.pks_terms.specs.Printed.{name_in};
 
     ghost text = { λ names d. name_in names.objects d.0 };
@@ -26,7 +26,7 @@ impl Part for ObjId {
     }
 }
 
-impl Part for Inner {
+impl PlanPart for Inner {
     ghost use Rattle.pks_terms.specs.Printed.{inner_text};
     ghost use Rattle.pks_terms.specs.Views.{inner_of};
 
@@ -45,7 +45,7 @@ impl Part for Inner {
     }
 }
 
-impl Part for Term {
+impl PlanPart for Term {
     ghost use Rattle.pks_terms.specs.Printed.{term_text};
     ghost use Rattle.pks_terms.specs.Views.{term_of};
 
@@ -64,7 +64,7 @@ impl Part for Term {
     }
 }
 
-impl Part for Option<Term> {
+impl PlanPart for Option<Term> {
     ghost use Rattle.std.specs.Prelude.{option_map};
     ghost use Rattle.pks_terms.specs.Printed.{slot_text};
     ghost use Rattle.pks_terms.specs.Views.{term_of};
@@ -80,7 +80,7 @@ impl Part for Option<Term> {
     }
 }
 
-impl Part for Atom {
+impl PlanPart for Atom {
     ghost use Rattle.std.specs.Prelude.{map};
     ghost use Rattle.pks_terms.specs.Printed.{listed, relation_text, term_text};
     ghost use Rattle.pks_terms.specs.Views.{relation_of, sides_of};
@@ -95,7 +95,7 @@ impl Part for Atom {
     }
 }
 
-impl Part for Literal {
+impl PlanPart for Literal {
     ghost use Rattle.pks_terms.specs.Printed.{literal_text};
     ghost use Rattle.pks_terms.specs.Views.{literal_of};
 

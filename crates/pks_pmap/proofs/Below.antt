@@ -4,7 +4,7 @@ use Rattle.std.proofs.Math.Seq.{drop-append_seam, drop-append-add}
 use Rattle.std.specs.Cmp.{IsTotalOrder}
 use Rattle.pks_pmap.specs.Entries.{IsAscending, insert, remove}
 use Rattle.pks_pmap.specs.Sides.{IsFull, IsBalancing, IsInsertion, IsRemoval, IsTakingFirst, IsGluing}
-use Rattle.pks_pmap.specs.declared.tree.Node.{Node}
+use Rattle.pks_pmap.specs.declared.tree.TreeNode.{TreeNode}
 use Rattle.pks_pmap.proofs.Order.{ascending_insert, ascending_remove, insert_left, insert_middle, insert_right, remove_left, remove_middle, remove_right}
 use Rattle.pks_pmap.proofs.AtFork.{AtFork}
 
@@ -22,7 +22,7 @@ length-zero : {X : Type 0} (l : List X) → length l ≡ 0 → l ≡ []
 length-zero [] e = refl
 length-zero (x ∷ l) e = absurd (omega (arith, e))
 
-module _ {K V : Type 0} (R : K → K → Ordering) (o : IsTotalOrder R) {d : List (K × V) × ℕ} {n : Node K V} (f : AtFork R d n) where
+module _ {K V : Type 0} (R : K → K → Ordering) (o : IsTotalOrder R) {d : List (K × V) × ℕ} {n : TreeNode K V} (f : AtFork R d n) where
   pub insert_left_ascending : (e : K × V) → R e.0 n.pair.value.0 ≡ Less → IsAscending R (insert R e n.left.0 ++ n.pair.value ∷ n.right.0)
   insert_left_ascending e q = subst (IsAscending R) (insert_left R o e n.left.0 n.pair.value n.right.0 q) (ascending_insert R o e _ f.node.ascending)
 

@@ -4,7 +4,7 @@ use Rattle.std.specs.Fn.{Shared}
 use Rattle.std.specs.Borrow.{Bor}
 use Rattle.pks_pmap.specs.Entries.{Each, IsAscending}
 use Rattle.pks_pmap.specs.Keeping.{Keeps, TakesKey, TakesKeys, IsKeeping}
-use Rattle.pks_pmap.specs.declared.tree.Node.{Node}
+use Rattle.pks_pmap.specs.declared.tree.TreeNode.{TreeNode}
 use Rattle.pks_pmap.proofs.Order.{each_front, each_back}
 use Rattle.pks_pmap.proofs.AtFork.{AtFork}
 
@@ -54,7 +54,7 @@ ascending_keeps A R (x ∷ xs) ys k a =
       | false ↦ λ q. subst (IsAscending R) (sym q) (ascending_keeps A R xs k.2 k.3 a.1)
     ] k.4
 
-module _ {K V : Type 0} {R : K → K → Ordering} {d : List (K × V) × ℕ} {n : Node K V} (f : AtFork R d n) where
+module _ {K V : Type 0} {R : K → K → Ordering} {d : List (K × V) × ℕ} {n : TreeNode K V} (f : AtFork R d n) where
   pub sides_shorter : length d.0 ≡ length n.left.0 + suc (length n.right.0)
   sides_shorter = ap length f.entries ∙ length-append n.left.0 (n.pair.value ∷ n.right.0)
 

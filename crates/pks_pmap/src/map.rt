@@ -7,7 +7,7 @@ ghost use Rattle.pks_pmap.specs.Sides.{IsGreatestHeight, raised, raised_by};
 ghost use Rattle.pks_pmap.specs.Keeping.{TakesKeys, AnswersKey, Keeps};
 
 use crate::counting::Steps;
-use crate::tree::Tree;
+use crate::tree::BalancedTree;
 use std::alloc::{AllocError, Global};
 use std::marker::Model;
 use std::rc::Rc;
@@ -16,7 +16,7 @@ use std::rc::Rc;
 /// It asks of the keys their order, and of both that they are `Drop` where versions are made.
 #[derive(Drop)]
 pub struct PMap<K: Ord, V> {
-    tree: Tree<K, V>,
+    tree: BalancedTree<K, V>,
 }
 
 impl<K: Ord, V> Model for PMap<K, V> {
@@ -30,7 +30,7 @@ impl<K: Ord, V> Model for PMap<K, V> {
 /// The keys and values of a map in the order of the keys, seen as the entries that are left.
 #[derive(Drop)]
 pub struct PIter<'a, K: Ord, V> {
-    tree: &'a Tree<K, V>,
+    tree: &'a BalancedTree<K, V>,
     at: usize,
 }
 
@@ -48,7 +48,7 @@ impl<K: Ord, V> PMap<K, V> {
         ensures { result ≡ [] }
     {
         PMap {
-            tree: Tree::empty(),
+            tree: BalancedTree::empty(),
         }
     }
 
@@ -110,7 +110,7 @@ impl<K: Ord + Drop, V: Drop> PMap<K, V> {
     {
         let mut entries = entries;
         let count = entries.len();
-        let tree = Tree::build(alloc, &mut entries, count, steps)?;
+        let tree = BalancedTree::build(alloc, &mut entries, count, steps)?;
         Ok(PMap { tree })
     }
 

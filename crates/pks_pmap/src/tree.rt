@@ -13,28 +13,28 @@ use std::rc::Rc;
 
 #[cycle(tree)]
 #[derive(Drop)]
-pub(crate) struct Tree<K: Ord, V> {
-    link: Link<K, V>,
+pub(crate) struct BalancedTree<K: Ord, V> {
+    link: TreeLink<K, V>,
 }
 
 #[cycle(tree)]
 #[derive(Drop)]
-enum Link<K: Ord, V> {
+enum TreeLink<K: Ord, V> {
     Leaf,
-    Fork(Rc<Node<K, V>>),
+    Fork(Rc<TreeNode<K, V>>),
 }
 
 #[cycle(tree)]
 #[derive(Drop)]
-struct Node<K: Ord, V> {
-    left: Tree<K, V>,
+struct TreeNode<K: Ord, V> {
+    left: BalancedTree<K, V>,
     pair: Rc<(K, V)>,
-    right: Tree<K, V>,
+    right: BalancedTree<K, V>,
     height: usize,
     len: usize,
 }
 
-impl<K: Ord, V> Model for Tree<K, V> {
+impl<K: Ord, V> Model for BalancedTree<K, V> {
     ghost use Rattle.std.specs.Prelude.{ℕ, List, length};
 
     ghost Value = { List (K × V) × ℕ };
@@ -52,11 +52,13 @@ impl<K: Ord, V> Model for Tree<K, V> {
     ghost size_decreases = { λ t h. Prim.grind (arith, length-append) };
 }
 
-impl<K: Ord, V> Tree<K, V> {
-    pub(crate) fn empty() -> Tree<K, V>
+impl<K: Ord, V> BalancedTree<K, V> {
+    pub(crate) fn empty() -> BalancedTree<K, V>
         ensures { result ≡ ([], 0) }
     {
-        Tree { link: Link::Leaf }
+        BalancedTree {
+            link: TreeLink::Leaf,
+        }
     }
 
     pub(crate) fn len(&self) -> usize
@@ -65,8 +67,8 @@ impl<K: Ord, V> Tree<K, V> {
         ensures full { IsFull self.now.1 (length self.now.0) }
     {
         match &self.link {
-            Link::Leaf => 0,
-            Link::Fork(node) => node.len,
+            TreeLink::Leaf => 0,
+            TreeLink::Fork(node) => node.len,
         }
     }
 
@@ -74,8 +76,8 @@ impl<K: Ord, V> Tree<K, V> {
         ensures { option_map (λ v. v.now) result ≡ get K.cmp key.now self.now.0 }
     {
         match &self.link {
-            Link::Leaf => None,
-            Link::Fork(node) => match key.cmp(&node.pair.0) {
+            TreeLink::Leaf => None,
+            TreeLink::Fork(node) => match key.cmp(&node.pair.0) {
                 Ordering::Less => node.left.get(key),
                 Ordering::Equal => Some(&node.pair.1),
                 Ordering::Greater => node.right.get(key),
@@ -87,7 +89,7 @@ impl<K: Ord, V> Tree<K, V> {
     pub(crate) fn first_from(&self, key: &K) -> Option<&(K, V)>
         ensures { option_map (λ p. p.now) result ≡ first_from K.cmp key.now self.now.0 }
     {
-        let Link::Fork(node) = &self.link else {
+        let TreeLink::Fork(node) = &self.link else {
             return None;
         };
         match key.cmp(&node.pair.0) {
@@ -105,7 +107,7 @@ impl<K: Ord, V> Tree<K, V> {
         requires { at < length self.now.0 }
         ensures { drop at self.now.0 ≡ result.now ∷ drop (at + 1) self.now.0 }
     {
-        let Link::Fork(node) = &self.link else {
+        let TreeLink::Fork(node) = &self.link else {
             unreachable!()
         };
         let before = node.left.len();
@@ -123,22 +125,24 @@ impl<K: Ord, V> Tree<K, V> {
         ensures full { IsFull self.now.1 (length self.now.0) }
     {
         match &self.link {
-            Link::Leaf => 0,
-            Link::Fork(node) => node.height,
+            TreeLink::Leaf => 0,
+            TreeLink::Fork(node) => node.height,
         }
     }
 }
 
-impl<K: Ord + Drop, V: Drop> Tree<K, V> {
-    pub(crate) fn share(&self) -> Result<Tree<K, V>, AllocError>
+impl<K: Ord + Drop, V: Drop> BalancedTree<K, V> {
+    pub(crate) fn share(&self) -> Result<BalancedTree<K, V>, AllocError>
         ensures { IfOk result (λ t. t ≡ self.now) }
     {
         match &self.link {
-            Link::Leaf => Ok(Tree { link: Link::Leaf }),
-            Link::Fork(node) => {
+            TreeLink::Leaf => Ok(BalancedTree {
+                link: TreeLink::Leaf,
+            }),
+            TreeLink::Fork(node) => {
                 let node = node.clone()?;
-                Ok(Tree {
-                    link: Link::Fork(node),
+                Ok(BalancedTree {
+                    link: TreeLink::Fork(node),
                 })
             }
         }
@@ -147,11 +151,11 @@ impl<K: Ord + Drop, V: Drop> Tree<K, V> {
     // The one maker of nodes.
     fn make(
         alloc: Global,
-        left: Tree<K, V>,
+        left: BalancedTree<K, V>,
         pair: Rc<(K, V)>,
-        right: Tree<K, V>,
+        right: BalancedTree<K, V>,
         steps: &mut Steps,
-    ) -> Result<Tree<K, V>, AllocError>
+    ) -> Result<BalancedTree<K, V>, AllocError>
         requires ascending { IsAscending K.cmp (left.0 ++ pair.value ∷ right.0) }
         requires balanced { DifferByAtMost 1 left.1 right.1 }
         ensures made { IfOk result (λ t. t ≡ (left.0 ++ pair.value ∷ right.0, max left.1 right.1 + 1)) }
@@ -166,7 +170,7 @@ impl<K: Ord + Drop, V: Drop> Tree<K, V> {
         };
         let node = Rc::new(
             alloc,
-            Node {
+            TreeNode {
                 left,
                 pair,
                 right,
@@ -175,19 +179,19 @@ impl<K: Ord + Drop, V: Drop> Tree<K, V> {
             },
         )?;
         steps.raise();
-        Ok(Tree {
-            link: Link::Fork(node),
+        Ok(BalancedTree {
+            link: TreeLink::Fork(node),
         })
     }
 
     // The pair after a left side that is shared.
     fn make_after(
         alloc: Global,
-        left: &Tree<K, V>,
+        left: &BalancedTree<K, V>,
         pair: Rc<(K, V)>,
-        right: Tree<K, V>,
+        right: BalancedTree<K, V>,
         steps: &mut Steps,
-    ) -> Result<Tree<K, V>, AllocError>
+    ) -> Result<BalancedTree<K, V>, AllocError>
         requires ascending { IsAscending K.cmp (left.now.0 ++ pair.value ∷ right.0) }
         requires balanced { DifferByAtMost 1 left.now.1 right.1 }
         ensures made { IfOk result (λ t. t ≡ (left.now.0 ++ pair.value ∷ right.0, max left.now.1 right.1 + 1)) }
@@ -195,17 +199,17 @@ impl<K: Ord + Drop, V: Drop> Tree<K, V> {
         ensures later { steps.old.made ≤ steps.new.made }
     {
         let left = left.share()?;
-        Tree::make(alloc, left, pair, right, steps)
+        BalancedTree::make(alloc, left, pair, right, steps)
     }
 
     // The pair before a right side that is shared.
     fn make_before(
         alloc: Global,
-        left: Tree<K, V>,
+        left: BalancedTree<K, V>,
         pair: Rc<(K, V)>,
-        right: &Tree<K, V>,
+        right: &BalancedTree<K, V>,
         steps: &mut Steps,
-    ) -> Result<Tree<K, V>, AllocError>
+    ) -> Result<BalancedTree<K, V>, AllocError>
         requires ascending { IsAscending K.cmp (left.0 ++ pair.value ∷ right.now.0) }
         requires balanced { DifferByAtMost 1 left.1 right.now.1 }
         ensures made { IfOk result (λ t. t ≡ (left.0 ++ pair.value ∷ right.now.0, max left.1 right.now.1 + 1)) }
@@ -214,17 +218,17 @@ impl<K: Ord + Drop, V: Drop> Tree<K, V> {
         ensures later { steps.old.made ≤ steps.new.made }
     {
         let right = right.share()?;
-        Tree::make(alloc, left, pair, right, steps)
+        BalancedTree::make(alloc, left, pair, right, steps)
     }
 
     // A tree of two sides whose heights differ by at most two.
     fn balance(
         alloc: Global,
-        left: Tree<K, V>,
+        left: BalancedTree<K, V>,
         pair: Rc<(K, V)>,
-        right: Tree<K, V>,
+        right: BalancedTree<K, V>,
         steps: &mut Steps,
-    ) -> Result<Tree<K, V>, AllocError>
+    ) -> Result<BalancedTree<K, V>, AllocError>
         requires ascending { IsAscending K.cmp (left.0 ++ pair.value ∷ right.0) }
         requires near { DifferByAtMost 2 left.1 right.1 }
         ensures balancing { IfOk result (IsBalancing left pair.value right steps.old.made steps.new.made) }
@@ -233,28 +237,28 @@ impl<K: Ord + Drop, V: Drop> Tree<K, V> {
     {
         let (l, r) = (left.height(), right.height());
         if l.saturating_sub(r) > 1 {
-            return Tree::lean_left(alloc, left, pair, right, steps);
+            return BalancedTree::lean_left(alloc, left, pair, right, steps);
         }
         if r.saturating_sub(l) > 1 {
-            return Tree::lean_right(alloc, left, pair, right, steps);
+            return BalancedTree::lean_right(alloc, left, pair, right, steps);
         }
-        Tree::make(alloc, left, pair, right, steps)
+        BalancedTree::make(alloc, left, pair, right, steps)
     }
 
     fn lean_left(
         alloc: Global,
-        left: Tree<K, V>,
+        left: BalancedTree<K, V>,
         pair: Rc<(K, V)>,
-        right: Tree<K, V>,
+        right: BalancedTree<K, V>,
         steps: &mut Steps,
-    ) -> Result<Tree<K, V>, AllocError>
+    ) -> Result<BalancedTree<K, V>, AllocError>
         requires ascending { IsAscending K.cmp (left.0 ++ pair.value ∷ right.0) }
         requires two_higher { left.1 ≡ right.1 + 2 }
         ensures balancing { IfOk result (IsBalancing left pair.value right steps.old.made steps.new.made) }
         ensures at_most { steps.new.made ≤ steps.old.made + (if is_ok result then 3 else 2) }
         ensures later { steps.old.made ≤ steps.new.made }
     {
-        let Link::Fork(top) = &left.link else {
+        let TreeLink::Fork(top) = &left.link else {
             unreachable!()
         };
         if top.left.height() >= top.right.height() {
@@ -265,18 +269,18 @@ impl<K: Ord + Drop, V: Drop> Tree<K, V> {
 
     fn lean_right(
         alloc: Global,
-        left: Tree<K, V>,
+        left: BalancedTree<K, V>,
         pair: Rc<(K, V)>,
-        right: Tree<K, V>,
+        right: BalancedTree<K, V>,
         steps: &mut Steps,
-    ) -> Result<Tree<K, V>, AllocError>
+    ) -> Result<BalancedTree<K, V>, AllocError>
         requires ascending { IsAscending K.cmp (left.0 ++ pair.value ∷ right.0) }
         requires two_higher { right.1 ≡ left.1 + 2 }
         ensures balancing { IfOk result (IsBalancing left pair.value right steps.old.made steps.new.made) }
         ensures at_most { steps.new.made ≤ steps.old.made + (if is_ok result then 3 else 2) }
         ensures later { steps.old.made ≤ steps.new.made }
     {
-        let Link::Fork(top) = &right.link else {
+        let TreeLink::Fork(top) = &right.link else {
             unreachable!()
         };
         if top.right.height() >= top.left.height() {
@@ -290,7 +294,7 @@ impl<K: Ord + Drop, V: Drop> Tree<K, V> {
         alloc: Global,
         pair: Rc<(K, V)>,
         steps: &mut Steps,
-    ) -> Result<Tree<K, V>, AllocError>
+    ) -> Result<BalancedTree<K, V>, AllocError>
         ensures inserted { IfOk result (IsInsertion K.cmp pair.value self.now steps.old.made steps.new.made) }
         ensures at_most { steps.new.made ≤ steps.old.made + (2 * self.now.1 + 2) }
         ensures some { OnOk result (raised steps.old.made ≤ steps.new.made) }
@@ -298,8 +302,14 @@ impl<K: Ord + Drop, V: Drop> Tree<K, V> {
         ensures full { IsFull self.now.1 (length self.now.0) }
     {
         let _height = self.height();
-        let Link::Fork(node) = &self.link else {
-            return Tree::make(alloc, Tree::empty(), pair, Tree::empty(), steps);
+        let TreeLink::Fork(node) = &self.link else {
+            return BalancedTree::make(
+                alloc,
+                BalancedTree::empty(),
+                pair,
+                BalancedTree::empty(),
+                steps,
+            );
         };
         match pair.0.cmp(&node.pair.0) {
             Ordering::Less => {
@@ -319,13 +329,13 @@ impl<K: Ord + Drop, V: Drop> Tree<K, V> {
         &self,
         alloc: Global,
         steps: &mut Steps,
-    ) -> Result<(Rc<(K, V)>, Tree<K, V>), AllocError>
+    ) -> Result<(Rc<(K, V)>, BalancedTree<K, V>), AllocError>
         requires { 0 < length self.now.0 }
         ensures first { IfOk result (λ p. IsTakingFirst self.now p.0.value p.1) }
         ensures at_most { steps.new.made ≤ steps.old.made + 2 * self.now.1 }
         ensures later { steps.old.made ≤ steps.new.made }
     {
-        let Link::Fork(node) = &self.link else {
+        let TreeLink::Fork(node) = &self.link else {
             unreachable!()
         };
         let middle = node.pair.clone()?;
@@ -334,18 +344,18 @@ impl<K: Ord + Drop, V: Drop> Tree<K, V> {
             return Ok((middle, right));
         }
         let (first, left) = node.left.take_first(alloc, steps)?;
-        let rest = Tree::balance(alloc, left, middle, right, steps)?;
+        let rest = BalancedTree::balance(alloc, left, middle, right, steps)?;
         Ok((first, rest))
     }
 
     // A tree of two sides of any heights.
     fn join(
         alloc: Global,
-        left: Tree<K, V>,
+        left: BalancedTree<K, V>,
         pair: Rc<(K, V)>,
-        right: Tree<K, V>,
+        right: BalancedTree<K, V>,
         steps: &mut Steps,
-    ) -> Result<Tree<K, V>, AllocError>
+    ) -> Result<BalancedTree<K, V>, AllocError>
         requires { IsAscending K.cmp (left.0 ++ pair.value ∷ right.0) }
         ensures joining { IfOk result (IsJoining left pair.value right) }
         ensures near { DifferByAtMost 2 left.1 right.1 → steps.new.made ≤ steps.old.made + 3 }
@@ -353,31 +363,31 @@ impl<K: Ord + Drop, V: Drop> Tree<K, V> {
     {
         let (l, r) = (left.height(), right.height());
         if l.saturating_sub(r) > 2 {
-            let Link::Fork(top) = &left.link else {
+            let TreeLink::Fork(top) = &left.link else {
                 unreachable!()
             };
             let inner = top.right.share()?;
-            let inner = Tree::join(alloc, inner, pair, right, steps)?;
+            let inner = BalancedTree::join(alloc, inner, pair, right, steps)?;
             return top.balance_with_right(alloc, inner, steps);
         }
         if r.saturating_sub(l) > 2 {
-            let Link::Fork(top) = &right.link else {
+            let TreeLink::Fork(top) = &right.link else {
                 unreachable!()
             };
             let inner = top.left.share()?;
-            let inner = Tree::join(alloc, left, pair, inner, steps)?;
+            let inner = BalancedTree::join(alloc, left, pair, inner, steps)?;
             return top.balance_with_left(alloc, inner, steps);
         }
-        Tree::balance(alloc, left, pair, right, steps)
+        BalancedTree::balance(alloc, left, pair, right, steps)
     }
 
     // A tree of two sides with no pair between them.
     fn glue(
         alloc: Global,
-        left: &Tree<K, V>,
-        right: &Tree<K, V>,
+        left: &BalancedTree<K, V>,
+        right: &BalancedTree<K, V>,
         steps: &mut Steps,
-    ) -> Result<Tree<K, V>, AllocError>
+    ) -> Result<BalancedTree<K, V>, AllocError>
         requires { IsAscending K.cmp (left.now.0 ++ right.now.0) }
         ensures gluing { IfOk result (IsGluing left.now right.now) }
         ensures near { DifferByAtMost 1 left.now.1 right.now.1 → steps.new.made ≤ steps.old.made + (2 * right.now.1 + 3) }
@@ -388,7 +398,7 @@ impl<K: Ord + Drop, V: Drop> Tree<K, V> {
             return Ok(left);
         }
         let (first, rest) = right.take_first(alloc, steps)?;
-        Tree::join(alloc, left, first, rest, steps)
+        BalancedTree::join(alloc, left, first, rest, steps)
     }
 
     // The tree of the pairs whose keys pass the test. A side in which all pass is shared.
@@ -397,23 +407,23 @@ impl<K: Ord + Drop, V: Drop> Tree<K, V> {
         alloc: Global,
         test: &F,
         steps: &mut Steps,
-    ) -> Result<Tree<K, V>, AllocError>
+    ) -> Result<BalancedTree<K, V>, AllocError>
         requires { TakesKeys F.Fn test.now self.now.0 }
         ensures { IfOk result (IsKeeping (AnswersKey F.Fn test.now) self.now steps.old.made steps.new.made) }
     {
-        let Link::Fork(node) = &self.link else {
-            return Ok(Tree::empty());
+        let TreeLink::Fork(node) = &self.link else {
+            return Ok(BalancedTree::empty());
         };
         let left = node.left.kept(alloc, test, steps)?;
         let right = node.right.kept(alloc, test, steps)?;
         if !test(&node.pair.0) {
-            return Tree::glue(alloc, &left, &right, steps);
+            return BalancedTree::glue(alloc, &left, &right, steps);
         }
         if left.len() == node.left.len() && right.len() == node.right.len() {
             return self.share();
         }
         let middle = node.pair.clone()?;
-        Tree::join(alloc, left, middle, right, steps)
+        BalancedTree::join(alloc, left, middle, right, steps)
     }
 
     pub(crate) fn remove(
@@ -421,22 +431,22 @@ impl<K: Ord + Drop, V: Drop> Tree<K, V> {
         alloc: Global,
         key: &K,
         steps: &mut Steps,
-    ) -> Result<Tree<K, V>, AllocError>
+    ) -> Result<BalancedTree<K, V>, AllocError>
         ensures removed { IfOk result (IsRemoval K.cmp key.now self.now) }
         ensures at_most { steps.new.made ≤ steps.old.made + (2 * self.now.1 + 1) }
         ensures later { steps.old.made ≤ steps.new.made }
         ensures full { IsFull self.now.1 (length self.now.0) }
     {
         let _height = self.height();
-        let Link::Fork(node) = &self.link else {
-            return Ok(Tree::empty());
+        let TreeLink::Fork(node) = &self.link else {
+            return Ok(BalancedTree::empty());
         };
         match key.cmp(&node.pair.0) {
             Ordering::Less => {
                 let left = node.left.remove(alloc, key, steps)?;
                 node.balance_with_left(alloc, left, steps)
             }
-            Ordering::Equal => Tree::glue(alloc, &node.left, &node.right, steps),
+            Ordering::Equal => BalancedTree::glue(alloc, &node.left, &node.right, steps),
             Ordering::Greater => {
                 let right = node.right.remove(alloc, key, steps)?;
                 node.balance_with_right(alloc, right, steps)
@@ -450,34 +460,34 @@ impl<K: Ord + Drop, V: Drop> Tree<K, V> {
         entries: &mut Vec<(K, V)>,
         count: usize,
         steps: &mut Steps,
-    ) -> Result<Tree<K, V>, AllocError>
+    ) -> Result<BalancedTree<K, V>, AllocError>
         requires { IsAscending K.cmp entries.now.items × (count ≤ length entries.now.items) }
         ensures { IfOk result (IsBuilt count entries.old.items entries.new.items steps.old.made steps.new.made) }
     {
         if count == 0 {
-            return Ok(Tree::empty());
+            return Ok(BalancedTree::empty());
         }
         let after = count / 2;
-        let right = Tree::build(alloc, entries, after, steps)?;
+        let right = BalancedTree::build(alloc, entries, after, steps)?;
         let Some(entry) = entries.pop() else {
             unreachable!()
         };
-        let left = Tree::build(alloc, entries, count - 1 - after, steps)?;
+        let left = BalancedTree::build(alloc, entries, count - 1 - after, steps)?;
         let pair = Rc::new(alloc, entry)?;
-        let tree = Tree::make(alloc, left, pair, right, steps)?;
+        let tree = BalancedTree::make(alloc, left, pair, right, steps)?;
         Ok(tree)
     }
 }
 
-impl<K: Ord + Drop, V: Drop> Node<K, V> {
+impl<K: Ord + Drop, V: Drop> TreeNode<K, V> {
     // The node's pair between two other sides.
     fn make_around(
         &self,
         alloc: Global,
-        left: Tree<K, V>,
-        right: Tree<K, V>,
+        left: BalancedTree<K, V>,
+        right: BalancedTree<K, V>,
         steps: &mut Steps,
-    ) -> Result<Tree<K, V>, AllocError>
+    ) -> Result<BalancedTree<K, V>, AllocError>
         requires ascending { IsAscending K.cmp (left.0 ++ self.now.pair.value ∷ right.0) }
         requires balanced { DifferByAtMost 1 left.1 right.1 }
         ensures made { IfOk result (λ t. t ≡ (left.0 ++ self.now.pair.value ∷ right.0, max left.1 right.1 + 1)) }
@@ -485,7 +495,7 @@ impl<K: Ord + Drop, V: Drop> Node<K, V> {
         ensures later { steps.old.made ≤ steps.new.made }
     {
         let pair = self.pair.clone()?;
-        Tree::make(alloc, left, pair, right, steps)
+        BalancedTree::make(alloc, left, pair, right, steps)
     }
 
     // The node with another pair.
@@ -494,7 +504,7 @@ impl<K: Ord + Drop, V: Drop> Node<K, V> {
         alloc: Global,
         pair: Rc<(K, V)>,
         steps: &mut Steps,
-    ) -> Result<Tree<K, V>, AllocError>
+    ) -> Result<BalancedTree<K, V>, AllocError>
         requires ascending { IsAscending K.cmp (self.now.left.0 ++ pair.value ∷ self.now.right.0) }
         requires balanced { DifferByAtMost 1 self.now.left.1 self.now.right.1 }
         ensures made { IfOk result (λ t. t ≡ (self.now.left.0 ++ pair.value ∷ self.now.right.0, max self.now.left.1 self.now.right.1 + 1)) }
@@ -503,16 +513,16 @@ impl<K: Ord + Drop, V: Drop> Node<K, V> {
         ensures later { steps.old.made ≤ steps.new.made }
     {
         let left = self.left.share()?;
-        Tree::make_before(alloc, left, pair, &self.right, steps)
+        BalancedTree::make_before(alloc, left, pair, &self.right, steps)
     }
 
     // The node with another left side, which is shared.
     fn make_with_left(
         &self,
         alloc: Global,
-        left: &Tree<K, V>,
+        left: &BalancedTree<K, V>,
         steps: &mut Steps,
-    ) -> Result<Tree<K, V>, AllocError>
+    ) -> Result<BalancedTree<K, V>, AllocError>
         requires ascending { IsAscending K.cmp (left.now.0 ++ self.now.pair.value ∷ self.now.right.0) }
         requires balanced { DifferByAtMost 1 left.now.1 self.now.right.1 }
         ensures made { IfOk result (λ t. t ≡ (left.now.0 ++ self.now.pair.value ∷ self.now.right.0, max left.now.1 self.now.right.1 + 1)) }
@@ -528,9 +538,9 @@ impl<K: Ord + Drop, V: Drop> Node<K, V> {
     fn make_with_right(
         &self,
         alloc: Global,
-        right: &Tree<K, V>,
+        right: &BalancedTree<K, V>,
         steps: &mut Steps,
-    ) -> Result<Tree<K, V>, AllocError>
+    ) -> Result<BalancedTree<K, V>, AllocError>
         requires ascending { IsAscending K.cmp (self.now.left.0 ++ self.now.pair.value ∷ right.now.0) }
         requires balanced { DifferByAtMost 1 self.now.left.1 right.now.1 }
         ensures made { IfOk result (λ t. t ≡ (self.now.left.0 ++ self.now.pair.value ∷ right.now.0, max self.now.left.1 right.now.1 + 1)) }
@@ -546,9 +556,9 @@ impl<K: Ord + Drop, V: Drop> Node<K, V> {
     fn balance_with_left(
         &self,
         alloc: Global,
-        left: Tree<K, V>,
+        left: BalancedTree<K, V>,
         steps: &mut Steps,
-    ) -> Result<Tree<K, V>, AllocError>
+    ) -> Result<BalancedTree<K, V>, AllocError>
         requires ascending { IsAscending K.cmp (left.0 ++ self.now.pair.value ∷ self.now.right.0) }
         requires near { DifferByAtMost 2 left.1 self.now.right.1 }
         ensures balancing { IfOk result (IsBalancing left self.now.pair.value self.now.right steps.old.made steps.new.made) }
@@ -557,16 +567,16 @@ impl<K: Ord + Drop, V: Drop> Node<K, V> {
     {
         let middle = self.pair.clone()?;
         let right = self.right.share()?;
-        Tree::balance(alloc, left, middle, right, steps)
+        BalancedTree::balance(alloc, left, middle, right, steps)
     }
 
     // The node with another right side, whose height differs from the left one's by at most two.
     fn balance_with_right(
         &self,
         alloc: Global,
-        right: Tree<K, V>,
+        right: BalancedTree<K, V>,
         steps: &mut Steps,
-    ) -> Result<Tree<K, V>, AllocError>
+    ) -> Result<BalancedTree<K, V>, AllocError>
         requires ascending { IsAscending K.cmp (self.now.left.0 ++ self.now.pair.value ∷ right.0) }
         requires near { DifferByAtMost 2 self.now.left.1 right.1 }
         ensures balancing { IfOk result (IsBalancing self.now.left self.now.pair.value right steps.old.made steps.new.made) }
@@ -575,7 +585,7 @@ impl<K: Ord + Drop, V: Drop> Node<K, V> {
     {
         let middle = self.pair.clone()?;
         let left = self.left.share()?;
-        Tree::balance(alloc, left, middle, right, steps)
+        BalancedTree::balance(alloc, left, middle, right, steps)
     }
 
     // The node as the left side of the pair, turned so that it is at the top.
@@ -583,9 +593,9 @@ impl<K: Ord + Drop, V: Drop> Node<K, V> {
         &self,
         alloc: Global,
         pair: Rc<(K, V)>,
-        right: Tree<K, V>,
+        right: BalancedTree<K, V>,
         steps: &mut Steps,
-    ) -> Result<Tree<K, V>, AllocError>
+    ) -> Result<BalancedTree<K, V>, AllocError>
         requires ascending { IsAscending K.cmp ((self.now.left.0 ++ self.now.pair.value ∷ self.now.right.0) ++ pair.value ∷ right.0) }
         requires inner { DifferByAtMost 1 self.now.right.1 right.1 }
         requires outer { DifferByAtMost 1 self.now.left.1 (max self.now.right.1 right.1 + 1) }
@@ -593,7 +603,7 @@ impl<K: Ord + Drop, V: Drop> Node<K, V> {
         ensures at_most { steps.new.made ≤ steps.old.made + (if is_ok result then 2 else 1) }
         ensures later { steps.old.made ≤ steps.new.made }
     {
-        let inner = Tree::make_after(alloc, &self.right, pair, right, steps)?;
+        let inner = BalancedTree::make_after(alloc, &self.right, pair, right, steps)?;
         let outer = self.left.share()?;
         self.make_around(alloc, outer, inner, steps)
     }
@@ -603,9 +613,9 @@ impl<K: Ord + Drop, V: Drop> Node<K, V> {
         &self,
         alloc: Global,
         pair: Rc<(K, V)>,
-        right: Tree<K, V>,
+        right: BalancedTree<K, V>,
         steps: &mut Steps,
-    ) -> Result<Tree<K, V>, AllocError>
+    ) -> Result<BalancedTree<K, V>, AllocError>
         requires ascending { IsAscending K.cmp ((self.now.left.0 ++ self.now.pair.value ∷ self.now.right.0) ++ pair.value ∷ right.0) }
         requires low { self.now.left.1 ≡ right.1 }
         requires high { self.now.right.1 ≡ right.1 + 1 }
@@ -614,11 +624,11 @@ impl<K: Ord + Drop, V: Drop> Node<K, V> {
         ensures later { steps.old.made ≤ steps.new.made }
     {
         let high = &self.right;
-        let Link::Fork(middle) = &high.link else {
+        let TreeLink::Fork(middle) = &high.link else {
             unreachable!()
         };
         let before = self.make_with_right(alloc, &middle.left, steps)?;
-        let after = Tree::make_after(alloc, &middle.right, pair, right, steps)?;
+        let after = BalancedTree::make_after(alloc, &middle.right, pair, right, steps)?;
         middle.make_around(alloc, before, after, steps)
     }
 
@@ -626,10 +636,10 @@ impl<K: Ord + Drop, V: Drop> Node<K, V> {
     fn rotate_left(
         &self,
         alloc: Global,
-        left: Tree<K, V>,
+        left: BalancedTree<K, V>,
         pair: Rc<(K, V)>,
         steps: &mut Steps,
-    ) -> Result<Tree<K, V>, AllocError>
+    ) -> Result<BalancedTree<K, V>, AllocError>
         requires ascending { IsAscending K.cmp (left.0 ++ pair.value ∷ (self.now.left.0 ++ self.now.pair.value ∷ self.now.right.0)) }
         requires inner { DifferByAtMost 1 left.1 self.now.left.1 }
         requires outer { DifferByAtMost 1 (max left.1 self.now.left.1 + 1) self.now.right.1 }
@@ -637,7 +647,7 @@ impl<K: Ord + Drop, V: Drop> Node<K, V> {
         ensures at_most { steps.new.made ≤ steps.old.made + (if is_ok result then 2 else 1) }
         ensures later { steps.old.made ≤ steps.new.made }
     {
-        let inner = Tree::make_before(alloc, left, pair, &self.left, steps)?;
+        let inner = BalancedTree::make_before(alloc, left, pair, &self.left, steps)?;
         let outer = self.right.share()?;
         self.make_around(alloc, inner, outer, steps)
     }
@@ -646,10 +656,10 @@ impl<K: Ord + Drop, V: Drop> Node<K, V> {
     fn rotate_right_left(
         &self,
         alloc: Global,
-        left: Tree<K, V>,
+        left: BalancedTree<K, V>,
         pair: Rc<(K, V)>,
         steps: &mut Steps,
-    ) -> Result<Tree<K, V>, AllocError>
+    ) -> Result<BalancedTree<K, V>, AllocError>
         requires ascending { IsAscending K.cmp (left.0 ++ pair.value ∷ (self.now.left.0 ++ self.now.pair.value ∷ self.now.right.0)) }
         requires high { self.now.left.1 ≡ left.1 + 1 }
         requires low { self.now.right.1 ≡ left.1 }
@@ -658,10 +668,10 @@ impl<K: Ord + Drop, V: Drop> Node<K, V> {
         ensures later { steps.old.made ≤ steps.new.made }
     {
         let high = &self.left;
-        let Link::Fork(middle) = &high.link else {
+        let TreeLink::Fork(middle) = &high.link else {
             unreachable!()
         };
-        let before = Tree::make_before(alloc, left, pair, &middle.left, steps)?;
+        let before = BalancedTree::make_before(alloc, left, pair, &middle.left, steps)?;
         let after = self.make_with_left(alloc, &middle.right, steps)?;
         middle.make_around(alloc, before, after, steps)
     }

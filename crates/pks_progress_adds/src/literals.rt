@@ -14,7 +14,7 @@ ghost use Rattle.pks_justify.specs.Places.{AssignToPlaces};
 ghost use Rattle.pks_progress_adds.specs.Deeds.{signature_in, five_in, schema_in, chosen_in, effects_in, AssignsToPlaces, listed, with_normal_arguments, literals_from};
 
 use crate::deed::Deed;
-use pks_justify::{Given, is_same, makes_so, queries_of};
+use pks_justify::{Premises, is_same, makes_so, queries_of};
 use pks_query_lookup::normals::Normals;
 use pks_terms::literal::{Atom, Literal, equation};
 use pks_terms::schema::{Adds, Effect, Item, Target};
@@ -51,7 +51,7 @@ fn is_place(t: &Term, target: &Target) -> bool
 }
 
 /// The term is the place of an assignment, one of these, that makes the literal so.
-fn some_assigns(g: &Given<'_>, l: &Literal, t: &Term, effects: &[Effect]) -> bool
+fn some_assigns(g: &Premises<'_>, l: &Literal, t: &Term, effects: &[Effect]) -> bool
     requires { AssignToPlaces effects.now }
     ensures { result ≡ list_any (λ p. is_place (term_of t.now) p.0.target && makes_so (given_view g.now) (literal_of l.now) p) (with_later (effects_of effects.now)) }
 {

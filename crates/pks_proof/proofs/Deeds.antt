@@ -7,7 +7,7 @@ use Rattle.pks_terms.specs.Settling.{effects_of}
 use Rattle.pks_terms.specs.Proofs.{Path, deeds}
 use Rattle.pks_terms.specs.Judging.{Judge}
 use Rattle.pks_terms.specs.Accepting.{from_moment, to_moment}
-use Rattle.pks_proof.specs.declared.barring.Deed.{Deed}
+use Rattle.pks_proof.specs.declared.barring.Transition.{Transition}
 use Rattle.pks_proof.specs.Doings.{effects_by, before_in, moment_in}
 use Rattle.pks_proof.specs.Lines.{IsDeedAt}
 
@@ -16,7 +16,7 @@ mapped_or f q None = refl
 mapped_or f q (Some x) = refl
 
 -- a test of the action that follows the moment
-pub deed_from_is : (p : Problem) (path : Path) (j : Judge) (m : ℕ) (d : Deed) (q : Judge → ℕ → List Effect → Bool) → IsDeedAt p path j m d
+pub deed_from_is : (p : Problem) (path : Path) (j : Judge) (m : ℕ) (d : Transition) (q : Judge → ℕ → List Effect → Bool) → IsDeedAt p path j m d
     → q (before_in d) (moment_in d) (effects_by d) ≡ from_moment p path m (λ es. q j m es)
 deed_from_is p path j m d q x =
     ap (λ k. q k (moment_in d) (effects_by d)) x.judge
@@ -25,7 +25,7 @@ deed_from_is p path j m d q x =
     ∙ mapped_or (effects_of p) (q j m) (slice_get (deeds path) m)
 
 -- a test of the action that leads to the moment
-pub deed_to_is : (p : Problem) (path : Path) (j : Judge) (m : ℕ) (d : Deed) (q : Judge → ℕ → List Effect → Bool) → (m ≡ 0 → ⊥) → IsDeedAt p path j (m - 1) d
+pub deed_to_is : (p : Problem) (path : Path) (j : Judge) (m : ℕ) (d : Transition) (q : Judge → ℕ → List Effect → Bool) → (m ≡ 0 → ⊥) → IsDeedAt p path j (m - 1) d
     → q (before_in d) (moment_in d) (effects_by d) ≡ to_moment p path m (λ k es. q j k es)
 deed_to_is p path j zero d q h x = absurd (h refl)
 deed_to_is p path j (suc m) d q h x = let e : suc m - 1 ≡ m = omega arith in deed_from_is p path j m d q (subst (λ k. IsDeedAt p path j k d) e x)

@@ -9,7 +9,7 @@ use Rattle.pks_terms.specs.Judging.{Judge}
 use Rattle.pks_terms.specs.Reasons.{would_make_true, would_make_false, would_change, would_widen, assigns_other}
 use Rattle.pks_proof.specs.declared.barring.Doing as doing
 use Rattle.pks_proof.specs.declared.barring.Doing.TheVariants as doing_is
-use Rattle.pks_proof.specs.declared.barring.Deed.{Deed}
+use Rattle.pks_proof.specs.declared.barring.Transition.{Transition}
 use Rattle.pks_proof_cited.specs.CitedViews.{judge_of}
 
 -- the target would do so
@@ -26,12 +26,12 @@ abbrev pub effects_at : DInstance → List DEffect → List Effect
 effects_at i es = map (effect_at (given_of i)) (map effect_of es)
 
 -- the effects of the action
-abbrev pub effects_by : Deed → List Effect
+abbrev pub effects_by : Transition → List Effect
 effects_by d = effects_at d.instance.now d.effects.now
 
 -- what is cited, and the moment before the action
-abbrev pub before_in : Deed → Judge
+abbrev pub before_in : Transition → Judge
 before_in d = judge_of d.before
 
-abbrev pub moment_in : Deed → ℕ
+abbrev pub moment_in : Transition → ℕ
 moment_in d = d.before.moment

@@ -9,17 +9,17 @@ use Rattle.pks_terms.specs.Proofs.{Path, deeds, Reason, ByGiven, BySide, BySame,
 use Rattle.pks_terms.specs.Judging.{Judge}
 use Rattle.pks_terms.specs.Reasons.{is_by_side, is_same, is_only, is_other, is_in_range, is_left_out, is_from_later, is_effect, is_needed, is_failed, is_grown, is_cleared}
 use Rattle.pks_terms.specs.Accepting.{from_moment, to_moment}
-use Rattle.pks_proof.specs.declared.barring.Deed.{Deed}
+use Rattle.pks_proof.specs.declared.barring.Transition.{Transition}
 use Rattle.pks_proof.specs.Doings.{effects_by, before_in, moment_in}
 
 -- the action that follows the moment, with what is cited there
-pub record IsDeedAt (p : Problem) (path : Path) (j : Judge) (m : ℕ) (d : Deed) : Type 0 where
+pub record IsDeedAt (p : Problem) (path : Path) (j : Judge) (m : ℕ) (d : Transition) : Type 0 where
   pub effects : option_map (effects_of p) (slice_get (deeds path) m) ≡ Some (effects_by d)
   pub judge : before_in d ≡ j
   pub moment : moment_in d ≡ m
 
 -- it, or that no action follows
-abbrev pub IsDeedFrom : Problem → Path → Judge → ℕ → Option Deed → Type 0
+abbrev pub IsDeedFrom : Problem → Path → Judge → ℕ → Option Transition → Type 0
 IsDeedFrom p path j m (Some d) = IsDeedAt p path j m d
 IsDeedFrom p path j m None = slice_get (deeds path) m ≡ None
 

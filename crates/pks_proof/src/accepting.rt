@@ -21,7 +21,7 @@ ghost use Rattle.pks_proof.specs.Doings.{effects_by, before_in, moment_in};
 ghost use Rattle.pks_proof.specs.Lines.{IsDeedFrom, is_literal_allowed, is_region_allowed};
 
 use crate::acting::{is_effect, is_failed, is_from_later, is_kept, is_needed};
-use crate::barring::Deed;
+use crate::barring::Transition;
 use crate::region::{is_cleared, is_grown};
 use pks_lcw::Entry;
 use pks_proof_cited::cited::{Cited, line_at};
@@ -56,12 +56,12 @@ fn deed_at(path: &[Turn], moment: u64) -> Option<&Instance>
 }
 
 /// The action with its arguments, and what is cited before it.
-fn deed_of<'a>(p: &'a Problem<'_>, before: Cited<'a>, instance: &'a Instance) -> Deed<'a>
+fn deed_of<'a>(p: &'a Problem<'_>, before: Cited<'a>, instance: &'a Instance) -> Transition<'a>
     ensures effects { effects_by result ≡ effects_of (problem_of p.now) (instance_of instance.now) }
     ensures judge { before_in result ≡ judge_of before.entry }
     ensures moment { moment_in result ≡ before.entry.moment }
 {
-    Deed {
+    Transition {
         before,
         instance,
         effects: written_effects(p, instance.act),
@@ -69,7 +69,7 @@ fn deed_of<'a>(p: &'a Problem<'_>, before: Cited<'a>, instance: &'a Instance) ->
 }
 
 /// The action that follows the moment.
-fn deed_from<'a>(p: &'a Problem<'_>, path: &'a [Turn], c: &Cited<'a>) -> Option<Deed<'a>>
+fn deed_from<'a>(p: &'a Problem<'_>, path: &'a [Turn], c: &Cited<'a>) -> Option<Transition<'a>>
     requires { c.now.moment < 2 ^ 32 }
     ensures { IsDeedFrom (problem_of p.now) (path_of path.now) (judge_of c.now) c.now.moment result }
 {
@@ -80,7 +80,7 @@ fn deed_from<'a>(p: &'a Problem<'_>, path: &'a [Turn], c: &Cited<'a>) -> Option<
 }
 
 /// The action that leads to the moment, which isn't the first.
-fn deed_to<'a>(p: &'a Problem<'_>, path: &'a [Turn], c: &Cited<'a>) -> Option<Deed<'a>>
+fn deed_to<'a>(p: &'a Problem<'_>, path: &'a [Turn], c: &Cited<'a>) -> Option<Transition<'a>>
     requires later { 0 < c.now.moment }
     requires small { c.now.moment < 2 ^ 32 }
     ensures { IsDeedFrom (problem_of p.now) (path_of path.now) (judge_of c.now) (c.now.moment - 1) result }

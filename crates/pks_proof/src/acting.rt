@@ -18,7 +18,7 @@ ghost use Rattle.pks_proof_cited.specs.CitedViews.{judge_of};
 ghost use Rattle.pks_proof.specs.Doings.{effects_at, effects_by, before_in, moment_in};
 
 use crate::barring::{
-    Deed, Doing, are_barred, are_inners_steady, are_steady, denying, is_barred, is_steady,
+    Doing, Transition, are_barred, are_inners_steady, are_steady, denying, is_barred, is_steady,
     making_same, undoing,
 };
 use pks_lcw::Entry;
@@ -31,34 +31,34 @@ use pks_terms::schema::{Effect, Target};
 use pks_terms::term::{Term, front};
 
 /// Whether the effects of the action are barred from making the literal false.
-fn is_denied_by_none(d: &Deed<'_>, l: &Literal) -> bool
+fn is_denied_by_none(d: &Transition<'_>, l: &Literal) -> bool
     ensures { result ≡ are_barred (before_in d.now) (moment_in d.now) (would_deny (before_in d.now) (moment_in d.now) (relation_of l.now.atom) (sides_of l.now.atom) l.now.positive) (effects_by d.now) }
 {
     are_barred(d, &denying(l), d.effects)
 }
 
 /// Whether these effects of the action are barred from undoing the target.
-fn is_undone_by_none(d: &Deed<'_>, target: &Target, effects: &[Effect]) -> bool
+fn is_undone_by_none(d: &Transition<'_>, target: &Target, effects: &[Effect]) -> bool
     ensures { result ≡ are_barred (before_in d.now) (moment_in d.now) (would_undo (before_in d.now) (moment_in d.now) (target_of target.now)) (effects_at d.now.instance.now effects.now) }
 {
     are_barred(d, &undoing(target), effects)
 }
 
 /// Whether these effects of the action are barred from making so the same as the target.
-fn is_made_by_none(d: &Deed<'_>, target: &Target, effects: &[Effect]) -> bool
+fn is_made_by_none(d: &Transition<'_>, target: &Target, effects: &[Effect]) -> bool
     ensures { result ≡ are_barred (before_in d.now) (moment_in d.now) (would_make_same (before_in d.now) (moment_in d.now) (target_of target.now)) (effects_at d.now.instance.now effects.now) }
 {
     are_barred(d, &making_same(target), effects)
 }
 
 /// Whether the literal's terms are steady, and the effects that would make it false are barred.
-fn keeps_literal(d: &Deed<'_>, l: &Literal) -> bool
+fn keeps_literal(d: &Transition<'_>, l: &Literal) -> bool
     ensures { result ≡ keeps_literal (before_in d.now) (moment_in d.now) (effects_by d.now) (literal_of l.now) }
 {
     are_steady(d, l.atom.arguments().terms()) && is_denied_by_none(d, l)
 }
 
-fn keeps_group(d: &Deed<'_>, g: &[Literal]) -> bool
+fn keeps_group(d: &Transition<'_>, g: &[Literal]) -> bool
     ensures { result ≡ keeps_group (before_in d.now) (moment_in d.now) (effects_by d.now) (literals_in g.now) }
 {
     for l in g {
@@ -70,7 +70,7 @@ fn keeps_group(d: &Deed<'_>, g: &[Literal]) -> bool
 }
 
 /// Whether the fixed terms of the slots are steady. It takes no memory.
-pub fn are_slots_steady(d: &Deed<'_>, slots: &[Option<Term>]) -> bool
+pub fn are_slots_steady(d: &Transition<'_>, slots: &[Option<Term>]) -> bool
     ensures { result ≡ are_steady (before_in d.now) (moment_in d.now) (effects_by d.now) (fixed_terms (map (option_map term_of) slots.now)) }
 {
     match slots {
@@ -82,7 +82,7 @@ pub fn are_slots_steady(d: &Deed<'_>, slots: &[Option<Term>]) -> bool
     }
 }
 
-fn are_atoms_steady(d: &Deed<'_>, atoms: &[PredAtom]) -> bool
+fn are_atoms_steady(d: &Transition<'_>, atoms: &[PredAtom]) -> bool
     ensures { result ≡ list_all (λ a. are_steady (before_in d.now) (moment_in d.now) (effects_by d.now) a.arguments) (atoms_of atoms.now) }
 {
     for a in atoms {
@@ -94,7 +94,7 @@ fn are_atoms_steady(d: &Deed<'_>, atoms: &[PredAtom]) -> bool
 }
 
 /// Whether the region's terms are steady. It takes no memory.
-pub fn is_region_steady(d: &Deed<'_>, e: &Entry) -> bool
+pub fn is_region_steady(d: &Transition<'_>, e: &Entry) -> bool
     ensures { result ≡ are_steady (before_in d.now) (moment_in d.now) (effects_by d.now) (entry_terms (entry_of e.now)) }
 {
     are_slots_steady(d, front(&e.pattern.args, e.pattern.n))
@@ -102,19 +102,19 @@ pub fn is_region_steady(d: &Deed<'_>, e: &Entry) -> bool
 }
 
 /// Whether these effects of the action are barred from making an instance of the pattern true. It takes no memory.
-pub fn is_widened_by_none(d: &Deed<'_>, x: &Pattern, effects: &[Effect]) -> bool
+pub fn is_widened_by_none(d: &Transition<'_>, x: &Pattern, effects: &[Effect]) -> bool
     ensures { result ≡ are_barred (before_in d.now) (moment_in d.now) (would_widen (before_in d.now) (moment_in d.now) (pattern_of x.now)) (effects_at d.now.instance.now effects.now) }
 {
     are_barred(d, &Doing::Widening(x), effects)
 }
 
-fn keeps_region(d: &Deed<'_>, e: &Entry) -> bool
+fn keeps_region(d: &Transition<'_>, e: &Entry) -> bool
     ensures { result ≡ keeps_region (before_in d.now) (moment_in d.now) (effects_by d.now) (entry_of e.now) }
 {
     is_region_steady(d, e) && is_widened_by_none(d, &e.pattern, d.effects)
 }
 
-fn keeps_fact(d: &Deed<'_>, f: &Fact) -> bool
+fn keeps_fact(d: &Transition<'_>, f: &Fact) -> bool
     ensures { result ≡ keeps_fact (before_in d.now) (moment_in d.now) (effects_by d.now) (fact_of f.now) }
 {
     match f {
@@ -125,14 +125,14 @@ fn keeps_fact(d: &Deed<'_>, f: &Fact) -> bool
 }
 
 /// `keep`: whether the fact is cited before the action, which keeps it. It takes no memory.
-pub fn is_kept(d: &Deed<'_>, f: &Fact) -> bool
+pub fn is_kept(d: &Transition<'_>, f: &Fact) -> bool
     ensures { result ≡ is_kept (before_in d.now) (moment_in d.now) (effects_by d.now) (fact_of f.now) }
 {
     d.before.relies(f) && keeps_fact(d, f)
 }
 
 /// `back`: whether the literal is cited after the action, which doesn't make it true. It takes no memory.
-pub fn is_from_later(d: &Deed<'_>, l: &Literal) -> bool
+pub fn is_from_later(d: &Transition<'_>, l: &Literal) -> bool
     requires { moment_in d.now < 2 ^ 32 }
     ensures { result ≡ is_from_later (before_in d.now) (moment_in d.now) (effects_by d.now) (literal_of l.now) }
 {
@@ -226,7 +226,7 @@ fn is_target_form(c: &Cited<'_>, target: &Target, x: &Target) -> bool
     }
 }
 
-fn is_steady_target(d: &Deed<'_>, x: &Target) -> bool
+fn is_steady_target(d: &Transition<'_>, x: &Target) -> bool
     ensures { result ≡ is_steady_target (before_in d.now) (moment_in d.now) (effects_by d.now) (target_of x.now) }
 {
     match x {
@@ -239,7 +239,7 @@ fn is_steady_target(d: &Deed<'_>, x: &Target) -> bool
 }
 
 /// Whether the target is that of the effect with terms replaced, and steady.
-fn is_steady_form(d: &Deed<'_>, e: &Effect, x: &Target) -> bool
+fn is_steady_form(d: &Transition<'_>, e: &Effect, x: &Target) -> bool
     ensures { result ≡ is_steady_form (before_in d.now) (moment_in d.now) (effects_by d.now) (effect_of e.now) (target_of x.now) }
 {
     is_target_form(&d.before, &e.target, x) && is_steady_target(d, x)
@@ -247,7 +247,7 @@ fn is_steady_form(d: &Deed<'_>, e: &Effect, x: &Target) -> bool
 
 /// Whether the effect, its arguments put in, makes the target so: its conditions are cited, and the later effects don't undo
 /// it.
-fn makes(d: &Deed<'_>, x: &Target, e: &Effect, later: &[Effect]) -> bool
+fn makes(d: &Transition<'_>, x: &Target, e: &Effect, later: &[Effect]) -> bool
     ensures { result ≡ makes (before_in d.now) (moment_in d.now) (effects_by d.now) (target_of x.now) (effect_of e.now, effects_at d.now.instance.now later.now) }
 {
     is_steady_form(d, e, x)
@@ -255,7 +255,7 @@ fn makes(d: &Deed<'_>, x: &Target, e: &Effect, later: &[Effect]) -> bool
             && is_undone_by_none(d, x, later))
 }
 
-fn some_makes(d: &Deed<'_>, x: &Target, effects: &[Effect]) -> bool
+fn some_makes(d: &Transition<'_>, x: &Target, effects: &[Effect]) -> bool
     ensures { result ≡ list_any (makes (before_in d.now) (moment_in d.now) (effects_by d.now) (target_of x.now)) (with_later (effects_at d.now.instance.now effects.now)) }
 {
     for (i, e) in effects.iter().enumerate() {
@@ -266,7 +266,7 @@ fn some_makes(d: &Deed<'_>, x: &Target, effects: &[Effect]) -> bool
     false
 }
 
-fn is_made(d: &Deed<'_>, x: &Option<Target>) -> bool
+fn is_made(d: &Transition<'_>, x: &Option<Target>) -> bool
     ensures { result ≡ option_map_or (λ x. list_any (makes (before_in d.now) (moment_in d.now) (effects_by d.now) x) (with_later (effects_by d.now))) (option_map target_of x.now) false }
 {
     match x {
@@ -278,7 +278,7 @@ fn is_made(d: &Deed<'_>, x: &Option<Target>) -> bool
 /// `effect`: whether the literal is the target of an effect, its terms replaced and steady, whose conditions are cited
 /// before, while later effects are barred from undoing it. It takes no memory.
 #[tactic(auto, using(crate::proofs::Targeting::any_of_two))]
-pub fn is_effect(d: &Deed<'_>, l: &Literal) -> bool
+pub fn is_effect(d: &Transition<'_>, l: &Literal) -> bool
     ensures { result ≡ is_effect (before_in d.now) (moment_in d.now) (effects_by d.now) (literal_of l.now) }
 {
     let targets = targets_of(l);
@@ -287,7 +287,7 @@ pub fn is_effect(d: &Deed<'_>, l: &Literal) -> bool
 
 /// Whether the literal is a condition of one of the effects, which has this target, and the other effects are barred from
 /// making it so, where `others` says so of earlier ones.
-fn some_needs(d: &Deed<'_>, l: &Literal, x: &Target, others: bool, effects: &[Effect]) -> bool
+fn some_needs(d: &Transition<'_>, l: &Literal, x: &Target, others: bool, effects: &[Effect]) -> bool
     ensures { result ≡ needed_from (before_in d.now) (moment_in d.now) (effects_by d.now) (literal_of l.now) (target_of x.now) others (effects_at d.now.instance.now effects.now) }
 {
     let mut passed = others;
@@ -302,7 +302,7 @@ fn some_needs(d: &Deed<'_>, l: &Literal, x: &Target, others: bool, effects: &[Ef
 }
 
 /// Whether the literal is a condition of the effect, its arguments put in, which has this target.
-fn is_condition(d: &Deed<'_>, l: &Literal, x: &Target, e: &Effect) -> bool
+fn is_condition(d: &Transition<'_>, l: &Literal, x: &Target, e: &Effect) -> bool
     ensures { result ≡ (list_any (literal_eq (literal_of l.now)) (effect_of e.now).condition && is_steady_form (before_in d.now) (moment_in d.now) (effects_by d.now) (effect_of e.now) (target_of x.now)) }
 {
     is_one_of(l, front(&e.cond.literals, e.cond.n)) && is_steady_form(d, e, x)
@@ -310,27 +310,34 @@ fn is_condition(d: &Deed<'_>, l: &Literal, x: &Target, e: &Effect) -> bool
 
 /// Whether the literal is a condition of the effect, its arguments put in, which has this target, and those behind it are
 /// barred from making it so, and `others`.
-fn needs(d: &Deed<'_>, l: &Literal, x: &Target, others: bool, e: &Effect, later: &[Effect]) -> bool
+fn needs(
+    d: &Transition<'_>,
+    l: &Literal,
+    x: &Target,
+    others: bool,
+    e: &Effect,
+    later: &[Effect],
+) -> bool
     ensures { result ≡ ((list_any (literal_eq (literal_of l.now)) (effect_of e.now).condition && is_steady_form (before_in d.now) (moment_in d.now) (effects_by d.now) (effect_of e.now) (target_of x.now)) && (others && are_barred (before_in d.now) (moment_in d.now) (would_make_same (before_in d.now) (moment_in d.now) (target_of x.now)) (effects_at d.now.instance.now later.now))) }
 {
     is_condition(d, l, x, e) && (others && is_made_by_none(d, x, later))
 }
 
 /// Whether the effect, its arguments put in, is barred from making so the same as the target, and `others`.
-fn is_no_maker_too(d: &Deed<'_>, x: &Target, others: bool, e: &Effect) -> bool
+fn is_no_maker_too(d: &Transition<'_>, x: &Target, others: bool, e: &Effect) -> bool
     ensures { result ≡ (others && is_barred (before_in d.now) (moment_in d.now) (would_make_same (before_in d.now) (moment_in d.now) (target_of x.now)) (effect_of e.now)) }
 {
     others && is_no_maker(d, x, e)
 }
 
 /// Whether the effect, its arguments put in, is barred from making so the same as the target.
-fn is_no_maker(d: &Deed<'_>, x: &Target, e: &Effect) -> bool
+fn is_no_maker(d: &Transition<'_>, x: &Target, e: &Effect) -> bool
     ensures { result ≡ is_barred (before_in d.now) (moment_in d.now) (would_make_same (before_in d.now) (moment_in d.now) (target_of x.now)) (effect_of e.now) }
 {
     is_barred(&d.before, &making_same(x), e)
 }
 
-fn is_needed_for(d: &Deed<'_>, l: &Literal, x: &Option<Target>) -> bool
+fn is_needed_for(d: &Transition<'_>, l: &Literal, x: &Option<Target>) -> bool
     ensures { result ≡ option_map_or (λ x. needed_from (before_in d.now) (moment_in d.now) (effects_by d.now) (literal_of l.now) x true (effects_by d.now)) (option_map target_of x.now) false }
 {
     match x {
@@ -341,7 +348,7 @@ fn is_needed_for(d: &Deed<'_>, l: &Literal, x: &Option<Target>) -> bool
 
 /// Whether the literal `k` was false before, and an effect with the condition `l` alone can have made it so.
 #[tactic(auto, using(crate::proofs::Targeting::any_of_two))]
-fn is_turned(d: &Deed<'_>, l: &Literal, k: &Literal) -> bool
+fn is_turned(d: &Transition<'_>, l: &Literal, k: &Literal) -> bool
     ensures { result ≡ is_turned (before_in d.now) (moment_in d.now) (effects_by d.now) (literal_of l.now) (literal_of k.now) }
 {
     let targets = targets_of(k);
@@ -349,7 +356,7 @@ fn is_turned(d: &Deed<'_>, l: &Literal, k: &Literal) -> bool
         && (is_needed_for(d, l, &targets.first) || is_needed_for(d, l, &targets.second))
 }
 
-fn line_is_turned(d: &Deed<'_>, number: u32, l: &Literal) -> bool
+fn line_is_turned(d: &Transition<'_>, number: u32, l: &Literal) -> bool
     requires { moment_in d.now < 2 ^ 32 }
     ensures { result ≡ option_map_or (is_literal_that (is_turned (before_in d.now) (moment_in d.now) (effects_by d.now) (literal_of l.now))) (option_and_then (fact_then (suc (moment_in d.now))) (nth (lines_of d.now.before.lines.now) number)) false }
 {
@@ -360,7 +367,7 @@ fn line_is_turned(d: &Deed<'_>, number: u32, l: &Literal) -> bool
 }
 
 #[tactic(auto, using(pks_proof_cited::proofs::Citing::any_cited))]
-fn some_is_turned(d: &Deed<'_>, numbers: &[u32], l: &Literal) -> bool
+fn some_is_turned(d: &Transition<'_>, numbers: &[u32], l: &Literal) -> bool
     requires { moment_in d.now < 2 ^ 32 }
     ensures { result ≡ list_any (is_literal_that (is_turned (before_in d.now) (moment_in d.now) (effects_by d.now) (literal_of l.now))) (by_cited (lines_of d.now.before.lines.now) numbers.now (suc (moment_in d.now))) }
 {
@@ -375,7 +382,7 @@ fn some_is_turned(d: &Deed<'_>, numbers: &[u32], l: &Literal) -> bool
 /// `must`: whether the literal is a condition of an effect whose target is cited after and its negation before, and which
 /// every other effect is barred from making so. It takes no memory.
 #[tactic(auto, using(crate::proofs::Targeting::needed_turned))]
-pub fn is_needed(d: &Deed<'_>, l: &Literal) -> bool
+pub fn is_needed(d: &Transition<'_>, l: &Literal) -> bool
     requires { moment_in d.now < 2 ^ 32 }
     ensures { result ≡ is_needed (before_in d.now) (moment_in d.now) (effects_by d.now) (literal_of l.now) }
 {
@@ -384,14 +391,14 @@ pub fn is_needed(d: &Deed<'_>, l: &Literal) -> bool
 
 /// Whether the literal is the negation of one condition of the effect, its arguments put in, the others cited, which has
 /// this target, and the later effects don't undo it.
-fn fails(d: &Deed<'_>, l: &Literal, x: &Target, e: &Effect, later: &[Effect]) -> bool
+fn fails(d: &Transition<'_>, l: &Literal, x: &Target, e: &Effect, later: &[Effect]) -> bool
     ensures { result ≡ fails (before_in d.now) (moment_in d.now) (effects_by d.now) (literal_of l.now) (target_of x.now) (effect_of e.now, effects_at d.now.instance.now later.now) }
 {
     denies_one(&d.before, l, front(&e.cond.literals, e.cond.n))
         && (is_steady_form(d, e, x) && is_undone_by_none(d, x, later))
 }
 
-fn some_fails(d: &Deed<'_>, l: &Literal, x: &Target, effects: &[Effect]) -> bool
+fn some_fails(d: &Transition<'_>, l: &Literal, x: &Target, effects: &[Effect]) -> bool
     ensures { result ≡ list_any (fails (before_in d.now) (moment_in d.now) (effects_by d.now) (literal_of l.now) (target_of x.now)) (with_later (effects_at d.now.instance.now effects.now)) }
 {
     for (i, e) in effects.iter().enumerate() {
@@ -402,7 +409,7 @@ fn some_fails(d: &Deed<'_>, l: &Literal, x: &Target, effects: &[Effect]) -> bool
     false
 }
 
-fn is_failed_for(d: &Deed<'_>, l: &Literal, x: &Option<Target>) -> bool
+fn is_failed_for(d: &Transition<'_>, l: &Literal, x: &Option<Target>) -> bool
     ensures { result ≡ option_map_or (λ x. list_any (fails (before_in d.now) (moment_in d.now) (effects_by d.now) (literal_of l.now) x) (with_later (effects_by d.now))) (option_map target_of x.now) false }
 {
     match x {
@@ -413,14 +420,14 @@ fn is_failed_for(d: &Deed<'_>, l: &Literal, x: &Option<Target>) -> bool
 
 /// Whether the literal `k` is the negation of the target of an effect that fails by the condition that `l` negates.
 #[tactic(auto, using(crate::proofs::Targeting::any_of_two))]
-fn is_missed(d: &Deed<'_>, l: &Literal, k: &Literal) -> bool
+fn is_missed(d: &Transition<'_>, l: &Literal, k: &Literal) -> bool
     ensures { result ≡ is_missed (before_in d.now) (moment_in d.now) (effects_by d.now) (literal_of l.now) (literal_of k.now) }
 {
     let targets = targets_of(&k.negated());
     is_failed_for(d, l, &targets.first) || is_failed_for(d, l, &targets.second)
 }
 
-fn line_is_missed(d: &Deed<'_>, number: u32, l: &Literal) -> bool
+fn line_is_missed(d: &Transition<'_>, number: u32, l: &Literal) -> bool
     requires { moment_in d.now < 2 ^ 32 }
     ensures { result ≡ option_map_or (is_literal_that (is_missed (before_in d.now) (moment_in d.now) (effects_by d.now) (literal_of l.now))) (option_and_then (fact_then (suc (moment_in d.now))) (nth (lines_of d.now.before.lines.now) number)) false }
 {
@@ -431,7 +438,7 @@ fn line_is_missed(d: &Deed<'_>, number: u32, l: &Literal) -> bool
 }
 
 #[tactic(auto, using(pks_proof_cited::proofs::Citing::any_cited))]
-fn some_is_missed(d: &Deed<'_>, numbers: &[u32], l: &Literal) -> bool
+fn some_is_missed(d: &Transition<'_>, numbers: &[u32], l: &Literal) -> bool
     requires { moment_in d.now < 2 ^ 32 }
     ensures { result ≡ list_any (is_literal_that (is_missed (before_in d.now) (moment_in d.now) (effects_by d.now) (literal_of l.now))) (by_cited (lines_of d.now.before.lines.now) numbers.now (suc (moment_in d.now))) }
 {
@@ -446,7 +453,7 @@ fn some_is_missed(d: &Deed<'_>, numbers: &[u32], l: &Literal) -> bool
 /// `cannot`: whether the literal is the negation of one condition of an effect, the others cited, whose target's negation is
 /// cited after, while later effects are barred from undoing it. It takes no memory.
 #[tactic(auto, using(crate::proofs::Targeting::failed_missed))]
-pub fn is_failed(d: &Deed<'_>, l: &Literal) -> bool
+pub fn is_failed(d: &Transition<'_>, l: &Literal) -> bool
     requires { moment_in d.now < 2 ^ 32 }
     ensures { result ≡ is_failed (before_in d.now) (moment_in d.now) (effects_by d.now) (literal_of l.now) }
 {

@@ -21,7 +21,7 @@ use pks_terms::term::{Inner, Term, front};
 
 /// An action that is done, with what is cited at the moment before it.
 #[derive(Clone, Copy)]
-pub struct Deed<'a> {
+pub struct Transition<'a> {
     /// What is cited before.
     pub before: Cited<'a>,
     /// The action with its arguments.
@@ -125,7 +125,7 @@ pub fn is_barred(c: &Cited<'_>, doing: &Doing<'_>, e: &Effect) -> bool
 }
 
 /// Whether each of these effects of the action is barred from doing so. It takes no memory.
-pub fn are_barred(d: &Deed<'_>, doing: &Doing<'_>, effects: &[Effect]) -> bool
+pub fn are_barred(d: &Transition<'_>, doing: &Doing<'_>, effects: &[Effect]) -> bool
     ensures { result ≡ are_barred (before_in d.now) (moment_in d.now) (would_of (before_in d.now) (moment_in d.now) doing.now) (effects_at d.now.instance.now effects.now) }
 {
     for e in effects {
@@ -136,13 +136,13 @@ pub fn are_barred(d: &Deed<'_>, doing: &Doing<'_>, effects: &[Effect]) -> bool
     true
 }
 
-fn is_place_kept(d: &Deed<'_>, place: &Term) -> bool
+fn is_place_kept(d: &Transition<'_>, place: &Term) -> bool
     ensures { result ≡ are_barred (before_in d.now) (moment_in d.now) (would_change (before_in d.now) (moment_in d.now) (number_of (term_of place.now)) (arguments_of (term_of place.now))) (effects_by d.now) }
 {
     are_barred(d, &Doing::Changing(place), d.effects)
 }
 
-fn are_places_kept(d: &Deed<'_>, ts: &[Inner]) -> bool
+fn are_places_kept(d: &Transition<'_>, ts: &[Inner]) -> bool
     ensures { result ≡ list_all (λ u. are_barred (before_in d.now) (moment_in d.now) (would_change (before_in d.now) (moment_in d.now) (number_of u) (arguments_of u)) (effects_by d.now)) (filter is_application (map lifted (map inner_of ts.now))) }
 {
     match ts {
@@ -155,7 +155,7 @@ fn are_places_kept(d: &Deed<'_>, ts: &[Inner]) -> bool
 }
 
 /// Whether the term is steady: each assignment that could change an application in it is barred. It takes no memory.
-pub fn is_steady(d: &Deed<'_>, t: &Term) -> bool
+pub fn is_steady(d: &Transition<'_>, t: &Term) -> bool
     ensures { result ≡ is_steady (before_in d.now) (moment_in d.now) (effects_by d.now) (term_of t.now) }
 {
     match t {
@@ -165,7 +165,7 @@ pub fn is_steady(d: &Deed<'_>, t: &Term) -> bool
 }
 
 /// Whether each of the terms is steady. It takes no memory.
-pub fn are_steady(d: &Deed<'_>, ts: &[Term]) -> bool
+pub fn are_steady(d: &Transition<'_>, ts: &[Term]) -> bool
     ensures { result ≡ are_steady (before_in d.now) (moment_in d.now) (effects_by d.now) (terms_of ts.now) }
 {
     match ts {
@@ -175,7 +175,7 @@ pub fn are_steady(d: &Deed<'_>, ts: &[Term]) -> bool
 }
 
 /// Whether each of the arguments is steady. It takes no memory.
-pub fn are_inners_steady(d: &Deed<'_>, ts: &[Inner]) -> bool
+pub fn are_inners_steady(d: &Transition<'_>, ts: &[Inner]) -> bool
     ensures { result ≡ are_steady (before_in d.now) (moment_in d.now) (effects_by d.now) (map lifted (map inner_of ts.now)) }
 {
     match ts {

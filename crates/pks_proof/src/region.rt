@@ -15,7 +15,7 @@ ghost use Rattle.pks_proof.specs.Doings.{effects_at, effects_by, before_in, mome
 ghost use Rattle.pks_proof.specs.Acts.{clears};
 
 use crate::acting::{are_slots_steady, is_region_steady, is_widened_by_none};
-use crate::barring::{Deed, Doing, are_steady, is_barred};
+use crate::barring::{Doing, Transition, are_steady, is_barred};
 use pks_lcw::Entry;
 use pks_proof_cited::cited::{Cited, fact_at};
 use pks_proof_cited::forms::{are_forms, are_slot_forms};
@@ -37,7 +37,7 @@ fn are_listed(atoms: &[PredAtom], bs: &[PredAtom]) -> bool
 }
 
 /// Whether the atom is that of a `set` with terms replaced, and steady.
-fn is_set_form(d: &Deed<'_>, target: &Target, b: &PredAtom) -> bool
+fn is_set_form(d: &Transition<'_>, target: &Target, b: &PredAtom) -> bool
     ensures { result ≡ is_set_form (before_in d.now) (moment_in d.now) (effects_by d.now) (target_of target.now) (atom_of b.now) }
 {
     match target {
@@ -50,7 +50,7 @@ fn is_set_form(d: &Deed<'_>, target: &Target, b: &PredAtom) -> bool
     }
 }
 
-fn some_set_form(d: &Deed<'_>, target: &Target, atoms: &[PredAtom]) -> bool
+fn some_set_form(d: &Transition<'_>, target: &Target, atoms: &[PredAtom]) -> bool
     ensures { result ≡ list_any (is_set_form (before_in d.now) (moment_in d.now) (effects_by d.now) (target_of target.now)) (atoms_of atoms.now) }
 {
     for b in atoms {
@@ -61,7 +61,7 @@ fn some_set_form(d: &Deed<'_>, target: &Target, atoms: &[PredAtom]) -> bool
     false
 }
 
-fn is_no_widener(d: &Deed<'_>, x: &Pattern, e: &Effect) -> bool
+fn is_no_widener(d: &Transition<'_>, x: &Pattern, e: &Effect) -> bool
     ensures { result ≡ is_barred (before_in d.now) (moment_in d.now) (would_widen (before_in d.now) (moment_in d.now) (pattern_of x.now)) (effect_of e.now) }
 {
     is_barred(&d.before, &Doing::Widening(x), e)
@@ -69,13 +69,13 @@ fn is_no_widener(d: &Deed<'_>, x: &Pattern, e: &Effect) -> bool
 
 /// Whether the effect, its arguments put in, is barred from making an instance of the region's pattern true, or its atom is
 /// listed.
-fn is_taken_in(d: &Deed<'_>, r: &Entry, e: &Effect) -> bool
+fn is_taken_in(d: &Transition<'_>, r: &Entry, e: &Effect) -> bool
     ensures { result ≡ is_taken_in (before_in d.now) (moment_in d.now) (effects_by d.now) (entry_of r.now) (effect_of e.now) }
 {
     is_no_widener(d, &r.pattern, e) || some_set_form(d, &e.target, r.list.as_slice())
 }
 
-fn are_taken_in(d: &Deed<'_>, r: &Entry, effects: &[Effect]) -> bool
+fn are_taken_in(d: &Transition<'_>, r: &Entry, effects: &[Effect]) -> bool
     ensures { result ≡ list_all (is_taken_in (before_in d.now) (moment_in d.now) (effects_by d.now) (entry_of r.now)) (effects_at d.now.instance.now effects.now) }
 {
     for e in effects {
@@ -86,14 +86,14 @@ fn are_taken_in(d: &Deed<'_>, r: &Entry, effects: &[Effect]) -> bool
     true
 }
 
-fn sets_atom(d: &Deed<'_>, x: &Pattern, b: &PredAtom, e: &Effect) -> bool
+fn sets_atom(d: &Transition<'_>, x: &Pattern, b: &PredAtom, e: &Effect) -> bool
     ensures { result ≡ (not (is_barred (before_in d.now) (moment_in d.now) (would_widen (before_in d.now) (moment_in d.now) (pattern_of x.now)) (effect_of e.now)) && is_set_form (before_in d.now) (moment_in d.now) (effects_by d.now) (effect_of e.now).target (atom_of b.now)) }
 {
     !is_no_widener(d, x, e) && is_set_form(d, &e.target, b)
 }
 
 /// Whether the atom is that of one of these effects, which isn't barred.
-fn is_new_atom(d: &Deed<'_>, x: &Pattern, b: &PredAtom, effects: &[Effect]) -> bool
+fn is_new_atom(d: &Transition<'_>, x: &Pattern, b: &PredAtom, effects: &[Effect]) -> bool
     ensures { result ≡ list_any (λ e. not (is_barred (before_in d.now) (moment_in d.now) (would_widen (before_in d.now) (moment_in d.now) (pattern_of x.now)) e) && is_set_form (before_in d.now) (moment_in d.now) (effects_by d.now) e.target (atom_of b.now)) (effects_at d.now.instance.now effects.now) }
 {
     for e in effects {
@@ -105,7 +105,7 @@ fn is_new_atom(d: &Deed<'_>, x: &Pattern, b: &PredAtom, effects: &[Effect]) -> b
 }
 
 /// Whether each of the atoms was listed before, or is that of an effect that isn't barred.
-fn are_known_atoms(d: &Deed<'_>, listed: &[PredAtom], x: &Pattern, atoms: &[PredAtom]) -> bool
+fn are_known_atoms(d: &Transition<'_>, listed: &[PredAtom], x: &Pattern, atoms: &[PredAtom]) -> bool
     ensures { result ≡ list_all (λ b. is_listed (atoms_of listed.now) b || is_new_atom (before_in d.now) (moment_in d.now) (effects_by d.now) (pattern_of x.now) b) (atoms_of atoms.now) }
 {
     for b in atoms {
@@ -117,7 +117,7 @@ fn are_known_atoms(d: &Deed<'_>, listed: &[PredAtom], x: &Pattern, atoms: &[Pred
 }
 
 /// Whether the region is the other with the atoms of all `set` effects on its predicate that aren't barred.
-fn grows_to(d: &Deed<'_>, r: &Entry, e: &Entry) -> bool
+fn grows_to(d: &Transition<'_>, r: &Entry, e: &Entry) -> bool
     ensures { result ≡ grows_to (before_in d.now) (moment_in d.now) (effects_by d.now) (entry_of r.now) (entry_of e.now) }
 {
     let (listed, old) = (r.list.as_slice(), e.list.as_slice());
@@ -127,7 +127,7 @@ fn grows_to(d: &Deed<'_>, r: &Entry, e: &Entry) -> bool
                 && (are_taken_in(d, r, d.effects) && are_known_atoms(d, old, &r.pattern, listed))))
 }
 
-fn line_grows_to(d: &Deed<'_>, number: u32, r: &Entry) -> bool
+fn line_grows_to(d: &Transition<'_>, number: u32, r: &Entry) -> bool
     ensures { result ≡ option_map_or (is_region_that (grows_to (before_in d.now) (moment_in d.now) (effects_by d.now) (entry_of r.now))) (option_and_then (fact_then (moment_in d.now)) (nth (lines_of d.now.before.lines.now) number)) false }
 {
     match fact_at(d.before.lines, d.before.moment, number) {
@@ -137,7 +137,7 @@ fn line_grows_to(d: &Deed<'_>, number: u32, r: &Entry) -> bool
 }
 
 #[tactic(auto, using(pks_proof_cited::proofs::Citing::any_cited))]
-fn some_grows_to(d: &Deed<'_>, numbers: &[u32], r: &Entry) -> bool
+fn some_grows_to(d: &Transition<'_>, numbers: &[u32], r: &Entry) -> bool
     ensures { result ≡ list_any (is_region_that (grows_to (before_in d.now) (moment_in d.now) (effects_by d.now) (entry_of r.now))) (by_cited (lines_of d.now.before.lines.now) numbers.now (moment_in d.now)) }
 {
     for n in numbers {
@@ -150,7 +150,7 @@ fn some_grows_to(d: &Deed<'_>, numbers: &[u32], r: &Entry) -> bool
 
 /// `grow`: whether the region is one that is cited before, its terms steady, with the atoms of all `set` effects on its
 /// predicate that aren't barred added to its list, their terms replaced and steady. It takes no memory.
-pub fn is_grown(d: &Deed<'_>, r: &Entry) -> bool
+pub fn is_grown(d: &Transition<'_>, r: &Entry) -> bool
     ensures { result ≡ is_grown (before_in d.now) (moment_in d.now) (effects_by d.now) (entry_of r.now) }
 {
     some_grows_to(d, d.before.numbers, r)
@@ -167,14 +167,14 @@ fn is_clear_form(c: &Cited<'_>, target: &Target, y: &Pattern) -> bool
 }
 
 /// Whether the effect, its arguments put in, clears the pattern without a condition, and the later ones don't widen it.
-fn clears(d: &Deed<'_>, y: &Pattern, e: &Effect, later: &[Effect]) -> bool
+fn clears(d: &Transition<'_>, y: &Pattern, e: &Effect, later: &[Effect]) -> bool
     ensures { result ≡ clears (before_in d.now) (moment_in d.now) (pattern_of y.now) (effect_of e.now, effects_at d.now.instance.now later.now) }
 {
     front(&e.cond.literals, e.cond.n).is_empty()
         && (is_clear_form(&d.before, &e.target, y) && is_widened_by_none(d, y, later))
 }
 
-fn some_clears(d: &Deed<'_>, y: &Pattern, effects: &[Effect]) -> bool
+fn some_clears(d: &Transition<'_>, y: &Pattern, effects: &[Effect]) -> bool
     ensures { result ≡ list_any (clears (before_in d.now) (moment_in d.now) (pattern_of y.now)) (with_later (effects_at d.now.instance.now effects.now)) }
 {
     for (i, e) in effects.iter().enumerate() {
@@ -187,7 +187,7 @@ fn some_clears(d: &Deed<'_>, y: &Pattern, effects: &[Effect]) -> bool
 
 /// `clear`: whether the region has an empty list and the pattern of an unconditional `clear`, its terms replaced and steady,
 /// while later `set` effects on the predicate are barred. It takes no memory.
-pub fn is_cleared(d: &Deed<'_>, r: &Entry) -> bool
+pub fn is_cleared(d: &Transition<'_>, r: &Entry) -> bool
     ensures { result ≡ is_cleared (before_in d.now) (moment_in d.now) (effects_by d.now) (entry_of r.now) }
 {
     r.list.as_slice().is_empty()

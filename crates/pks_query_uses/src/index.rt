@@ -5,7 +5,7 @@ ghost use Rattle.pks_terms.specs.Orders.{term_cmp};
 ghost use Rattle.pks_terms.specs.Views.{term_of, terms_of};
 ghost use Rattle.pks_query_uses.specs.Indexes.{found_items, items_at, Puts, PutsOnce, IsIndexOf};
 
-use crate::items::Item;
+use crate::items::Indexed;
 use pks_pmap_set::set::{Items, SetOf};
 use pks_terms::term::Term;
 use std::alloc::{AllocError, Global};
@@ -36,7 +36,7 @@ fn put<T: Drop>(alloc: Global, index: &mut Index<T>, t: Term, x: T) -> Result<()
 }
 
 /// Puts the item after those at each of the terms.
-fn put_at_each<T: Item>(
+fn put_at_each<T: Indexed>(
     alloc: Global,
     index: &mut Index<T>,
     ts: &SetOf<Term>,
@@ -52,7 +52,7 @@ fn put_at_each<T: Item>(
 }
 
 /// The terms that occur in the item, each once.
-pub(crate) fn terms_of<T: Item>(alloc: Global, x: &T) -> Result<SetOf<Term>, AllocError>
+pub(crate) fn terms_of<T: Indexed>(alloc: Global, x: &T) -> Result<SetOf<Term>, AllocError>
     ensures { IfOk result (λ ts. terms_of ts ≡ set_of term_cmp (T.terms x.now)) }
 {
     let mut all = Vec::new(alloc);
@@ -62,7 +62,7 @@ pub(crate) fn terms_of<T: Item>(alloc: Global, x: &T) -> Result<SetOf<Term>, All
 }
 
 /// Puts the item after those at each term that occurs in it.
-fn put_item<T: Item>(alloc: Global, index: &mut Index<T>, x: &T) -> Result<(), AllocError>
+fn put_item<T: Indexed>(alloc: Global, index: &mut Index<T>, x: &T) -> Result<(), AllocError>
     ensures { OnOk result (PutsOnce index.old index.new (T.terms x.now) x.now) }
 {
     let ts = terms_of(alloc, x)?;
@@ -71,7 +71,7 @@ fn put_item<T: Item>(alloc: Global, index: &mut Index<T>, x: &T) -> Result<(), A
 }
 
 /// At each term those of the items in which it occurs, in order.
-pub(crate) fn index_of<T: Item + Ord>(
+pub(crate) fn index_of<T: Indexed + Ord>(
     alloc: Global,
     items: Items<'_, T>,
 ) -> Result<Index<T>, AllocError>

@@ -15,7 +15,7 @@ use pks_terms::term::{Term, front};
 use std::alloc::AllocError;
 
 /// What terms occur in.
-pub(crate) trait Item: Drop {
+pub(crate) trait Indexed: Drop {
     /// The terms that occur in it.
     ghost terms: { Self → List STerm };
 
@@ -85,7 +85,7 @@ fn put_entry(to: &mut Vec<Term>, e: &Entry) -> Result<(), AllocError>
     Ok(())
 }
 
-impl Item for Literal {
+impl Indexed for Literal {
     ghost terms = { λ l. in_literal (literal_of l) };
 
     fn put(&self, to: &mut Vec<Term>) -> Result<(), AllocError> {
@@ -97,7 +97,7 @@ impl Item for Literal {
     }
 }
 
-impl Item for Group {
+impl Indexed for Group {
     ghost terms = { λ g. in_group (literals_in g) };
 
     fn put(&self, to: &mut Vec<Term>) -> Result<(), AllocError> {
@@ -109,7 +109,7 @@ impl Item for Group {
     }
 }
 
-impl Item for Entry {
+impl Indexed for Entry {
     ghost terms = { λ e. in_entry (entry_of e) };
 
     fn put(&self, to: &mut Vec<Term>) -> Result<(), AllocError> {

@@ -98,7 +98,7 @@ pub fn check_name<X>(report: &mut Report, table: &IndexMap<&str, X>, word: &Form
     ensures { found_of report.new ≡ all_noted (found_of report.old) (name_faults (names_of table.now) (form_view word.now)) }
 {
     report.too_long(name_of(word), place_of(word));
-    report.unknown(entry(table, name_of(word)).is_none(), place_of(word), 202);
+    report.require(entry(table, name_of(word)).is_none(), place_of(word), 202);
 }
 
 /// A name with its shape, unless it is there.
@@ -179,7 +179,7 @@ pub fn type_word(report: &mut Report, types: &Types<'_>, form: &Form<'_>)
     ensures { found_of report.new ≡ all_noted (found_of report.old) (type_faults (names_of types.now) (form_view form.now)) }
 {
     report.too_long(text_of(form), place_of(form));
-    report.unknown(number(types, text_of(form)).is_some(), place_of(form), 203);
+    report.require(number(types, text_of(form)).is_some(), place_of(form), 203);
 }
 
 /// The faults of the only form, which names a type.

@@ -54,11 +54,11 @@ impl Report {
         }
     }
 
-    /// What a name stands for is not there.
-    pub fn unknown(&mut self, is_known: bool, at: u32, code: u16)
-        ensures { found_of self.new ≡ all_noted (found_of self.old) (if is_known then [] else (at, code) ∷ []) }
+    /// What must hold: the fault of this code, at this place, where it doesn't.
+    pub fn require(&mut self, holds: bool, at: u32, code: u16)
+        ensures { found_of self.new ≡ all_noted (found_of self.old) (if holds then [] else (at, code) ∷ []) }
     {
-        if !is_known {
+        if !holds {
             self.note(at, code);
         }
     }

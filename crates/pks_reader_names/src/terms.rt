@@ -81,10 +81,10 @@ fn word(report: &mut Report, scope: &Scope<'_, '_>, text: &str, at: u32)
     }
     if is_variable(text.as_bytes()) {
         report.too_long(name_in(text), at);
-        report.unknown(scope.parameter(name_in(text)).is_some(), at, 204);
+        report.require(scope.parameter(name_in(text)).is_some(), at, 204);
     } else {
         report.too_long(text, at);
-        report.unknown(scope.object(text).is_some(), at, 203);
+        report.require(scope.object(text).is_some(), at, 203);
     }
 }
 
@@ -127,7 +127,7 @@ fn applied(report: &mut Report, shape: Option<&Shape>, parts: &[Form<'_>], at: u
     match parts {
         [head, args @ ..] => {
             report.too_long(text_of(head), place_of(head));
-            report.unknown(shape.is_some(), place_of(head), 203);
+            report.require(shape.is_some(), place_of(head), 203);
             miscounted(report, shape, args, at);
         }
         [] => {}

@@ -84,7 +84,7 @@ fn miscounted(report: &mut Report, shape: Option<&Shape>, words: &[Form<'_>], at
 fn fact(report: &mut Report, scope: &Scope<'_, '_>, shape: Option<&Shape>, form: &Form<'_>)
     ensures { found_of report.new ≡ all_noted (found_of report.old) (fact_faults (scope_view scope.now) (option_map (λ x. shape_of x.now) shape.entry) (form_view form.now)) }
 {
-    report.unknown(shape.is_some(), place_of(first_in(form)), 301);
+    report.require(shape.is_some(), place_of(first_in(form)), 301);
     miscounted(report, shape, behind_head(form), place_of(form));
     objects(report, scope, wanted_by(shape), behind_head(form));
 }

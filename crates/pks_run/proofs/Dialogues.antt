@@ -11,7 +11,7 @@ use Rattle.pks_terms.specs.Talk.{Talked, TalkEnd as Talk, Over, Unfit, Missing, 
 use Rattle.pks_terms.specs.Answers as answers
 use Rattle.pks_terms.specs.Answers.{Reading, ReadAs, Faulty, File, IsAccepted, IsDone, IsTalkRefused, IsUnplanned, RefusesFile, NoneApplies, talk_in, PrintsTalk, PrintsTalkRefused}
 use Rattle.pks_exec.specs.declared.runs.End.{End}
-use Rattle.pks_agent.specs.declared.ahead.Ahead.{Ahead}
+use Rattle.pks_agent.specs.declared.ahead.ReadAhead.{ReadAhead}
 use Rattle.pks_agent.specs.declared.ends.TalkEnd.{TalkEnd}
 use Rattle.pks_agent.specs.declared.ends.TalkEnd.TheVariants.{Misfit, Silent, Failed}
 use Rattle.pks_agent.specs.declared.peers.PeerFault.TheVariants.{Send, Receive}
@@ -228,7 +228,7 @@ module _ (n : ℕ) (input : Text) (f : File) (read : IsRead (file_text input) f)
 
         -- what comes of its end
         module _ (old mid new left : Option Text) (writes writes' stop : ℕ) (stop_is : stop ≡ stop_line input) where
-          left_out : (kept : Ahead) (others : List Text) → answers_coming (coming kept left) ≡ Some others → option_map (λ bytes. lines_of (ahead_of kept ++ bytes)) left ≡ Some others
+          left_out : (kept : ReadAhead) (others : List Text) → answers_coming (coming kept left) ≡ Some others → option_map (λ bytes. lines_of (ahead_of kept ++ bytes)) left ≡ Some others
           left_out kept others e = by_left left e
             where
               by_left : (l : Option Text) → answers_coming (coming kept l) ≡ Some others → option_map (λ bytes. lines_of (ahead_of kept ++ bytes)) l ≡ Some others
@@ -276,7 +276,7 @@ module _ (n : ℕ) (input : Text) (f : File) (read : IsRead (file_text input) f)
               by_status ReadFault w = absurd w
               by_status Memory w = absurd w
 
-          pub comes_to : (ended : Result End TalkEnd) (s : Status) (kept : Ahead) → Led old mid (answers_coming (coming kept left)) ended talked → Concludes ended stop mid new writes writes' s → Converses n input old new left s
+          pub comes_to : (ended : Result End TalkEnd) (s : Status) (kept : ReadAhead) → Led old mid (answers_coming (coming kept left)) ended talked → Concludes ended stop mid new writes writes' s → Converses n input old new left s
           comes_to (Ok end) s kept led ends =
               subst (λ t. Converses n input old new left t) (sym ends.0)
               (whole Done (talked_text talked) (subst IsOver (sym led.0) tt, refl) (subst (λ m. Appends old m (talked_text talked)) (sym ends.1) led.1)

@@ -20,7 +20,7 @@ use crate::answer::{refusal_of, too_long};
 use crate::send::send;
 use crate::status::Status;
 use itoa::Buffer;
-use pks_agent::{Ahead, PeerFault, Room, TalkEnd, converse_over, read_file_text};
+use pks_agent::{PeerFault, ReadAhead, Room, TalkEnd, converse_over, read_file_text};
 use pks_exec::End;
 use pks_io::{ReadEnd, Sink, SinkFailed, Source, write_all};
 use pks_plan::Tree;
@@ -84,7 +84,7 @@ fn lead_through<S: Source, K: Sink>(
     text: &[u8],
     f: &InputFile<'_>,
     t: &Tree,
-    ahead: Ahead,
+    ahead: ReadAhead,
     source: &mut S,
     sink: &mut K,
 ) -> Status
@@ -116,7 +116,7 @@ fn lead_file<S: Source, K: Sink>(
     depth: u8,
     text: &[u8],
     f: &InputFile<'_>,
-    ahead: Ahead,
+    ahead: ReadAhead,
     source: &mut S,
     sink: &mut K,
 ) -> Status
@@ -143,7 +143,7 @@ fn lead_text<S: Source, K: Sink>(
     alloc: Global,
     depth: u8,
     text: &[u8],
-    ahead: Ahead,
+    ahead: ReadAhead,
     source: &mut S,
     sink: &mut K,
 ) -> Status

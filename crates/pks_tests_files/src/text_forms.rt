@@ -107,17 +107,17 @@ fn are_placed_in(alloc: Global, text: &str) -> bool {
 }
 
 /// A place in `NESTED`, its line and its column.
-struct Place(u32, u32, u32);
+struct TextPlace(u32, u32, u32);
 
-const PLACES: &[Place] = &[
-    Place(0, 1, 1),
-    Place(5, 1, 6),
-    Place(6, 2, 1),
-    Place(13, 2, 8),
+const PLACES: &[TextPlace] = &[
+    TextPlace(0, 1, 1),
+    TextPlace(5, 1, 6),
+    TextPlace(6, 2, 1),
+    TextPlace(13, 2, 8),
 ];
 
 /// Whether the place in the text has this line and column.
-fn has_column(text: &str, row: &Place) -> bool {
+fn has_column(text: &str, row: &TextPlace) -> bool {
     if text.len() > 262144 || text.len() < row.0 as usize {
         return false;
     }

@@ -1,6 +1,6 @@
 //! Proofs about what actions make of literals and groups.
 use crate::rows::Piece::{Act, False, True};
-use crate::rows::{Piece, Row, Table};
+use crate::rows::{Piece, ProofRow, ProofTable};
 use pks_proof_lines::Reason::{Back, Cannot, Effect, Given, Keep, Must, Only, Side};
 use pks_terms::ids::ItemNo;
 
@@ -41,9 +41,9 @@ const ALIVE: Piece = True("(kw (alive))");
 const DEAD: Piece = False("(kw (alive))");
 
 /// A lawn that is alive, and what may be in the can is poured on it.
-pub const LAWN: Table = Table {
+pub const LAWN: ProofTable = ProofTable {
     domain: GARDEN,
-    rows: &[Row {
+    rows: &[ProofRow {
         init: "(kf (alive))",
         path: &[POUR],
         lines: &[
@@ -59,10 +59,10 @@ const SOUND: &str = "(kf (alive)) (kf (not (poison)))";
 
 const ONE_OF_TWO: &str = "(kx (alive) (sun)) (kf (not (sun))) (kf (not (cure)))";
 
-pub const KEPT: Table = Table {
+pub const KEPT: ProofTable = ProofTable {
     domain: GARDEN,
     rows: &[
-        Row {
+        ProofRow {
             init: SOUND,
             path: &[POUR],
             lines: &[
@@ -73,7 +73,7 @@ pub const KEPT: Table = Table {
             shows: "(alive)",
             accepted: true,
         },
-        Row {
+        ProofRow {
             init: SOUND,
             path: &[POUR],
             lines: &[
@@ -83,7 +83,7 @@ pub const KEPT: Table = Table {
             shows: "(alive)",
             accepted: false,
         },
-        Row {
+        ProofRow {
             init: SOUND,
             path: &[POUR],
             lines: &[
@@ -93,7 +93,7 @@ pub const KEPT: Table = Table {
             shows: "(alive)",
             accepted: false,
         },
-        Row {
+        ProofRow {
             init: SOUND,
             path: &[BAKE],
             lines: &[
@@ -104,7 +104,7 @@ pub const KEPT: Table = Table {
             shows: "(alive)",
             accepted: true,
         },
-        Row {
+        ProofRow {
             init: SOUND,
             path: &[CHILL],
             lines: &[
@@ -115,7 +115,7 @@ pub const KEPT: Table = Table {
             shows: "(alive)",
             accepted: false,
         },
-        Row {
+        ProofRow {
             init: "(kf (alive)) (kf (poison))",
             path: &[POUR],
             lines: &[
@@ -126,7 +126,7 @@ pub const KEPT: Table = Table {
             shows: "(alive)",
             accepted: false,
         },
-        Row {
+        ProofRow {
             init: "(kf (not (alive)))",
             path: &[POUR],
             lines: &[
@@ -136,7 +136,7 @@ pub const KEPT: Table = Table {
             shows: "(not (alive))",
             accepted: true,
         },
-        Row {
+        ProofRow {
             init: "(kf (not (alive)))",
             path: &[PLANT],
             lines: &[
@@ -146,7 +146,7 @@ pub const KEPT: Table = Table {
             shows: "(not (alive))",
             accepted: false,
         },
-        Row {
+        ProofRow {
             init: "(kf (alive))",
             path: &[LOOK, LOOK],
             lines: &[
@@ -156,7 +156,7 @@ pub const KEPT: Table = Table {
             shows: "(alive)",
             accepted: false,
         },
-        Row {
+        ProofRow {
             init: "(kf (alive))",
             path: &[],
             lines: &[
@@ -166,7 +166,7 @@ pub const KEPT: Table = Table {
             shows: "(alive)",
             accepted: false,
         },
-        Row {
+        ProofRow {
             init: ONE_OF_TWO,
             path: &[LOOK],
             lines: &[
@@ -179,7 +179,7 @@ pub const KEPT: Table = Table {
             shows: "(alive)",
             accepted: true,
         },
-        Row {
+        ProofRow {
             init: ONE_OF_TWO,
             path: &[POUR],
             lines: &[
@@ -192,7 +192,7 @@ pub const KEPT: Table = Table {
             shows: "(alive)",
             accepted: false,
         },
-        Row {
+        ProofRow {
             init: ONE_OF_TWO,
             path: &[FEED],
             lines: &[
@@ -205,7 +205,7 @@ pub const KEPT: Table = Table {
             shows: "(alive)",
             accepted: false,
         },
-        Row {
+        ProofRow {
             init: ONE_OF_TWO,
             path: &[FEED],
             lines: &[
@@ -222,10 +222,10 @@ pub const KEPT: Table = Table {
     ],
 };
 
-pub const BROUGHT_BACK: Table = Table {
+pub const BROUGHT_BACK: ProofTable = ProofTable {
     domain: GARDEN,
     rows: &[
-        Row {
+        ProofRow {
             init: "",
             path: &[LOOK, ALIVE],
             lines: &[
@@ -236,7 +236,7 @@ pub const BROUGHT_BACK: Table = Table {
             shows: "(alive)",
             accepted: true,
         },
-        Row {
+        ProofRow {
             init: "",
             path: &[PLANT, ALIVE],
             lines: &[
@@ -247,7 +247,7 @@ pub const BROUGHT_BACK: Table = Table {
             shows: "(alive)",
             accepted: false,
         },
-        Row {
+        ProofRow {
             init: "",
             path: &[FEED, ALIVE],
             lines: &[
@@ -258,7 +258,7 @@ pub const BROUGHT_BACK: Table = Table {
             shows: "(alive)",
             accepted: false,
         },
-        Row {
+        ProofRow {
             init: "(kf (not (cure)))",
             path: &[FEED, ALIVE],
             lines: &[
@@ -270,7 +270,7 @@ pub const BROUGHT_BACK: Table = Table {
             shows: "(alive)",
             accepted: true,
         },
-        Row {
+        ProofRow {
             init: "",
             path: &[FEED, DEAD],
             lines: &[
@@ -282,7 +282,7 @@ pub const BROUGHT_BACK: Table = Table {
             shows: "(not (alive))",
             accepted: true,
         },
-        Row {
+        ProofRow {
             init: "",
             path: &[LOOK, LOOK, ALIVE],
             lines: &[
@@ -294,7 +294,7 @@ pub const BROUGHT_BACK: Table = Table {
             shows: "(alive)",
             accepted: false,
         },
-        Row {
+        ProofRow {
             init: "(kf (alive))",
             path: &[LOOK],
             lines: &[
@@ -309,31 +309,31 @@ pub const BROUGHT_BACK: Table = Table {
 
 const POISONED: &str = "(kf (poison)) (kf (sun)) (kf (not (cure)))";
 
-pub const MADE: Table = Table {
+pub const MADE: ProofTable = ProofTable {
     domain: GARDEN,
     rows: &[
-        Row {
+        ProofRow {
             init: "",
             path: &[PLANT],
             lines: &[(1, "(kf (alive))", Effect, &[])],
             shows: "(alive)",
             accepted: true,
         },
-        Row {
+        ProofRow {
             init: "",
             path: &[PLANT],
             lines: &[(1, "(kf (not (alive)))", Effect, &[])],
             shows: "(not (alive))",
             accepted: false,
         },
-        Row {
+        ProofRow {
             init: "",
             path: &[PLANT],
             lines: &[(1, "(kf (sun))", Effect, &[])],
             shows: "(sun)",
             accepted: false,
         },
-        Row {
+        ProofRow {
             init: POISONED,
             path: &[POUR],
             lines: &[
@@ -343,14 +343,14 @@ pub const MADE: Table = Table {
             shows: "(not (alive))",
             accepted: true,
         },
-        Row {
+        ProofRow {
             init: POISONED,
             path: &[POUR],
             lines: &[(1, "(kf (not (alive)))", Effect, &[])],
             shows: "(not (alive))",
             accepted: false,
         },
-        Row {
+        ProofRow {
             init: POISONED,
             path: &[BAKE],
             lines: &[
@@ -361,7 +361,7 @@ pub const MADE: Table = Table {
             shows: "(not (alive))",
             accepted: true,
         },
-        Row {
+        ProofRow {
             init: POISONED,
             path: &[BAKE],
             lines: &[
@@ -371,7 +371,7 @@ pub const MADE: Table = Table {
             shows: "(not (alive))",
             accepted: false,
         },
-        Row {
+        ProofRow {
             init: POISONED,
             path: &[TREAT],
             lines: &[
@@ -381,7 +381,7 @@ pub const MADE: Table = Table {
             shows: "(not (alive))",
             accepted: false,
         },
-        Row {
+        ProofRow {
             init: POISONED,
             path: &[TREAT],
             lines: &[
@@ -392,7 +392,7 @@ pub const MADE: Table = Table {
             shows: "(not (alive))",
             accepted: true,
         },
-        Row {
+        ProofRow {
             init: POISONED,
             path: &[HEAL],
             lines: &[
@@ -402,14 +402,14 @@ pub const MADE: Table = Table {
             shows: "(not (alive))",
             accepted: true,
         },
-        Row {
+        ProofRow {
             init: "",
             path: &[REPLANT],
             lines: &[(1, "(kf (alive))", Effect, &[])],
             shows: "(alive)",
             accepted: true,
         },
-        Row {
+        ProofRow {
             init: "",
             path: &[REPLANT],
             lines: &[(1, "(kf (not (alive)))", Effect, &[])],
@@ -421,10 +421,10 @@ pub const MADE: Table = Table {
 
 const GREEN: &str = "(kf (alive)) (kf (not (frost))) (kf (not (poison)))";
 
-pub const NEEDED: Table = Table {
+pub const NEEDED: ProofTable = ProofTable {
     domain: GARDEN,
     rows: &[
-        Row {
+        ProofRow {
             init: GREEN,
             path: &[POUR, DEAD],
             lines: &[
@@ -436,7 +436,7 @@ pub const NEEDED: Table = Table {
             shows: "(poison)",
             accepted: true,
         },
-        Row {
+        ProofRow {
             init: GREEN,
             path: &[POUR, DEAD],
             lines: &[
@@ -447,7 +447,7 @@ pub const NEEDED: Table = Table {
             shows: "(poison)",
             accepted: false,
         },
-        Row {
+        ProofRow {
             init: GREEN,
             path: &[POUR, DEAD],
             lines: &[
@@ -458,7 +458,7 @@ pub const NEEDED: Table = Table {
             shows: "(poison)",
             accepted: false,
         },
-        Row {
+        ProofRow {
             init: GREEN,
             path: &[POUR, DEAD],
             lines: &[
@@ -470,7 +470,7 @@ pub const NEEDED: Table = Table {
             shows: "(sun)",
             accepted: false,
         },
-        Row {
+        ProofRow {
             init: GREEN,
             path: &[BAKE, DEAD],
             lines: &[
@@ -482,7 +482,7 @@ pub const NEEDED: Table = Table {
             shows: "(sun)",
             accepted: true,
         },
-        Row {
+        ProofRow {
             init: GREEN,
             path: &[CHILL, DEAD],
             lines: &[
@@ -494,7 +494,7 @@ pub const NEEDED: Table = Table {
             shows: "(poison)",
             accepted: false,
         },
-        Row {
+        ProofRow {
             init: GREEN,
             path: &[CHILL, DEAD],
             lines: &[
@@ -507,7 +507,7 @@ pub const NEEDED: Table = Table {
             shows: "(poison)",
             accepted: true,
         },
-        Row {
+        ProofRow {
             init: GREEN,
             path: &[CHILL, DEAD],
             lines: &[
@@ -519,7 +519,7 @@ pub const NEEDED: Table = Table {
             shows: "(frost)",
             accepted: false,
         },
-        Row {
+        ProofRow {
             init: GREEN,
             path: &[CHILL, DEAD],
             lines: &[
@@ -532,7 +532,7 @@ pub const NEEDED: Table = Table {
             shows: "(frost)",
             accepted: true,
         },
-        Row {
+        ProofRow {
             init: GREEN,
             path: &[TREAT, DEAD],
             lines: &[
@@ -549,10 +549,10 @@ pub const NEEDED: Table = Table {
 
 const SUNNY: &str = "(kf (sun)) (kf (alive)) (kf (not (cure)))";
 
-pub const MISSED: Table = Table {
+pub const MISSED: ProofTable = ProofTable {
     domain: GARDEN,
     rows: &[
-        Row {
+        ProofRow {
             init: SUNNY,
             path: &[POUR, ALIVE],
             lines: &[
@@ -563,7 +563,7 @@ pub const MISSED: Table = Table {
             shows: "(not (poison))",
             accepted: true,
         },
-        Row {
+        ProofRow {
             init: SUNNY,
             path: &[POUR, ALIVE],
             lines: &[
@@ -574,7 +574,7 @@ pub const MISSED: Table = Table {
             shows: "(not (poison))",
             accepted: false,
         },
-        Row {
+        ProofRow {
             init: SUNNY,
             path: &[POUR, ALIVE],
             lines: &[
@@ -585,7 +585,7 @@ pub const MISSED: Table = Table {
             shows: "(not (frost))",
             accepted: false,
         },
-        Row {
+        ProofRow {
             init: SUNNY,
             path: &[POUR, ALIVE],
             lines: &[
@@ -596,7 +596,7 @@ pub const MISSED: Table = Table {
             shows: "(poison)",
             accepted: false,
         },
-        Row {
+        ProofRow {
             init: SUNNY,
             path: &[BAKE, ALIVE],
             lines: &[
@@ -608,7 +608,7 @@ pub const MISSED: Table = Table {
             shows: "(not (poison))",
             accepted: true,
         },
-        Row {
+        ProofRow {
             init: SUNNY,
             path: &[BAKE, ALIVE],
             lines: &[
@@ -619,7 +619,7 @@ pub const MISSED: Table = Table {
             shows: "(not (poison))",
             accepted: false,
         },
-        Row {
+        ProofRow {
             init: SUNNY,
             path: &[BAKE, ALIVE],
             lines: &[
@@ -630,7 +630,7 @@ pub const MISSED: Table = Table {
             shows: "(not (sun))",
             accepted: false,
         },
-        Row {
+        ProofRow {
             init: SUNNY,
             path: &[TREAT, ALIVE],
             lines: &[
@@ -641,7 +641,7 @@ pub const MISSED: Table = Table {
             shows: "(not (poison))",
             accepted: false,
         },
-        Row {
+        ProofRow {
             init: SUNNY,
             path: &[TREAT, ALIVE],
             lines: &[
@@ -653,7 +653,7 @@ pub const MISSED: Table = Table {
             shows: "(not (poison))",
             accepted: true,
         },
-        Row {
+        ProofRow {
             init: SUNNY,
             path: &[HEAL, ALIVE],
             lines: &[

@@ -1,7 +1,7 @@
 //! Reads the proofs of a table, and has them judged.
 ghost use Rattle.std.specs.Prelude.{◌≤◌, length, IfOk};
 
-use crate::rows::{Piece, Row, Said, Table};
+use crate::rows::{Piece, ProofRow, ProofTable, Said};
 use pks_lcw::Entry;
 use pks_lcw::atoms::AtomSet;
 use pks_proof::accepts;
@@ -107,7 +107,7 @@ fn text(alloc: Global, domain: &str, init: &str, goal: &str) -> Result<String, A
 }
 
 /// The items of the choices on the path, and then those of the facts.
-fn items(alloc: Global, row: &Row) -> Result<String, AllocError> {
+fn items(alloc: Global, row: &ProofRow) -> Result<String, AllocError> {
     let mut text = String::new(alloc);
     for piece in row.path {
         match piece {
@@ -196,7 +196,12 @@ fn goal(p: &Problem<'_>) -> Result<Literal, Fail> {
 }
 
 /// Whether the proof on the sheet is accepted for the sheet's goal.
-fn is_shown(alloc: Global, p: &Problem<'_>, sheet: &Problem<'_>, row: &Row) -> Result<bool, Fail>
+fn is_shown(
+    alloc: Global,
+    p: &Problem<'_>,
+    sheet: &Problem<'_>,
+    row: &ProofRow,
+) -> Result<bool, Fail>
     requires { length p.now.signature.objects ≤ 65536 }
 {
     let mut left = Sheet {
@@ -209,7 +214,7 @@ fn is_shown(alloc: Global, p: &Problem<'_>, sheet: &Problem<'_>, row: &Row) -> R
 }
 
 /// Whether the proof of a row is accepted.
-fn is_accepted(alloc: Global, domain: &str, row: &Row) -> Result<bool, Fail> {
+fn is_accepted(alloc: Global, domain: &str, row: &ProofRow) -> Result<bool, Fail> {
     let file = text(alloc, domain, row.init, row.shows)?;
     let items = items(alloc, row)?;
     let sheet = text(alloc, domain, items.as_str(), row.shows)?;
@@ -219,7 +224,7 @@ fn is_accepted(alloc: Global, domain: &str, row: &Row) -> Result<bool, Fail> {
 }
 
 /// The first row, counted from 0, that is judged otherwise than it says.
-pub fn first_wrong(alloc: Global, table: &Table) -> Result<Option<usize>, Fail> {
+pub fn first_wrong(alloc: Global, table: &ProofTable) -> Result<Option<usize>, Fail> {
     for (k, row) in table.rows.iter().enumerate() {
         if is_accepted(alloc, table.domain, row)? != row.accepted {
             return Ok(Some(k));

@@ -1,7 +1,7 @@
 //! Proofs about one moment: of what is given, of sides that are taken, of groups and of closed regions; and what every proof
 //! must be like.
 use crate::rows::Piece::{Act, Case, False, True};
-use crate::rows::{Row, Table};
+use crate::rows::{ProofRow, ProofTable};
 use pks_proof_lines::Reason::{Closed, Given, Keep, Only, Others, Range, Same, Side};
 use pks_terms::ids::ItemNo;
 
@@ -15,17 +15,17 @@ const ROOMS: &str = "(pks 1)
 ";
 
 /// The door that is known to be open.
-pub const DOOR: Table = Table {
+pub const DOOR: ProofTable = ProofTable {
     domain: "(pks 1)\n(domain (predicates (open)))\n",
     rows: &[
-        Row {
+        ProofRow {
             init: "(kf (open))",
             path: &[],
             lines: &[(0, "(kf (open))", Given(ItemNo(1)), &[])],
             shows: "(open)",
             accepted: true,
         },
-        Row {
+        ProofRow {
             init: "(kf (open))",
             path: &[],
             lines: &[(0, "(kf (open))", Given(ItemNo(2)), &[])],
@@ -38,45 +38,45 @@ pub const DOOR: Table = Table {
 const ITEMS: &str =
     "(kf (cold)) (kx (wet) (dark)) (kf (lit hall)) (lcw (lit _)) (kw (warm)) (kf (not (dark)))";
 
-pub const ITEMS_GIVEN: Table = Table {
+pub const ITEMS_GIVEN: ProofTable = ProofTable {
     domain: ROOMS,
     rows: &[
-        Row {
+        ProofRow {
             init: ITEMS,
             path: &[],
             lines: &[(0, "(kf (cold))", Given(ItemNo(1)), &[])],
             shows: "(cold)",
             accepted: true,
         },
-        Row {
+        ProofRow {
             init: ITEMS,
             path: &[],
             lines: &[(0, "(kf (cold))", Given(ItemNo(0)), &[])],
             shows: "(cold)",
             accepted: false,
         },
-        Row {
+        ProofRow {
             init: ITEMS,
             path: &[],
             lines: &[(0, "(kf (cold))", Given(ItemNo(3)), &[])],
             shows: "(cold)",
             accepted: false,
         },
-        Row {
+        ProofRow {
             init: ITEMS,
             path: &[],
             lines: &[(0, "(kf (not (cold)))", Given(ItemNo(1)), &[])],
             shows: "(not (cold))",
             accepted: false,
         },
-        Row {
+        ProofRow {
             init: ITEMS,
             path: &[Act(0)],
             lines: &[(1, "(kf (cold))", Given(ItemNo(1)), &[])],
             shows: "(cold)",
             accepted: false,
         },
-        Row {
+        ProofRow {
             init: ITEMS,
             path: &[],
             lines: &[
@@ -87,7 +87,7 @@ pub const ITEMS_GIVEN: Table = Table {
             shows: "(wet)",
             accepted: true,
         },
-        Row {
+        ProofRow {
             init: ITEMS,
             path: &[],
             lines: &[
@@ -98,7 +98,7 @@ pub const ITEMS_GIVEN: Table = Table {
             shows: "(warm)",
             accepted: false,
         },
-        Row {
+        ProofRow {
             init: ITEMS,
             path: &[],
             lines: &[
@@ -108,7 +108,7 @@ pub const ITEMS_GIVEN: Table = Table {
             shows: "(not (lit den))",
             accepted: true,
         },
-        Row {
+        ProofRow {
             init: ITEMS,
             path: &[],
             lines: &[
@@ -118,7 +118,7 @@ pub const ITEMS_GIVEN: Table = Table {
             shows: "(not (lit den))",
             accepted: false,
         },
-        Row {
+        ProofRow {
             init: ITEMS,
             path: &[],
             lines: &[(0, "(kf (warm))", Given(ItemNo(5)), &[])],
@@ -130,31 +130,31 @@ pub const ITEMS_GIVEN: Table = Table {
 
 const TWO_OF_THREE: &str = "(kf (cold)) (kf (dark))";
 
-pub const SIDES: Table = Table {
+pub const SIDES: ProofTable = ProofTable {
     domain: ROOMS,
     rows: &[
-        Row {
+        ProofRow {
             init: "",
             path: &[True("(kw (cold) (wet))")],
             lines: &[(0, "(kf (wet))", Side(1), &[])],
             shows: "(wet)",
             accepted: true,
         },
-        Row {
+        ProofRow {
             init: "",
             path: &[True("(kw (cold) (wet))")],
             lines: &[(0, "(kf (dark))", Side(1), &[])],
             shows: "(dark)",
             accepted: false,
         },
-        Row {
+        ProofRow {
             init: "",
             path: &[True("(kw (cold) (wet))")],
             lines: &[(0, "(kf (not (wet)))", Side(1), &[])],
             shows: "(not (wet))",
             accepted: false,
         },
-        Row {
+        ProofRow {
             init: TWO_OF_THREE,
             path: &[False("(kw (cold) (wet) (dark))")],
             lines: &[
@@ -165,7 +165,7 @@ pub const SIDES: Table = Table {
             shows: "(not (wet))",
             accepted: true,
         },
-        Row {
+        ProofRow {
             init: TWO_OF_THREE,
             path: &[False("(kw (cold) (wet) (dark))")],
             lines: &[
@@ -175,7 +175,7 @@ pub const SIDES: Table = Table {
             shows: "(not (wet))",
             accepted: false,
         },
-        Row {
+        ProofRow {
             init: TWO_OF_THREE,
             path: &[False("(kw (cold) (wet) (dark))")],
             lines: &[
@@ -185,70 +185,70 @@ pub const SIDES: Table = Table {
             shows: "(not (wet))",
             accepted: false,
         },
-        Row {
+        ProofRow {
             init: "",
             path: &[False("(kw (cold))")],
             lines: &[(0, "(kf (not (cold)))", Side(1), &[])],
             shows: "(not (cold))",
             accepted: true,
         },
-        Row {
+        ProofRow {
             init: "",
             path: &[False("(kw (cold))")],
             lines: &[(0, "(kf (cold))", Side(1), &[])],
             shows: "(cold)",
             accepted: false,
         },
-        Row {
+        ProofRow {
             init: "",
             path: &[False("(kw (cold) (wet))")],
             lines: &[(0, "(kf (not (cold)))", Side(1), &[])],
             shows: "(not (cold))",
             accepted: false,
         },
-        Row {
+        ProofRow {
             init: "",
             path: &[Case("(kv (here))", 1)],
             lines: &[(0, "(kf (= (here) den))", Side(1), &[])],
             shows: "(= (here) den)",
             accepted: true,
         },
-        Row {
+        ProofRow {
             init: "",
             path: &[Case("(kv (here))", 1)],
             lines: &[(0, "(kf (= (here) hall))", Side(1), &[])],
             shows: "(= (here) hall)",
             accepted: false,
         },
-        Row {
+        ProofRow {
             init: "",
             path: &[True("(kw (cold))"), True("(kw (wet))")],
             lines: &[(0, "(kf (wet))", Side(2), &[])],
             shows: "(wet)",
             accepted: true,
         },
-        Row {
+        ProofRow {
             init: "",
             path: &[True("(kw (cold))"), True("(kw (wet))")],
             lines: &[(0, "(kf (wet))", Side(1), &[])],
             shows: "(wet)",
             accepted: false,
         },
-        Row {
+        ProofRow {
             init: "",
             path: &[True("(kw (cold))"), True("(kw (wet))")],
             lines: &[(0, "(kf (wet))", Side(3), &[])],
             shows: "(wet)",
             accepted: false,
         },
-        Row {
+        ProofRow {
             init: "",
             path: &[Act(0), True("(kw (cold))")],
             lines: &[(1, "(kf (cold))", Side(1), &[])],
             shows: "(cold)",
             accepted: true,
         },
-        Row {
+        ProofRow {
             init: "",
             path: &[True("(kw (cold))"), Act(0)],
             lines: &[(1, "(kf (cold))", Side(1), &[])],
@@ -260,10 +260,10 @@ pub const SIDES: Table = Table {
 
 const ONE_OF_THREE: &str = "(kx (cold) (wet) (dark)) (kf (not (cold))) (kf (not (dark)))";
 
-pub const LAST_MEMBERS: Table = Table {
+pub const LAST_MEMBERS: ProofTable = ProofTable {
     domain: ROOMS,
     rows: &[
-        Row {
+        ProofRow {
             init: ONE_OF_THREE,
             path: &[],
             lines: &[
@@ -275,7 +275,7 @@ pub const LAST_MEMBERS: Table = Table {
             shows: "(wet)",
             accepted: true,
         },
-        Row {
+        ProofRow {
             init: ONE_OF_THREE,
             path: &[],
             lines: &[
@@ -286,7 +286,7 @@ pub const LAST_MEMBERS: Table = Table {
             shows: "(wet)",
             accepted: false,
         },
-        Row {
+        ProofRow {
             init: ONE_OF_THREE,
             path: &[],
             lines: &[
@@ -297,7 +297,7 @@ pub const LAST_MEMBERS: Table = Table {
             shows: "(wet)",
             accepted: false,
         },
-        Row {
+        ProofRow {
             init: ONE_OF_THREE,
             path: &[],
             lines: &[
@@ -309,7 +309,7 @@ pub const LAST_MEMBERS: Table = Table {
             shows: "(warm)",
             accepted: false,
         },
-        Row {
+        ProofRow {
             init: ONE_OF_THREE,
             path: &[],
             lines: &[
@@ -325,10 +325,10 @@ pub const LAST_MEMBERS: Table = Table {
 
 const THE_COLD_ONE: &str = "(kx (cold) (wet) (dark)) (kf (cold))";
 
-pub const OTHER_MEMBERS: Table = Table {
+pub const OTHER_MEMBERS: ProofTable = ProofTable {
     domain: ROOMS,
     rows: &[
-        Row {
+        ProofRow {
             init: THE_COLD_ONE,
             path: &[],
             lines: &[
@@ -339,7 +339,7 @@ pub const OTHER_MEMBERS: Table = Table {
             shows: "(not (dark))",
             accepted: true,
         },
-        Row {
+        ProofRow {
             init: THE_COLD_ONE,
             path: &[],
             lines: &[
@@ -349,7 +349,7 @@ pub const OTHER_MEMBERS: Table = Table {
             shows: "(not (dark))",
             accepted: false,
         },
-        Row {
+        ProofRow {
             init: THE_COLD_ONE,
             path: &[],
             lines: &[
@@ -360,7 +360,7 @@ pub const OTHER_MEMBERS: Table = Table {
             shows: "(not (cold))",
             accepted: false,
         },
-        Row {
+        ProofRow {
             init: THE_COLD_ONE,
             path: &[],
             lines: &[
@@ -371,7 +371,7 @@ pub const OTHER_MEMBERS: Table = Table {
             shows: "(not (warm))",
             accepted: false,
         },
-        Row {
+        ProofRow {
             init: THE_COLD_ONE,
             path: &[],
             lines: &[
@@ -388,10 +388,10 @@ pub const OTHER_MEMBERS: Table = Table {
 const NOWHERE: &str =
     "(kf (not (= (here) hall))) (kf (not (= (here) den))) (kf (not (= (here) attic)))";
 
-pub const LAST_OBJECTS: Table = Table {
+pub const LAST_OBJECTS: ProofTable = ProofTable {
     domain: ROOMS,
     rows: &[
-        Row {
+        ProofRow {
             init: NOWHERE,
             path: &[],
             lines: &[
@@ -402,7 +402,7 @@ pub const LAST_OBJECTS: Table = Table {
             shows: "(= (here) attic)",
             accepted: true,
         },
-        Row {
+        ProofRow {
             init: NOWHERE,
             path: &[],
             lines: &[
@@ -412,7 +412,7 @@ pub const LAST_OBJECTS: Table = Table {
             shows: "(= (here) attic)",
             accepted: false,
         },
-        Row {
+        ProofRow {
             init: NOWHERE,
             path: &[],
             lines: &[
@@ -422,7 +422,7 @@ pub const LAST_OBJECTS: Table = Table {
             shows: "(= (here) attic)",
             accepted: false,
         },
-        Row {
+        ProofRow {
             init: NOWHERE,
             path: &[],
             lines: &[
@@ -433,7 +433,7 @@ pub const LAST_OBJECTS: Table = Table {
             shows: "(= (here) hall)",
             accepted: true,
         },
-        Row {
+        ProofRow {
             init: NOWHERE,
             path: &[],
             lines: &[
@@ -443,7 +443,7 @@ pub const LAST_OBJECTS: Table = Table {
             shows: "(= (here) hall)",
             accepted: false,
         },
-        Row {
+        ProofRow {
             init: NOWHERE,
             path: &[],
             lines: &[
@@ -462,10 +462,10 @@ const HALL_LIT: &str = "(kf (lit hall)) (lcw (lit _)) (kf (not (= (here) hall)))
 const TWO_LIT: &str =
     "(kf (lit hall)) (kf (lit den)) (lcw (lit _)) (kf (not (= (here) hall))) (kf (not (= (here) den)))";
 
-pub const SHUT_OUT: Table = Table {
+pub const SHUT_OUT: ProofTable = ProofTable {
     domain: ROOMS,
     rows: &[
-        Row {
+        ProofRow {
             init: HALL_LIT,
             path: &[],
             lines: &[
@@ -475,7 +475,7 @@ pub const SHUT_OUT: Table = Table {
             shows: "(not (lit den))",
             accepted: true,
         },
-        Row {
+        ProofRow {
             init: HALL_LIT,
             path: &[],
             lines: &[
@@ -485,7 +485,7 @@ pub const SHUT_OUT: Table = Table {
             shows: "(not (lit hall))",
             accepted: false,
         },
-        Row {
+        ProofRow {
             init: HALL_LIT,
             path: &[],
             lines: &[
@@ -495,7 +495,7 @@ pub const SHUT_OUT: Table = Table {
             shows: "(lit den)",
             accepted: false,
         },
-        Row {
+        ProofRow {
             init: HALL_LIT,
             path: &[],
             lines: &[
@@ -505,7 +505,7 @@ pub const SHUT_OUT: Table = Table {
             shows: "(not (lit (here)))",
             accepted: false,
         },
-        Row {
+        ProofRow {
             init: HALL_LIT,
             path: &[],
             lines: &[
@@ -516,7 +516,7 @@ pub const SHUT_OUT: Table = Table {
             shows: "(not (lit (here)))",
             accepted: true,
         },
-        Row {
+        ProofRow {
             init: TWO_LIT,
             path: &[],
             lines: &[
@@ -531,7 +531,7 @@ pub const SHUT_OUT: Table = Table {
             shows: "(not (lit attic))",
             accepted: true,
         },
-        Row {
+        ProofRow {
             init: TWO_LIT,
             path: &[],
             lines: &[
@@ -546,7 +546,7 @@ pub const SHUT_OUT: Table = Table {
             shows: "(not (lit den))",
             accepted: false,
         },
-        Row {
+        ProofRow {
             init: TWO_LIT,
             path: &[],
             lines: &[
@@ -561,7 +561,7 @@ pub const SHUT_OUT: Table = Table {
             shows: "(not (lit hall))",
             accepted: false,
         },
-        Row {
+        ProofRow {
             init: TWO_LIT,
             path: &[],
             lines: &[
@@ -577,7 +577,7 @@ pub const SHUT_OUT: Table = Table {
             shows: "(not (lit (here)))",
             accepted: false,
         },
-        Row {
+        ProofRow {
             init: TWO_LIT,
             path: &[],
             lines: &[
@@ -593,7 +593,7 @@ pub const SHUT_OUT: Table = Table {
             shows: "(not (lit (here)))",
             accepted: false,
         },
-        Row {
+        ProofRow {
             init: "(lcw (near hall _))",
             path: &[],
             lines: &[
@@ -603,7 +603,7 @@ pub const SHUT_OUT: Table = Table {
             shows: "(not (near hall den))",
             accepted: true,
         },
-        Row {
+        ProofRow {
             init: "(lcw (near hall _))",
             path: &[],
             lines: &[
@@ -617,10 +617,10 @@ pub const SHUT_OUT: Table = Table {
 };
 
 /// What is asked of all proofs: which lines are cited, and how a proof ends.
-pub const SHAPE: Table = Table {
+pub const SHAPE: ProofTable = ProofTable {
     domain: ROOMS,
     rows: &[
-        Row {
+        ProofRow {
             init: "(kf (cold))",
             path: &[],
             lines: &[
@@ -630,7 +630,7 @@ pub const SHAPE: Table = Table {
             shows: "(cold)",
             accepted: true,
         },
-        Row {
+        ProofRow {
             init: "(kf (cold))",
             path: &[],
             lines: &[
@@ -640,21 +640,21 @@ pub const SHAPE: Table = Table {
             shows: "(cold)",
             accepted: false,
         },
-        Row {
+        ProofRow {
             init: "(kf (cold))",
             path: &[],
             lines: &[(0, "(kf (cold))", Given(ItemNo(1)), &[1])],
             shows: "(cold)",
             accepted: false,
         },
-        Row {
+        ProofRow {
             init: "(kf (cold))",
             path: &[],
             lines: &[(0, "(kf (cold))", Given(ItemNo(1)), &[0])],
             shows: "(cold)",
             accepted: false,
         },
-        Row {
+        ProofRow {
             init: "(kf (cold))",
             path: &[],
             lines: &[
@@ -664,21 +664,21 @@ pub const SHAPE: Table = Table {
             shows: "(cold)",
             accepted: false,
         },
-        Row {
+        ProofRow {
             init: "(kf (cold))",
             path: &[],
             lines: &[(0, "(kf (cold))", Given(ItemNo(1)), &[])],
             shows: "(wet)",
             accepted: false,
         },
-        Row {
+        ProofRow {
             init: "(kf (cold))",
             path: &[],
             lines: &[],
             shows: "(cold)",
             accepted: false,
         },
-        Row {
+        ProofRow {
             init: "(kf (cold))",
             path: &[],
             lines: &[
@@ -688,14 +688,14 @@ pub const SHAPE: Table = Table {
             shows: "(cold)",
             accepted: false,
         },
-        Row {
+        ProofRow {
             init: "(kf (cold))",
             path: &[Act(0)],
             lines: &[(0, "(kf (cold))", Given(ItemNo(1)), &[])],
             shows: "(cold)",
             accepted: false,
         },
-        Row {
+        ProofRow {
             init: "(kf (cold))",
             path: &[Act(0)],
             lines: &[

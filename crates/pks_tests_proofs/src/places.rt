@@ -1,6 +1,6 @@
 //! Proofs about terms whose values actions change.
 use crate::rows::Piece::{Act, At, False, True};
-use crate::rows::{Piece, Row, Table};
+use crate::rows::{Piece, ProofRow, ProofTable};
 use pks_proof_lines::Reason::{Back, Cannot, Effect, Given, Keep, Must, Only, Same, Side, Swap};
 use pks_terms::ids::ItemNo;
 
@@ -44,10 +44,10 @@ const NEXT: &str = "(kf (at (next))) (kf (= (next) den))";
 const CUP: &str = "(kf (= (loc cup) den)) (kf (not (= (held) cup)))";
 
 /// What is kept of terms that an action may change.
-pub const STEADY: Table = Table {
+pub const STEADY: ProofTable = ProofTable {
     domain: PLACES,
     rows: &[
-        Row {
+        ProofRow {
             init: NEXT,
             path: &[REST],
             lines: &[
@@ -57,7 +57,7 @@ pub const STEADY: Table = Table {
             shows: "(at (next))",
             accepted: true,
         },
-        Row {
+        ProofRow {
             init: NEXT,
             path: &[TURN],
             lines: &[
@@ -67,7 +67,7 @@ pub const STEADY: Table = Table {
             shows: "(at (next))",
             accepted: false,
         },
-        Row {
+        ProofRow {
             init: NEXT,
             path: &[TURN],
             lines: &[
@@ -79,7 +79,7 @@ pub const STEADY: Table = Table {
             shows: "(at den)",
             accepted: true,
         },
-        Row {
+        ProofRow {
             init: CUP,
             path: &[PUT],
             lines: &[
@@ -89,7 +89,7 @@ pub const STEADY: Table = Table {
             shows: "(= (loc cup) den)",
             accepted: false,
         },
-        Row {
+        ProofRow {
             init: CUP,
             path: &[PUT],
             lines: &[
@@ -100,7 +100,7 @@ pub const STEADY: Table = Table {
             shows: "(= (loc cup) den)",
             accepted: true,
         },
-        Row {
+        ProofRow {
             init: CUP,
             path: &[CARRY_BOOK],
             lines: &[
@@ -110,7 +110,7 @@ pub const STEADY: Table = Table {
             shows: "(= (loc cup) den)",
             accepted: true,
         },
-        Row {
+        ProofRow {
             init: "(kf (= (loc book) den))",
             path: &[CARRY_BOOK],
             lines: &[
@@ -120,7 +120,7 @@ pub const STEADY: Table = Table {
             shows: "(= (loc book) den)",
             accepted: false,
         },
-        Row {
+        ProofRow {
             init: "(kf (= (next) den))",
             path: &[REST, True("(kw (at (next)))")],
             lines: &[
@@ -133,7 +133,7 @@ pub const STEADY: Table = Table {
             shows: "(at den)",
             accepted: true,
         },
-        Row {
+        ProofRow {
             init: "(kf (= (next) den))",
             path: &[TURN, True("(kw (at (next)))")],
             lines: &[
@@ -146,7 +146,7 @@ pub const STEADY: Table = Table {
             shows: "(at den)",
             accepted: false,
         },
-        Row {
+        ProofRow {
             init: "(kx (at hall) (at (next))) (kf (not (at hall)))",
             path: &[TURN],
             lines: &[
@@ -165,24 +165,24 @@ pub const STEADY: Table = Table {
 const HELD: &str = "(kf (= (held) cup)) (kf (= (loc cup) (loc book)))";
 
 /// Targets with terms that an action may change, or that are replaced.
-pub const TARGETS: Table = Table {
+pub const TARGETS: ProofTable = ProofTable {
     domain: PLACES,
     rows: &[
-        Row {
+        ProofRow {
             init: "",
             path: &[MARK],
             lines: &[(1, "(kf (at (next)))", Effect, &[])],
             shows: "(at (next))",
             accepted: true,
         },
-        Row {
+        ProofRow {
             init: "",
             path: &[GO],
             lines: &[(1, "(kf (at (next)))", Effect, &[])],
             shows: "(at (next))",
             accepted: false,
         },
-        Row {
+        ProofRow {
             init: "(kf (= (next) den))",
             path: &[GO],
             lines: &[
@@ -192,14 +192,14 @@ pub const TARGETS: Table = Table {
             shows: "(at den)",
             accepted: true,
         },
-        Row {
+        ProofRow {
             init: "(kf (= (next) den))",
             path: &[GO],
             lines: &[(1, "(kf (at den))", Effect, &[])],
             shows: "(at den)",
             accepted: false,
         },
-        Row {
+        ProofRow {
             init: "(kf (= (next) den))",
             path: &[GO],
             lines: &[
@@ -209,28 +209,28 @@ pub const TARGETS: Table = Table {
             shows: "(at hall)",
             accepted: false,
         },
-        Row {
+        ProofRow {
             init: "",
             path: &[TURN],
             lines: &[(1, "(kf (= (next) hall))", Effect, &[])],
             shows: "(= (next) hall)",
             accepted: true,
         },
-        Row {
+        ProofRow {
             init: "",
             path: &[TURN],
             lines: &[(1, "(kf (= (next) den))", Effect, &[])],
             shows: "(= (next) den)",
             accepted: false,
         },
-        Row {
+        ProofRow {
             init: "",
             path: &[FOLLOW],
             lines: &[(1, "(kf (= (here) (next)))", Effect, &[])],
             shows: "(= (here) (next))",
             accepted: false,
         },
-        Row {
+        ProofRow {
             init: "(kf (= (next) den))",
             path: &[FOLLOW],
             lines: &[
@@ -240,21 +240,21 @@ pub const TARGETS: Table = Table {
             shows: "(= (here) den)",
             accepted: true,
         },
-        Row {
+        ProofRow {
             init: "",
             path: &[CARRY_BOOK],
             lines: &[(1, "(kf (= (loc book) (here)))", Effect, &[])],
             shows: "(= (loc book) (here))",
             accepted: true,
         },
-        Row {
+        ProofRow {
             init: "",
             path: &[CARRY_BOOK],
             lines: &[(1, "(kf (= (loc cup) (here)))", Effect, &[])],
             shows: "(= (loc cup) (here))",
             accepted: false,
         },
-        Row {
+        ProofRow {
             init: HELD,
             path: &[PUT],
             lines: &[
@@ -264,14 +264,14 @@ pub const TARGETS: Table = Table {
             shows: "(= (loc cup) hall)",
             accepted: true,
         },
-        Row {
+        ProofRow {
             init: HELD,
             path: &[PUT],
             lines: &[(1, "(kf (= (loc cup) hall))", Effect, &[])],
             shows: "(= (loc cup) hall)",
             accepted: false,
         },
-        Row {
+        ProofRow {
             init: HELD,
             path: &[PUT],
             lines: &[
@@ -290,10 +290,10 @@ const DEN_NEXT: &str = "(kf (not (at den))) (kf (= (next) den)) (kf (not (at (ne
 const NOT_HALL: &str = "(kf (not (= (here) hall)))";
 
 /// Conditions of effects whose targets have terms that the action may change.
-pub const CONDITIONS: Table = Table {
+pub const CONDITIONS: ProofTable = ProofTable {
     domain: PLACES,
     rows: &[
-        Row {
+        ProofRow {
             init: DEN_NEXT,
             path: &[VISIT, True("(kw (at den))")],
             lines: &[
@@ -306,7 +306,7 @@ pub const CONDITIONS: Table = Table {
             shows: "(sun)",
             accepted: true,
         },
-        Row {
+        ProofRow {
             init: DEN_NEXT,
             path: &[VISIT, True("(kw (at den))")],
             lines: &[
@@ -318,7 +318,7 @@ pub const CONDITIONS: Table = Table {
             shows: "(sun)",
             accepted: false,
         },
-        Row {
+        ProofRow {
             init: DEN_NEXT,
             path: &[VISIT, True("(kw (at (next)))")],
             lines: &[
@@ -330,7 +330,7 @@ pub const CONDITIONS: Table = Table {
             shows: "(sun)",
             accepted: false,
         },
-        Row {
+        ProofRow {
             init: DEN_NEXT,
             path: &[VISIT, False("(kw (at den))")],
             lines: &[
@@ -342,7 +342,7 @@ pub const CONDITIONS: Table = Table {
             shows: "(not (sun))",
             accepted: true,
         },
-        Row {
+        ProofRow {
             init: DEN_NEXT,
             path: &[VISIT, False("(kw (at den))")],
             lines: &[
@@ -353,7 +353,7 @@ pub const CONDITIONS: Table = Table {
             shows: "(not (sun))",
             accepted: false,
         },
-        Row {
+        ProofRow {
             init: DEN_NEXT,
             path: &[VISIT, False("(kw (at (next)))")],
             lines: &[
@@ -364,7 +364,7 @@ pub const CONDITIONS: Table = Table {
             shows: "(not (sun))",
             accepted: false,
         },
-        Row {
+        ProofRow {
             init: NOT_HALL,
             path: &[DRIFT, True("(kw (= (here) hall))")],
             lines: &[
@@ -377,7 +377,7 @@ pub const CONDITIONS: Table = Table {
             shows: "(sun)",
             accepted: true,
         },
-        Row {
+        ProofRow {
             init: NOT_HALL,
             path: &[DRIFT, True("(kw (= (here) hall))")],
             lines: &[

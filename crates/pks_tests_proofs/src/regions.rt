@@ -1,6 +1,6 @@
 //! Proofs about what actions make of closed regions.
 use crate::rows::Piece::Act;
-use crate::rows::{Piece, Row, Table};
+use crate::rows::{Piece, ProofRow, ProofTable};
 use pks_proof_lines::Reason::{Clear, Closed, Given, Grow, Keep};
 use pks_terms::ids::ItemNo;
 
@@ -52,10 +52,10 @@ const DRY: &str = "(lcw (full _)) (kf (not (wet))) (kf (= (last) two)) (lcw (pip
 
 const ONE_FULL: &str = "(kf (full one)) (lcw (full _)) (kf (= (last) two))";
 
-pub const KEPT: Table = Table {
+pub const KEPT: ProofTable = ProofTable {
     domain: TUBS,
     rows: &[
-        Row {
+        ProofRow {
             init: DRY,
             path: &[REST],
             lines: &[
@@ -66,7 +66,7 @@ pub const KEPT: Table = Table {
             shows: "(not (full two))",
             accepted: true,
         },
-        Row {
+        ProofRow {
             init: DRY,
             path: &[FILL],
             lines: &[
@@ -77,7 +77,7 @@ pub const KEPT: Table = Table {
             shows: "(not (full two))",
             accepted: false,
         },
-        Row {
+        ProofRow {
             init: DRY,
             path: &[DRAIN],
             lines: &[
@@ -88,7 +88,7 @@ pub const KEPT: Table = Table {
             shows: "(not (full two))",
             accepted: true,
         },
-        Row {
+        ProofRow {
             init: DRY,
             path: &[SPLASH],
             lines: &[
@@ -99,7 +99,7 @@ pub const KEPT: Table = Table {
             shows: "(not (full two))",
             accepted: false,
         },
-        Row {
+        ProofRow {
             init: DRY,
             path: &[SPLASH],
             lines: &[
@@ -111,7 +111,7 @@ pub const KEPT: Table = Table {
             shows: "(not (full two))",
             accepted: true,
         },
-        Row {
+        ProofRow {
             init: DRY,
             path: &[CHOOSE],
             lines: &[
@@ -122,7 +122,7 @@ pub const KEPT: Table = Table {
             shows: "(not (piped (last) one))",
             accepted: false,
         },
-        Row {
+        ProofRow {
             init: DRY,
             path: &[FILL],
             lines: &[
@@ -136,10 +136,10 @@ pub const KEPT: Table = Table {
     ],
 };
 
-pub const GROWN: Table = Table {
+pub const GROWN: ProofTable = ProofTable {
     domain: TUBS,
     rows: &[
-        Row {
+        ProofRow {
             init: DRY,
             path: &[FILL],
             lines: &[
@@ -150,7 +150,7 @@ pub const GROWN: Table = Table {
             shows: "(not (full two))",
             accepted: true,
         },
-        Row {
+        ProofRow {
             init: DRY,
             path: &[FILL],
             lines: &[
@@ -161,7 +161,7 @@ pub const GROWN: Table = Table {
             shows: "(not (full two))",
             accepted: false,
         },
-        Row {
+        ProofRow {
             init: DRY,
             path: &[FILL],
             lines: &[
@@ -172,7 +172,7 @@ pub const GROWN: Table = Table {
             shows: "(not (full one))",
             accepted: false,
         },
-        Row {
+        ProofRow {
             init: ONE_FULL,
             path: &[FILL],
             lines: &[
@@ -183,7 +183,7 @@ pub const GROWN: Table = Table {
             shows: "(not (full two))",
             accepted: true,
         },
-        Row {
+        ProofRow {
             init: ONE_FULL,
             path: &[DRAIN],
             lines: &[
@@ -194,7 +194,7 @@ pub const GROWN: Table = Table {
             shows: "(not (full one))",
             accepted: false,
         },
-        Row {
+        ProofRow {
             init: DRY,
             path: &[SPLASH],
             lines: &[
@@ -206,7 +206,7 @@ pub const GROWN: Table = Table {
             shows: "(not (full one))",
             accepted: true,
         },
-        Row {
+        ProofRow {
             init: DRY,
             path: &[SPLASH],
             lines: &[
@@ -218,7 +218,7 @@ pub const GROWN: Table = Table {
             shows: "(not (full two))",
             accepted: false,
         },
-        Row {
+        ProofRow {
             init: DRY,
             path: &[TOP],
             lines: &[
@@ -230,7 +230,7 @@ pub const GROWN: Table = Table {
             shows: "(not (full one))",
             accepted: true,
         },
-        Row {
+        ProofRow {
             init: DRY,
             path: &[TOP],
             lines: &[
@@ -241,7 +241,7 @@ pub const GROWN: Table = Table {
             shows: "(not (full one))",
             accepted: false,
         },
-        Row {
+        ProofRow {
             init: DRY,
             path: &[FILL],
             lines: &[
@@ -252,7 +252,7 @@ pub const GROWN: Table = Table {
             shows: "(not (piped (last) one))",
             accepted: true,
         },
-        Row {
+        ProofRow {
             init: DRY,
             path: &[CHOOSE],
             lines: &[
@@ -263,7 +263,7 @@ pub const GROWN: Table = Table {
             shows: "(not (piped (last) one))",
             accepted: false,
         },
-        Row {
+        ProofRow {
             init: DRY,
             path: &[],
             lines: &[
@@ -277,10 +277,10 @@ pub const GROWN: Table = Table {
     ],
 };
 
-pub const CLEARED: Table = Table {
+pub const CLEARED: ProofTable = ProofTable {
     domain: TUBS,
     rows: &[
-        Row {
+        ProofRow {
             init: DRY,
             path: &[EMPTY_ALL],
             lines: &[
@@ -290,7 +290,7 @@ pub const CLEARED: Table = Table {
             shows: "(not (full one))",
             accepted: true,
         },
-        Row {
+        ProofRow {
             init: DRY,
             path: &[FILL],
             lines: &[
@@ -300,7 +300,7 @@ pub const CLEARED: Table = Table {
             shows: "(not (full two))",
             accepted: false,
         },
-        Row {
+        ProofRow {
             init: DRY,
             path: &[EMPTY_ALL],
             lines: &[
@@ -310,7 +310,7 @@ pub const CLEARED: Table = Table {
             shows: "(not (full two))",
             accepted: false,
         },
-        Row {
+        ProofRow {
             init: DRY,
             path: &[EMPTY_ALL],
             lines: &[
@@ -320,7 +320,7 @@ pub const CLEARED: Table = Table {
             shows: "(not (full one))",
             accepted: false,
         },
-        Row {
+        ProofRow {
             init: "(kf (wet))",
             path: &[RINSE],
             lines: &[
@@ -331,7 +331,7 @@ pub const CLEARED: Table = Table {
             shows: "(not (full one))",
             accepted: false,
         },
-        Row {
+        ProofRow {
             init: DRY,
             path: &[REFILL],
             lines: &[
@@ -341,7 +341,7 @@ pub const CLEARED: Table = Table {
             shows: "(not (full two))",
             accepted: false,
         },
-        Row {
+        ProofRow {
             init: DRY,
             path: &[SPILL],
             lines: &[
@@ -351,7 +351,7 @@ pub const CLEARED: Table = Table {
             shows: "(not (full two))",
             accepted: false,
         },
-        Row {
+        ProofRow {
             init: DRY,
             path: &[SPILL],
             lines: &[
@@ -362,7 +362,7 @@ pub const CLEARED: Table = Table {
             shows: "(not (full two))",
             accepted: true,
         },
-        Row {
+        ProofRow {
             init: DRY,
             path: &[RESTART],
             lines: &[
@@ -372,7 +372,7 @@ pub const CLEARED: Table = Table {
             shows: "(not (full one))",
             accepted: true,
         },
-        Row {
+        ProofRow {
             init: DRY,
             path: &[CUT],
             lines: &[
@@ -382,7 +382,7 @@ pub const CLEARED: Table = Table {
             shows: "(not (piped (last) one))",
             accepted: false,
         },
-        Row {
+        ProofRow {
             init: DRY,
             path: &[CUT],
             lines: &[
@@ -393,7 +393,7 @@ pub const CLEARED: Table = Table {
             shows: "(not (piped two one))",
             accepted: true,
         },
-        Row {
+        ProofRow {
             init: DRY,
             path: &[CUT],
             lines: &[

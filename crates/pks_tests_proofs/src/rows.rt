@@ -20,7 +20,7 @@ pub enum Piece {
 pub type Said = (u32, &'static str, Reason, &'static [u32]);
 
 /// A proof, and whether it is to be accepted.
-pub struct Row {
+pub struct ProofRow {
     /// The initial items of the problem.
     pub init: &'static str,
     /// The path.
@@ -34,9 +34,9 @@ pub struct Row {
 }
 
 /// Proofs over one domain.
-pub struct Table {
+pub struct ProofTable {
     /// The text of the file before its problem.
     pub domain: &'static str,
     /// The proofs.
-    pub rows: &'static [Row],
+    pub rows: &'static [ProofRow],
 }

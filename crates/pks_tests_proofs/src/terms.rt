@@ -1,6 +1,6 @@
 //! Proofs in which a term is replaced by another.
 use crate::rows::Piece::Act;
-use crate::rows::{Row, Table};
+use crate::rows::{ProofRow, ProofTable};
 use pks_proof_lines::Reason::{Closed, Given, Keep, Only, Swap};
 use pks_terms::ids::ItemNo;
 
@@ -15,10 +15,10 @@ const ROOMS: &str = "(pks 1)
 
 const HALL_LIT: &str = "(kf (lit hall)) (kf (= (here) hall))";
 
-pub const LITERALS: Table = Table {
+pub const LITERALS: ProofTable = ProofTable {
     domain: ROOMS,
     rows: &[
-        Row {
+        ProofRow {
             init: HALL_LIT,
             path: &[],
             lines: &[
@@ -29,7 +29,7 @@ pub const LITERALS: Table = Table {
             shows: "(lit (here))",
             accepted: true,
         },
-        Row {
+        ProofRow {
             init: "(kf (lit (here))) (kf (= (here) hall))",
             path: &[],
             lines: &[
@@ -40,7 +40,7 @@ pub const LITERALS: Table = Table {
             shows: "(lit hall)",
             accepted: true,
         },
-        Row {
+        ProofRow {
             init: HALL_LIT,
             path: &[],
             lines: &[
@@ -50,7 +50,7 @@ pub const LITERALS: Table = Table {
             shows: "(lit (here))",
             accepted: false,
         },
-        Row {
+        ProofRow {
             init: "(kf (lit hall)) (kf (= (here) den))",
             path: &[],
             lines: &[
@@ -61,7 +61,7 @@ pub const LITERALS: Table = Table {
             shows: "(lit (here))",
             accepted: false,
         },
-        Row {
+        ProofRow {
             init: HALL_LIT,
             path: &[],
             lines: &[
@@ -72,7 +72,7 @@ pub const LITERALS: Table = Table {
             shows: "(not (lit (here)))",
             accepted: false,
         },
-        Row {
+        ProofRow {
             init: "(kf (near hall hall)) (kf (= (here) hall))",
             path: &[],
             lines: &[
@@ -83,7 +83,7 @@ pub const LITERALS: Table = Table {
             shows: "(near hall (here))",
             accepted: true,
         },
-        Row {
+        ProofRow {
             init: "(kf (near hall hall)) (kf (= (here) hall))",
             path: &[],
             lines: &[
@@ -94,7 +94,7 @@ pub const LITERALS: Table = Table {
             shows: "(near (here) (here))",
             accepted: false,
         },
-        Row {
+        ProofRow {
             init: "(kf (lit (next hall))) (kf (= (here) hall))",
             path: &[],
             lines: &[
@@ -105,7 +105,7 @@ pub const LITERALS: Table = Table {
             shows: "(lit (next (here)))",
             accepted: true,
         },
-        Row {
+        ProofRow {
             init: "(kf (not (= (here) den))) (kf (= (home) (here)))",
             path: &[],
             lines: &[
@@ -116,7 +116,7 @@ pub const LITERALS: Table = Table {
             shows: "(not (= (home) den))",
             accepted: true,
         },
-        Row {
+        ProofRow {
             init: HALL_LIT,
             path: &[Act(0)],
             lines: &[
@@ -129,7 +129,7 @@ pub const LITERALS: Table = Table {
             shows: "(lit (here))",
             accepted: true,
         },
-        Row {
+        ProofRow {
             init: HALL_LIT,
             path: &[Act(0)],
             lines: &[
@@ -150,10 +150,10 @@ const LISTED: &str = "(kf (lit hall)) (lcw (lit _)) (kf (= (here) hall)) (kf (no
 
 const NEAR: &str = "(lcw (near hall _)) (kf (= (here) hall)) (kf (= (home) den))";
 
-pub const GROUPS_AND_REGIONS: Table = Table {
+pub const GROUPS_AND_REGIONS: ProofTable = ProofTable {
     domain: ROOMS,
     rows: &[
-        Row {
+        ProofRow {
             init: ONE_LIT,
             path: &[],
             lines: &[
@@ -166,7 +166,7 @@ pub const GROUPS_AND_REGIONS: Table = Table {
             shows: "(lit (here))",
             accepted: true,
         },
-        Row {
+        ProofRow {
             init: ONE_LIT,
             path: &[],
             lines: &[
@@ -178,7 +178,7 @@ pub const GROUPS_AND_REGIONS: Table = Table {
             shows: "(lit (here))",
             accepted: false,
         },
-        Row {
+        ProofRow {
             init: LISTED,
             path: &[],
             lines: &[
@@ -191,7 +191,7 @@ pub const GROUPS_AND_REGIONS: Table = Table {
             shows: "(not (lit den))",
             accepted: true,
         },
-        Row {
+        ProofRow {
             init: LISTED,
             path: &[],
             lines: &[
@@ -203,7 +203,7 @@ pub const GROUPS_AND_REGIONS: Table = Table {
             shows: "(not (lit den))",
             accepted: false,
         },
-        Row {
+        ProofRow {
             init: NEAR,
             path: &[],
             lines: &[
@@ -215,7 +215,7 @@ pub const GROUPS_AND_REGIONS: Table = Table {
             shows: "(not (near (here) attic))",
             accepted: true,
         },
-        Row {
+        ProofRow {
             init: NEAR,
             path: &[],
             lines: &[

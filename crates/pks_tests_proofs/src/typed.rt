@@ -1,5 +1,5 @@
 //! Proofs of what terms are, and of what their types leave.
-use crate::rows::{Row, Table};
+use crate::rows::{ProofRow, ProofTable};
 use pks_proof_lines::Reason::{Given, Range, Same};
 use pks_terms::ids::ItemNo;
 
@@ -10,59 +10,59 @@ const BOXES: &str = "(pks 2)
   (functions (held box)))
 ";
 
-pub const EVIDENT: Table = Table {
+pub const EVIDENT: ProofTable = ProofTable {
     domain: BOXES,
     rows: &[
-        Row {
+        ProofRow {
             init: "",
             path: &[],
             lines: &[(0, "(kf (= red red))", Same, &[])],
             shows: "(= red red)",
             accepted: true,
         },
-        Row {
+        ProofRow {
             init: "",
             path: &[],
             lines: &[(0, "(kf (= (held) (held)))", Same, &[])],
             shows: "(= (held) (held))",
             accepted: true,
         },
-        Row {
+        ProofRow {
             init: "",
             path: &[],
             lines: &[(0, "(kf (not (= red blue)))", Same, &[])],
             shows: "(not (= red blue))",
             accepted: true,
         },
-        Row {
+        ProofRow {
             init: "",
             path: &[],
             lines: &[(0, "(kf (not (= (held) stone)))", Same, &[])],
             shows: "(not (= (held) stone))",
             accepted: true,
         },
-        Row {
+        ProofRow {
             init: "",
             path: &[],
             lines: &[(0, "(kf (= red blue))", Same, &[])],
             shows: "(= red blue)",
             accepted: false,
         },
-        Row {
+        ProofRow {
             init: "",
             path: &[],
             lines: &[(0, "(kf (not (= red red)))", Same, &[])],
             shows: "(not (= red red))",
             accepted: false,
         },
-        Row {
+        ProofRow {
             init: "",
             path: &[],
             lines: &[(0, "(kf (not (= (held) red)))", Same, &[])],
             shows: "(not (= (held) red))",
             accepted: false,
         },
-        Row {
+        ProofRow {
             init: "",
             path: &[],
             lines: &[(0, "(kf (= (held) red))", Same, &[])],
@@ -73,10 +73,10 @@ pub const EVIDENT: Table = Table {
 };
 
 /// The objects of a term's type alone are ranged over.
-pub const LAST_OBJECTS_OF_A_TYPE: Table = Table {
+pub const LAST_OBJECTS_OF_A_TYPE: ProofTable = ProofTable {
     domain: BOXES,
     rows: &[
-        Row {
+        ProofRow {
             init: "(kf (not (= (held) red)))",
             path: &[],
             lines: &[
@@ -86,7 +86,7 @@ pub const LAST_OBJECTS_OF_A_TYPE: Table = Table {
             shows: "(= (held) blue)",
             accepted: true,
         },
-        Row {
+        ProofRow {
             init: "(kf (not (= (held) red))) (kf (not (= (held) blue)))",
             path: &[],
             lines: &[

@@ -1,6 +1,6 @@
 //! Chains, in which each known literal follows from the one before it. The time of a test is enough for them only where closing
 //! goes on from what is new.
-use crate::rows::{Row, all_so};
+use crate::rows::{Check, all_so};
 use crate::runs::is_said;
 use std::alloc::{AllocError, Global};
 use std::test::Fail;
@@ -43,7 +43,7 @@ fn text_of(alloc: Global, chain: &Chain) -> Result<String, AllocError> {
     Ok(text)
 }
 
-impl Row for Chain {
+impl Check for Chain {
     fn is_so(&self, alloc: Global) -> Result<bool, Fail> {
         let text = text_of(alloc, self)?;
         Ok(is_said(alloc, &text, "accepted\n")?)

@@ -1,6 +1,6 @@
 //! Each limit on a count, at the limit and one past it, and the longest names and input.
 use crate::files::DOOR;
-use crate::rows::{Row, all_so};
+use crate::rows::{Check, all_so};
 use crate::runs::{Answered, NOTHING, is_said, run_over};
 use pks_run::Status;
 use pks_run::Status::{Done, Refused};
@@ -13,7 +13,7 @@ const SEVENTEEN: &str =
     "(pks 1) (domain (predicates (p1) (p2) (p3) (p4) (p5) (p6) (p7) (p8) (p9) (p10) (p11) (p12) (p13) (p14) (p15) (p16) (p17))";
 
 /// A list of numbered parts, and how many of them there may be.
-struct Counted {
+struct PartLimit {
     /// The text before the first part.
     front: (&'static str, &'static str),
     /// What stands before the number of a part, and behind it.
@@ -32,7 +32,7 @@ fn refusal(alloc: Global, at: usize, code: u16) -> Result<String, AllocError> {
 }
 
 /// The text with so many parts, and where it would go on.
-fn text_of(alloc: Global, row: &Counted, count: u16) -> Result<(String, usize), AllocError> {
+fn text_of(alloc: Global, row: &PartLimit, count: u16) -> Result<(String, usize), AllocError> {
     let mut text = String::from_str(alloc, row.front.0)?;
     text.push_str(row.front.1)?;
     let mut begin = text.len();
@@ -44,7 +44,7 @@ fn text_of(alloc: Global, row: &Counted, count: u16) -> Result<(String, usize), 
     Ok((text, begin))
 }
 
-impl Row for Counted {
+impl Check for PartLimit {
     /// Whether so many parts are accepted, and one more is refused at its place.
     fn is_so(&self, alloc: Global) -> Result<bool, Fail> {
         let (fitting, _last) = text_of(alloc, self, self.most)?;
@@ -55,71 +55,71 @@ impl Row for Counted {
     }
 }
 
-const DECLARED: &[Counted] = &[
-    Counted {
+const DECLARED: &[PartLimit] = &[
+    PartLimit {
         front: ("(pks 1) (domain", " (types"),
         part: (" t", ""),
         back: ") (predicates (p))) (problem (goal (k (p))))",
         most: 16,
         shift: 1,
     },
-    Counted {
+    PartLimit {
         front: ("(pks 1) (domain", " (types t) (objects (t"),
         part: (" c", ""),
         back: ")) (predicates (p))) (problem (goal (k (p))))",
         most: 64,
         shift: 1,
     },
-    Counted {
+    PartLimit {
         front: ("(pks 1) (domain", " (types t) (objects"),
         part: (" (t c", ")"),
         back: ") (predicates (p))) (problem (goal (k (p))))",
         most: 64,
         shift: 4,
     },
-    Counted {
+    PartLimit {
         front: ("(pks 2) (domain", " (types t) (objects (t"),
         part: (" c", ""),
         back: ")) (predicates (p))) (problem (goal (k (p))))",
         most: 256,
         shift: 1,
     },
-    Counted {
+    PartLimit {
         front: ("(pks 1) (domain", " (predicates"),
         part: (" (p", ")"),
         back: ")) (problem (goal (k (p1))))",
         most: 32,
         shift: 2,
     },
-    Counted {
+    PartLimit {
         front: (FOUR_TYPES, " (functions"),
         part: (" (f", " t1)"),
         back: ")) (problem (goal (kv (f1))))",
         most: 32,
         shift: 2,
     },
-    Counted {
+    PartLimit {
         front: ("(pks 1) (domain", " (predicates (p))"),
         part: (" (action a", ")"),
         back: ") (problem (goal (k (p))))",
         most: 64,
         shift: 9,
     },
-    Counted {
+    PartLimit {
         front: (FOUR_TYPES, " (predicates (p)) (action a (params"),
         part: (" (?x", " t1)"),
         back: "))) (problem (goal (k (p))))",
         most: 4,
         shift: 2,
     },
-    Counted {
+    PartLimit {
         front: (FOUR_TYPES, " (predicates (q) (p"),
         part: (" t", ""),
         back: "))) (problem (goal (k (q))))",
         most: 3,
         shift: 1,
     },
-    Counted {
+    PartLimit {
         front: (FOUR_TYPES, " (functions (g t1) (f"),
         part: (" t", ""),
         back: " t1))) (problem (goal (kv (g))))",
@@ -133,29 +133,29 @@ fn declared_names_are_counted(rt: HostRuntime) -> Result<(), Fail> {
     all_so(rt.alloc(), DECLARED)
 }
 
-const OF_AN_ACTION: &[Counted] = &[
-    Counted {
+const OF_AN_ACTION: &[PartLimit] = &[
+    PartLimit {
         front: (SEVENTEEN, " (action a (pre"),
         part: (" (k (p", "))"),
         back: "))) (problem (goal (k (p1))))",
         most: 16,
         shift: 1,
     },
-    Counted {
+    PartLimit {
         front: (SEVENTEEN, " (action a (effects"),
         part: (" (set (p", "))"),
         back: "))) (problem (goal (k (p1))))",
         most: 16,
         shift: 1,
     },
-    Counted {
+    PartLimit {
         front: (SEVENTEEN, " (action a (senses"),
         part: (" (sense (p", "))"),
         back: "))) (problem (goal (k (p1))))",
         most: 16,
         shift: 1,
     },
-    Counted {
+    PartLimit {
         front: (
             SEVENTEEN,
             " (action a (senses (sense (p1)) (sense (p2)) (sense (p3)) (sense (p4)) (sense (p5)) (sense (p6)) (sense (p7)) (sense (p8)) (sense (p9)) (sense (p10)) (sense (p11)) (sense (p12)) (sense (p13)) (sense (p14)) (sense (p15)) (sense (p16))) (knows",
@@ -165,21 +165,21 @@ const OF_AN_ACTION: &[Counted] = &[
         most: 16,
         shift: 1,
     },
-    Counted {
+    PartLimit {
         front: (SEVENTEEN, " (action a (effects (when ("),
         part: (" (p", ")"),
         back: ") (set (p1)))))) (problem (goal (k (p1))))",
         most: 4,
         shift: 1,
     },
-    Counted {
+    PartLimit {
         front: (SEVENTEEN, " (action a (senses (sense"),
         part: (" (p", ")"),
         back: ")))) (problem (goal (k (p1))))",
         most: 4,
         shift: 1,
     },
-    Counted {
+    PartLimit {
         front: (
             SEVENTEEN,
             " (action a (senses (sense (p1) (p2) (p3) (p4))) (knows (kw",
@@ -189,14 +189,14 @@ const OF_AN_ACTION: &[Counted] = &[
         most: 4,
         shift: 1,
     },
-    Counted {
+    PartLimit {
         front: (SEVENTEEN, " (action a (effects (set (p1))) (knows (if ("),
         part: (" (k (p", "))"),
         back: ") (kf (p1)))))) (problem (goal (k (p1))))",
         most: 4,
         shift: 1,
     },
-    Counted {
+    PartLimit {
         front: (SEVENTEEN, " (action a (pre (kw"),
         part: (" (p", ")"),
         back: ")))) (problem (goal (k (p1))))",
@@ -210,29 +210,29 @@ fn parts_of_an_action_are_counted(rt: HostRuntime) -> Result<(), Fail> {
     all_so(rt.alloc(), OF_AN_ACTION)
 }
 
-const OF_A_PROBLEM: &[Counted] = &[
-    Counted {
+const OF_A_PROBLEM: &[PartLimit] = &[
+    PartLimit {
         front: (SEVENTEEN, ") (problem (init (kw"),
         part: (" (p", ")"),
         back: ")) (goal (k (p1))))",
         most: 4,
         shift: 1,
     },
-    Counted {
+    PartLimit {
         front: (SEVENTEEN, ") (problem (init (kx"),
         part: (" (p", ")"),
         back: ")) (goal (k (p1))))",
         most: 16,
         shift: 1,
     },
-    Counted {
+    PartLimit {
         front: (SEVENTEEN, ") (problem (goal (kw"),
         part: (" (p", ")"),
         back: ")))",
         most: 4,
         shift: 1,
     },
-    Counted {
+    PartLimit {
         front: (SEVENTEEN, ") (problem (goal"),
         part: (" (k (p", "))"),
         back: "))",
@@ -257,9 +257,9 @@ fn with_name(alloc: Global, front: &str, n: u32, back: &str) -> Result<String, A
 }
 
 /// What stands before a name and behind it, and how many bytes before the name its refusal stands.
-struct Named(&'static str, &'static str, usize);
+struct NameLimit(&'static str, &'static str, usize);
 
-impl Row for Named {
+impl Check for NameLimit {
     /// Whether a name of 64 bytes is accepted, and one of 65 is refused at its place.
     fn is_so(&self, alloc: Global) -> Result<bool, Fail> {
         let longest = with_name(alloc, self.0, 64, self.1)?;
@@ -269,33 +269,33 @@ impl Row for Named {
     }
 }
 
-const NAMES: &[Named] = &[
-    Named(
+const NAMES: &[NameLimit] = &[
+    NameLimit(
         "(pks 1) (domain (types ",
         ") (predicates (p))) (problem (goal (k (p))))",
         0,
     ),
-    Named(
+    NameLimit(
         "(pks 1) (domain (types t) (objects (t ",
         ")) (predicates (p))) (problem (goal (k (p))))",
         0,
     ),
-    Named(
+    NameLimit(
         "(pks 1) (domain (predicates (p) (",
         "))) (problem (goal (k (p))))",
         0,
     ),
-    Named(
+    NameLimit(
         "(pks 1) (domain (types t) (objects (t a)) (functions (f t) (",
         " t))) (problem (goal (kv (f))))",
         0,
     ),
-    Named(
+    NameLimit(
         "(pks 1) (domain (predicates (p)) (action ",
         ")) (problem (goal (k (p))))",
         0,
     ),
-    Named(
+    NameLimit(
         "(pks 1) (domain (types t) (predicates (p)) (action a (params (?",
         " t)))) (problem (goal (k (p))))",
         1,
@@ -377,7 +377,7 @@ fn padded_door(alloc: Global, len: usize) -> Result<Vec<u8>, AllocError> {
 /// How long the padded door is, the status and the whole answer.
 struct Padded(usize, Status, &'static str);
 
-impl Row for Padded {
+impl Check for Padded {
     fn is_so(&self, alloc: Global) -> Result<bool, Fail> {
         let input = padded_door(alloc, self.0)?;
         let (status, written) = run_over(alloc, "check", input.as_slice(), NOTHING)?;

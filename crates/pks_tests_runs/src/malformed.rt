@@ -1,6 +1,6 @@
 //! Files that are refused, their worlds among them, by whole runs.
 use crate::files::{DOOR, LAWN, SAFE};
-use crate::rows::{Row, all_so};
+use crate::rows::{Check, all_so};
 use crate::runs::{Answered, Followed, NOTHING, run_over};
 use pks_run::Status::{Done, Refused};
 use std::alloc::{AllocError, Global};
@@ -92,7 +92,7 @@ fn malformed_files(rt: HostRuntime) -> Result<(), Fail> {
 /// Bytes, and what `check` says of them.
 struct Bytes(&'static [u8], &'static str);
 
-impl Row for Bytes {
+impl Check for Bytes {
     fn is_so(&self, alloc: Global) -> Result<bool, Fail> {
         let (_, written) = run_over(alloc, "check", self.0, NOTHING)?;
         Ok(written.as_slice() == self.1.as_bytes())

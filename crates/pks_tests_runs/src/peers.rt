@@ -6,7 +6,7 @@ ghost use Rattle.pks_plan.specs.TreeViews.{tree_of};
 ghost use Rattle.pks_reader.specs.Views.{IsWhole};
 
 use crate::files::{DOOR, GROUPS, LAWN, SAFE};
-use crate::rows::{Row, all_so};
+use crate::rows::{Check, all_so};
 use pks_agent::{Answer, Heard, MemPeer, Peer, PeerFault, Room, TalkEnd, converse};
 use pks_exec::End;
 use pks_plan::Tree;
@@ -129,7 +129,7 @@ struct Dialogue {
     left: &'static [&'static str],
 }
 
-impl Row for Dialogue {
+impl Check for Dialogue {
     fn is_so(&self, alloc: Global) -> Result<bool, Fail> {
         let mut peer = self.caller.peer(alloc, 0)?;
         let end = self.caller.lead(alloc, &mut peer)?;
@@ -269,7 +269,7 @@ const SAFE_CALLER: Caller = Caller(SAFE, 2, &["c3"]);
 /// The call that fails in a dialogue with the safe, how many calls were made before, and how it ends with which text.
 struct Broken(u32, usize, Ending, &'static str);
 
-impl Row for Broken {
+impl Check for Broken {
     fn is_so(&self, alloc: Global) -> Result<bool, Fail> {
         let mut peer = SAFE_CALLER.peer(alloc, self.0)?;
         let mut wanted = Vec::new(alloc);

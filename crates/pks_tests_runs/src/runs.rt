@@ -1,5 +1,5 @@
 //! A run of the program over a source and a sink in memory.
-use crate::rows::Row;
+use crate::rows::Check;
 use pks_io::{MemSink, MemSource};
 use pks_run::{Status, run};
 use std::alloc::{AllocError, Global};
@@ -85,7 +85,7 @@ impl Answered {
     }
 }
 
-impl Row for Answered {
+impl Check for Answered {
     fn is_so(&self, alloc: Global) -> Result<bool, Fail> {
         let (status, written) = self.over(alloc, NOTHING)?;
         Ok(self.is_whole(status, written.as_slice()))
@@ -108,7 +108,7 @@ pub(crate) struct Followed(
     pub &'static str,
 );
 
-impl Row for Followed {
+impl Check for Followed {
     fn is_so(&self, alloc: Global) -> Result<bool, Fail> {
         let input = joined(alloc, self.1, self.2)?;
         let (status, written) = run_over(alloc, self.0, input.as_bytes(), NOTHING)?;

@@ -1,6 +1,6 @@
 //! Sources and sinks that fail at one call, in each mode.
 use crate::files::{DOOR, DOOR_WITHOUT_INIT, DOOR_WORLD, EMPTY_PLAN, USAGE};
-use crate::rows::{Row, all_so};
+use crate::rows::{Check, all_so};
 use crate::runs::{Ails, Answered, NOTHING, run_over, sink_of, source_of, words_of};
 use pks_run::Status::{Done, NoPlan, ReadFault, Refused, Words, WriteFault};
 use pks_run::{Status, run};
@@ -73,7 +73,7 @@ fn is_read_again(alloc: Global, answer: &Answered) -> Result<bool, AllocError> {
 /// An answer, the first calls of the source and of the sink that may fail without harm, and the least room that is enough.
 struct Failing(Answered, u32, u32, u32);
 
-impl Row for Failing {
+impl Check for Failing {
     fn is_so(&self, alloc: Global) -> Result<bool, Fail> {
         Ok(
             reads(alloc, &self.0)? == Some(self.1)
@@ -155,7 +155,7 @@ fn streams_that_fail_at_each_call(rt: HostRuntime) -> Result<(), Fail> {
 /// An answer for which the source isn't read.
 struct Unread(Answered);
 
-impl Row for Unread {
+impl Check for Unread {
     fn is_so(&self, alloc: Global) -> Result<bool, Fail> {
         Ok(reads(alloc, &self.0)? == Some(1))
     }
@@ -174,7 +174,7 @@ fn sources_that_are_not_read(rt: HostRuntime) -> Result<(), Fail> {
 /// The call at which the sink fails, its room, the status of the empty plan and what is written of it.
 struct Front(u32, u32, Status, &'static str);
 
-impl Row for Front {
+impl Check for Front {
     fn is_so(&self, alloc: Global) -> Result<bool, Fail> {
         let ails = Ails {
             write: self.0,

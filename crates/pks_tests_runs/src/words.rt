@@ -1,5 +1,5 @@
 //! What the words behind the program's name ask for.
-use crate::rows::{Row, all_so};
+use crate::rows::{Check, all_so};
 use crate::runs::words_of;
 use pks_run_words::Job::{Agent, Bench, Derive, Exec, Explain, Plan, Recall, Shared};
 use pks_run_words::WordsEnd::Refused;
@@ -10,7 +10,7 @@ use std::test::Fail;
 /// Words, and the job that they ask for.
 struct Asked(&'static str, Result<Job, WordsEnd>);
 
-impl Row for Asked {
+impl Check for Asked {
     fn is_so(&self, alloc: Global) -> Result<bool, Fail> {
         let words = words_of(alloc, self.0)?;
         Ok(read_words(alloc, words.as_slice()) == self.1)

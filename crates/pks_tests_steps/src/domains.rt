@@ -1,7 +1,7 @@
 //! The worked domains.
 
 /// A file but for its initial items: the text before them, and the goal.
-pub struct Domain {
+pub struct DomainText {
     /// The text before the problem.
     pub text: &'static str,
     /// Initial items that every moment has.
@@ -10,7 +10,7 @@ pub struct Domain {
     pub goal: &'static str,
 }
 
-pub const ALIAS: Domain = Domain {
+pub const ALIAS: DomainText = DomainText {
     text: "(pks 1)
 (domain
   (types place thing)
@@ -24,7 +24,7 @@ pub const ALIAS: Domain = Domain {
     goal: "(k (done)) (k (at key hall))",
 };
 
-pub const NEXT: Domain = Domain {
+pub const NEXT: DomainText = DomainText {
     text: "(pks 1)
 (domain
   (types room)
@@ -38,7 +38,7 @@ pub const NEXT: Domain = Domain {
     goal: "(k (at (next)))",
 };
 
-pub const NEXT_WITHOUT_ASSIGN: Domain = Domain {
+pub const NEXT_WITHOUT_ASSIGN: DomainText = DomainText {
     text: "(pks 1)
 (domain
   (types room)
@@ -52,7 +52,7 @@ pub const NEXT_WITHOUT_ASSIGN: Domain = Domain {
     goal: "(k (at (next)))",
 };
 
-pub const SAFE: Domain = Domain {
+pub const SAFE: DomainText = DomainText {
     text: "(pks 1)
 (domain
   (types num)
@@ -79,20 +79,20 @@ const TUBS_TEXT: &str = "(pks 1)
     (knows (kf (splashed)))))
 ";
 
-pub const TUBS: Domain = Domain {
+pub const TUBS: DomainText = DomainText {
     text: TUBS_TEXT,
     known: "",
     goal: "(k (splashed)) (k (not (full b2)))",
 };
 
 /// The tubs, where it is asked that the first one is empty.
-pub const TUBS_FIRST_EMPTY: Domain = Domain {
+pub const TUBS_FIRST_EMPTY: DomainText = DomainText {
     text: TUBS_TEXT,
     known: "",
     goal: "(k (not (full b1)))",
 };
 
-pub const LAWN: Domain = Domain {
+pub const LAWN: DomainText = DomainText {
     text: "(pks 1)
 (domain
   (predicates (alive) (poison))
@@ -104,7 +104,7 @@ pub const LAWN: Domain = Domain {
 };
 
 /// A lawn whose poison kills only together with the sun.
-pub const SUNNY_LAWN: Domain = Domain {
+pub const SUNNY_LAWN: DomainText = DomainText {
     text: "(pks 1)
 (domain
   (predicates (alive) (poison) (sun))
@@ -115,7 +115,7 @@ pub const SUNNY_LAWN: Domain = Domain {
     goal: "(k (alive))",
 };
 
-pub const VAULT_16: Domain = Domain {
+pub const VAULT_16: DomainText = DomainText {
     text: "(pks 1)
 (domain
   (types num)
@@ -129,7 +129,7 @@ pub const VAULT_16: Domain = Domain {
     goal: "(k (ajar))",
 };
 
-pub const VAULT_17: Domain = Domain {
+pub const VAULT_17: DomainText = DomainText {
     text: "(pks 1)
 (domain
   (types num)
@@ -143,7 +143,7 @@ pub const VAULT_17: Domain = Domain {
     goal: "(k (ajar))",
 };
 
-pub const HOUSE: Domain = Domain {
+pub const HOUSE: DomainText = DomainText {
     text: "(pks 1)
 (domain
   (types room item)

@@ -1,5 +1,5 @@
 //! How the tables of walks are written.
-use crate::domains::Domain;
+use crate::domains::DomainText;
 
 /// What is to be so after the actions of a walk. A moment is given by initial items of which its databases are the closing.
 pub enum Then {
@@ -28,9 +28,9 @@ pub struct Sides {
 }
 
 /// A walk through a worked domain, and what it shows.
-pub struct Walk {
+pub struct WalkRow {
     /// The domain.
-    pub domain: &'static Domain,
+    pub domain: &'static DomainText,
     /// Further initial items.
     pub init: &'static str,
     /// The lines of the actions.

@@ -4,19 +4,19 @@ use crate::domains::{
     VAULT_16, VAULT_17,
 };
 use crate::rows::Then::{Case, Choices, Met, Moments};
-use crate::rows::{Sides, Then, Walk};
+use crate::rows::{Sides, Then, WalkRow};
 use crate::walks::{all_shown, is_accepted};
 use pks_run_bench::generate;
 use std::test::Fail;
 
-const SWEEPING: &[Walk] = &[
-    Walk {
+const SWEEPING: &[WalkRow] = &[
+    WalkRow {
         domain: &ALIAS,
         init: "(kf (at key hall))",
         actions: &["(sweep)"],
         then: Moments(&["(kf (at key hall))", "(kf (done))"]),
     },
-    Walk {
+    WalkRow {
         domain: &ALIAS,
         init: "(kf (at key hall)) (kf (= (where) hall))",
         actions: &["(sweep)"],
@@ -25,7 +25,7 @@ const SWEEPING: &[Walk] = &[
             "(kf (= (where) hall)) (kf (done))",
         ]),
     },
-    Walk {
+    WalkRow {
         domain: &ALIAS,
         init: "(kf (at key hall)) (kf (not (= (where) hall)))",
         actions: &["(sweep)"],
@@ -41,26 +41,26 @@ fn sweeping_where_the_key_may_be(rt: HostRuntime) -> Result<(), Fail> {
     all_shown(rt.alloc(), SWEEPING)
 }
 
-const GOING: &[Walk] = &[
-    Walk {
+const GOING: &[WalkRow] = &[
+    WalkRow {
         domain: &NEXT,
         init: "(kv (next))",
         actions: &["(go (next))"],
         then: Moments(&["(kv (next))", ""]),
     },
-    Walk {
+    WalkRow {
         domain: &NEXT,
         init: "(kv (next))",
         actions: &["(go r1)"],
         then: Moments(&["(kv (next))", "(kf (at r1))"]),
     },
-    Walk {
+    WalkRow {
         domain: &NEXT,
         init: "(kf (= (next) r2))",
         actions: &["(go r1)"],
         then: Moments(&["(kf (= (next) r2))", "(kf (at r1)) (kf (= r2 r2))"]),
     },
-    Walk {
+    WalkRow {
         domain: &NEXT,
         init: "(kf (at (next))) (kf (= (next) r2))",
         actions: &["(go r1)"],
@@ -69,7 +69,7 @@ const GOING: &[Walk] = &[
             "(kf (at r1)) (kf (at r2)) (kf (= r2 r2))",
         ]),
     },
-    Walk {
+    WalkRow {
         domain: &NEXT_WITHOUT_ASSIGN,
         init: "(kv (next))",
         actions: &["(go (next))"],
@@ -82,26 +82,26 @@ fn going_to_what_changes(rt: HostRuntime) -> Result<(), Fail> {
     all_shown(rt.alloc(), GOING)
 }
 
-const DIALLING: &[Walk] = &[
-    Walk {
+const DIALLING: &[WalkRow] = &[
+    WalkRow {
         domain: &SAFE,
         init: "",
         actions: &["(read)", "(dial (combo))"],
         then: Moments(&["", "(kv (combo))", "(kf (open)) (kv (combo))"]),
     },
-    Walk {
+    WalkRow {
         domain: &SAFE,
         init: "(kv (combo))",
         actions: &["(dial c1)"],
         then: Moments(&["(kv (combo))", "(kv (combo))"]),
     },
-    Walk {
+    WalkRow {
         domain: &SAFE,
         init: "(kf (not (open)))",
         actions: &["(dial c1)"],
         then: Moments(&["(kf (not (open)))", ""]),
     },
-    Walk {
+    WalkRow {
         domain: &SAFE,
         init: "(kf (not (open))) (kf (not (= (combo) c1)))",
         actions: &["(dial c1)"],
@@ -110,7 +110,7 @@ const DIALLING: &[Walk] = &[
             "(kf (not (open))) (kf (not (= (combo) c1)))",
         ]),
     },
-    Walk {
+    WalkRow {
         domain: &SAFE,
         init: "(kf (= (combo) c1))",
         actions: &["(dial c1)"],
@@ -123,20 +123,20 @@ fn dialling_a_number(rt: HostRuntime) -> Result<(), Fail> {
     all_shown(rt.alloc(), DIALLING)
 }
 
-const EMPTYING: &[Walk] = &[
-    Walk {
+const EMPTYING: &[WalkRow] = &[
+    WalkRow {
         domain: &TUBS,
         init: "",
         actions: &["(empty-all)"],
         then: Moments(&["", "(lcw (full _))"]),
     },
-    Walk {
+    WalkRow {
         domain: &TUBS,
         init: "(kf (full b1)) (kf (full b2))",
         actions: &["(empty-all)"],
         then: Moments(&["(kf (full b1)) (kf (full b2))", "(lcw (full _))"]),
     },
-    Walk {
+    WalkRow {
         domain: &TUBS,
         init: "(kf (not (wet)))",
         actions: &["(empty-all)", "(splash)"],
@@ -146,7 +146,7 @@ const EMPTYING: &[Walk] = &[
             "(kf (not (wet))) (kf (splashed)) (lcw (full _))",
         ]),
     },
-    Walk {
+    WalkRow {
         domain: &TUBS,
         init: "(kf (full b1)) (lcw (full _))",
         actions: &["(splash)"],
@@ -162,20 +162,20 @@ fn emptying_and_splashing(rt: HostRuntime) -> Result<(), Fail> {
     all_shown(rt.alloc(), EMPTYING)
 }
 
-const FILLING: &[Walk] = &[
-    Walk {
+const FILLING: &[WalkRow] = &[
+    WalkRow {
         domain: &TUBS_FIRST_EMPTY,
         init: "",
         actions: &["(empty-all)"],
         then: Met(true),
     },
-    Walk {
+    WalkRow {
         domain: &TUBS,
         init: "",
         actions: &["(empty-all)", "(splash)"],
         then: Met(true),
     },
-    Walk {
+    WalkRow {
         domain: &TUBS_FIRST_EMPTY,
         init: "",
         actions: &["(empty-all)", "(splash)"],
@@ -188,7 +188,7 @@ fn a_splash_may_fill_the_first_tub(rt: HostRuntime) -> Result<(), Fail> {
     all_shown(rt.alloc(), FILLING)
 }
 
-const FETCHING: &[Walk] = &[Walk {
+const FETCHING: &[WalkRow] = &[WalkRow {
     domain: &HOUSE,
     init: "(kf (= (here) hall)) (kf (not (= (loc cup) kitchen))) (kf (not (held cup)))",
     actions: &[
@@ -213,8 +213,8 @@ fn bringing_the_cup_home(rt: HostRuntime) -> Result<(), Fail> {
     all_shown(rt.alloc(), FETCHING)
 }
 
-const NUMBERS: &[Walk] = &[
-    Walk {
+const NUMBERS: &[WalkRow] = &[
+    WalkRow {
         domain: &SAFE,
         init: "",
         actions: &[],
@@ -227,7 +227,7 @@ const NUMBERS: &[Walk] = &[
             "(dial c5)",
         ]),
     },
-    Walk {
+    WalkRow {
         domain: &SAFE,
         init: "",
         actions: &["(read)"],
@@ -249,14 +249,14 @@ fn choices_of_numbers(rt: HostRuntime) -> Result<(), Fail> {
     all_shown(rt.alloc(), NUMBERS)
 }
 
-const PLACES: &[Walk] = &[
-    Walk {
+const PLACES: &[WalkRow] = &[
+    WalkRow {
         domain: &NEXT,
         init: "(kv (next))",
         actions: &[],
         then: Choices(&["(go r1)", "(go r2)", "(go (next))", "cases (next)"]),
     },
-    Walk {
+    WalkRow {
         domain: &LAWN,
         init: "(kf (alive))",
         actions: &["(pour)", "(look)"],
@@ -269,20 +269,20 @@ fn choices_of_places_and_formulas(rt: HostRuntime) -> Result<(), Fail> {
     all_shown(rt.alloc(), PLACES)
 }
 
-const SIXTEEN_LEFT: &[Walk] = &[
-    Walk {
+const SIXTEEN_LEFT: &[WalkRow] = &[
+    WalkRow {
         domain: &VAULT_16,
         init: "(kv (combo))",
         actions: &[],
         then: Choices(&["cases (combo)"]),
     },
-    Walk {
+    WalkRow {
         domain: &VAULT_17,
         init: "(kv (combo))",
         actions: &[],
         then: Choices(&[]),
     },
-    Walk {
+    WalkRow {
         domain: &VAULT_17,
         init: "(kv (combo)) (kf (not (= (combo) c17)))",
         actions: &[],
@@ -297,7 +297,7 @@ fn at_most_sixteen_are_left(rt: HostRuntime) -> Result<(), Fail> {
 
 const ALIVE_AND_WELL: &str = "(kf (alive)) (kf (not (poison)))";
 
-const POISONED: &[Walk] = &[Walk {
+const POISONED: &[WalkRow] = &[WalkRow {
     domain: &LAWN,
     init: "(kf (alive))",
     actions: &["(pour)", "(look)"],
@@ -318,7 +318,7 @@ fn what_a_look_tells_of_the_poison(rt: HostRuntime) -> Result<(), Fail> {
     all_shown(rt.alloc(), POISONED)
 }
 
-const UNKNOWN: &[Walk] = &[Walk {
+const UNKNOWN: &[WalkRow] = &[WalkRow {
     domain: &LAWN,
     init: "",
     actions: &["(pour)", "(look)"],
@@ -335,7 +335,7 @@ fn what_a_look_tells_of_an_unknown_lawn(rt: HostRuntime) -> Result<(), Fail> {
     all_shown(rt.alloc(), UNKNOWN)
 }
 
-const CARRIED: &[Walk] = &[Walk {
+const CARRIED: &[WalkRow] = &[WalkRow {
     domain: &LAWN,
     init: "",
     actions: &["(look)", "(look)"],
@@ -356,7 +356,7 @@ fn a_literal_is_carried_back_two_steps(rt: HostRuntime) -> Result<(), Fail> {
     all_shown(rt.alloc(), CARRIED)
 }
 
-const IMPOSSIBLE: &[Walk] = &[Walk {
+const IMPOSSIBLE: &[WalkRow] = &[WalkRow {
     domain: &SUNNY_LAWN,
     init: "(kf (alive))",
     actions: &["(pour)", "(look)"],
@@ -381,7 +381,7 @@ const IN_HALL: &str =
 const IN_STUDY: &str =
     "(kf (= (here) hall)) (kf (not (= (loc cup) kitchen))) (kf (not (held cup))) (kf (not (= (loc cup) hall))) (kf (= (loc cup) study))";
 
-const LOOKING: &[Walk] = &[Walk {
+const LOOKING: &[WalkRow] = &[WalkRow {
     domain: &HOUSE,
     init: LOST,
     actions: &["(look-for cup)"],
@@ -401,8 +401,8 @@ fn looking_for_the_cup(rt: HostRuntime) -> Result<(), Fail> {
     all_shown(rt.alloc(), LOOKING)
 }
 
-const TOLD: &[Walk] = &[
-    Walk {
+const TOLD: &[WalkRow] = &[
+    WalkRow {
         domain: &SAFE,
         init: "",
         actions: &["(read)"],
@@ -412,7 +412,7 @@ const TOLD: &[Walk] = &[
             &["(kf (= (combo) c2))", "(kf (= (combo) c2))"],
         ),
     },
-    Walk {
+    WalkRow {
         domain: &VAULT_16,
         init: "(kv (combo))",
         actions: &[],

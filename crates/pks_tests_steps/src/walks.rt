@@ -12,8 +12,8 @@ ghost use Rattle.pks_query_lookup.specs.Fives.{five_of};
 ghost use Rattle.pks_terms.specs.ChoiceViews.{choice_of, side_of};
 ghost use Rattle.pks_tests_steps.specs.Walks.{MayGoOn};
 
-use crate::domains::Domain;
-use crate::rows::{Sides, Then, Walk, WrongRow};
+use crate::domains::DomainText;
+use crate::rows::{Sides, Then, WalkRow, WrongRow};
 use pks_branch::assuming::assume;
 use pks_branch::choosing::choices;
 use pks_branch::leaving::left;
@@ -34,7 +34,7 @@ use std::alloc::{AllocError, Global};
 use std::test::Fail;
 
 /// The text of the domain's file with these initial items.
-pub(crate) fn text(alloc: Global, domain: &Domain, init: &str) -> Result<String, AllocError> {
+pub(crate) fn text(alloc: Global, domain: &DomainText, init: &str) -> Result<String, AllocError> {
     format!(in alloc;
         "{}(problem (init {}{init}) (goal {}))\n",
         domain.text, domain.known, domain.goal
@@ -257,13 +257,13 @@ fn are_read(alloc: Global, text: &str, d: &Db) -> Result<bool, Fail> {
 }
 
 /// Whether the databases are those of these initial items.
-fn is_of(alloc: Global, domain: &Domain, d: &Db, init: &str) -> Result<bool, Fail> {
+fn is_of(alloc: Global, domain: &DomainText, d: &Db, init: &str) -> Result<bool, Fail> {
     let text = text(alloc, domain, init)?;
     are_read(alloc, text.as_str(), d)
 }
 
 /// Whether the databases of the history's moments are those of these initial items.
-fn are_of(alloc: Global, domain: &Domain, h: &History, moments: &[&str]) -> Result<bool, Fail> {
+fn are_of(alloc: Global, domain: &DomainText, h: &History, moments: &[&str]) -> Result<bool, Fail> {
     if h.len() as usize != moments.len() {
         return Ok(false);
     }
@@ -278,7 +278,7 @@ fn are_of(alloc: Global, domain: &Domain, h: &History, moments: &[&str]) -> Resu
 /// The same of a history that may have clashed, which has no moments then.
 fn whole_of(
     alloc: Global,
-    domain: &Domain,
+    domain: &DomainText,
     h: Option<History>,
     moments: &[&str],
 ) -> Result<bool, Fail> {
@@ -312,7 +312,7 @@ fn offers(alloc: Global, p: &Problem<'_>, h: &History, lines: &[&str]) -> Result
 /// Whether the side of a branch shows these moments.
 fn is_side(
     alloc: Global,
-    domain: &Domain,
+    domain: &DomainText,
     p: &Problem<'_>,
     h: &History,
     side: (&str, bool),
@@ -328,7 +328,7 @@ fn is_side(
 /// Whether the sides of a branch show their moments. Both are taken at one history, which stays as it was.
 fn shows(
     alloc: Global,
-    domain: &Domain,
+    domain: &DomainText,
     p: &Problem<'_>,
     h: &History,
     sides: &Sides,
@@ -347,7 +347,7 @@ fn shows(
 /// Whether one of the cases, counted from 0, shows these moments.
 fn tells(
     alloc: Global,
-    domain: &Domain,
+    domain: &DomainText,
     p: &Problem<'_>,
     h: &History,
     case: (&str, usize),
@@ -361,7 +361,7 @@ fn tells(
 }
 
 /// Whether what is to be so after the actions of a walk is so.
-fn is_so(alloc: Global, p: &Problem<'_>, h: &History, walk: &Walk) -> Result<bool, Fail>
+fn is_so(alloc: Global, p: &Problem<'_>, h: &History, walk: &WalkRow) -> Result<bool, Fail>
     requires valid { IsValidProblem p.now }
     requires moments { AreMomentsOf (problem_of p.now) h.now }
 {
@@ -377,7 +377,7 @@ fn is_so(alloc: Global, p: &Problem<'_>, h: &History, walk: &Walk) -> Result<boo
 }
 
 /// Whether it is so after the actions in this problem.
-fn is_so_after(alloc: Global, p: &Problem<'_>, walk: &Walk) -> Result<bool, Fail>
+fn is_so_after(alloc: Global, p: &Problem<'_>, walk: &WalkRow) -> Result<bool, Fail>
     requires valid { IsValidProblem p.now }
     requires justified { AllJustified (problem_of p.now) }
 {
@@ -386,19 +386,19 @@ fn is_so_after(alloc: Global, p: &Problem<'_>, walk: &Walk) -> Result<bool, Fail
 }
 
 /// Whether it is so in the problem of this text.
-fn is_so_in(alloc: Global, text: &str, walk: &Walk) -> Result<bool, Fail> {
+fn is_so_in(alloc: Global, text: &str, walk: &WalkRow) -> Result<bool, Fail> {
     let p = read(alloc, text)?;
     is_so_after(alloc, &p, walk)
 }
 
 /// Whether it is so in the walk's own file.
-fn is_shown(alloc: Global, walk: &Walk) -> Result<bool, Fail> {
+fn is_shown(alloc: Global, walk: &WalkRow) -> Result<bool, Fail> {
     let text = text(alloc, walk.domain, walk.init)?;
     is_so_in(alloc, text.as_str(), walk)
 }
 
 /// Fails at the first row, counted from 0, that doesn't show what it says.
-pub fn all_shown(alloc: Global, walks: &[Walk]) -> Result<(), Fail> {
+pub fn all_shown(alloc: Global, walks: &[WalkRow]) -> Result<(), Fail> {
     for (row, walk) in walks.iter().enumerate() {
         if !is_shown(alloc, walk)? {
             return Err(Fail::from(WrongRow(row)));

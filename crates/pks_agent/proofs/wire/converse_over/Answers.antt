@@ -6,20 +6,20 @@ use Rattle.pks_plan.specs.TreeViews.{tree_of}
 use Rattle.pks_exec.specs.declared.runs.End.{End}
 use Rattle.pks_agent.specs.Leading.{Led}
 use Rattle.pks_agent.specs.Streams.{coming, answers_coming}
-use Rattle.pks_agent.specs.declared.ahead.Ahead.{Ahead}
+use Rattle.pks_agent.specs.declared.ahead.ReadAhead.{ReadAhead}
 use Rattle.pks_agent.specs.declared.ends.TalkEnd.{TalkEnd}
 use Rattle.pks_agent.proofs.wire.converse_over.Goals as goal
 
-some_kept : (o : Option (List Text)) (P : Ahead → List Text → Type 0) (kept : Ahead) → IfSome o (P kept) → IfSome o (λ answers. (x : Ahead) × P x answers)
+some_kept : (o : Option (List Text)) (P : ReadAhead → List Text → Type 0) (kept : ReadAhead) → IfSome o (P kept) → IfSome o (λ answers. (x : ReadAhead) × P x answers)
 some_kept None P kept h = tt
 some_kept (Some answers) P kept h = (kept, h)
 
 -- led from what was read ahead and a source to a sink, as these are left
-abbrev LedBy : {S K : Type 0} → (S → Option Text) → (K → Option Text) → Result End TalkEnd → (List Text → Talked) → Ahead → S → K → S → K → Type 0
-LedBy left written result talked a s k s' k' = IfSome (answers_coming (coming a (left s))) (λ answers. (x : Ahead) × Led (written k) (written k') (answers_coming (coming x (left s'))) result (talked answers))
+abbrev LedBy : {S K : Type 0} → (S → Option Text) → (K → Option Text) → Result End TalkEnd → (List Text → Talked) → ReadAhead → S → K → S → K → Type 0
+LedBy left written result talked a s k s' k' = IfSome (answers_coming (coming a (left s))) (λ answers. (x : ReadAhead) × Led (written k) (written k') (answers_coming (coming x (left s'))) result (talked answers))
 
 -- what a wire holds is what it was given, and what it leaves
-led_over : {S K : Type 0} (left : S → Option Text) (written : K → Option Text) (result : Result End TalkEnd) (talked : List Text → Talked) (a a' kept : Ahead) (s s' after after' : S) (k k' end end' : K)
+led_over : {S K : Type 0} (left : S → Option Text) (written : K → Option Text) (result : Result End TalkEnd) (talked : List Text → Talked) (a a' kept : ReadAhead) (s s' after after' : S) (k k' end end' : K)
     → a' ≡ a → s' ≡ s → k' ≡ k → after' ≡ after → end' ≡ end
     → IfSome (answers_coming (coming a' (left s'))) (λ answers. Led (written k') (written end') (answers_coming (coming kept (left after'))) result (talked answers))
     → LedBy left written result talked a s k after end

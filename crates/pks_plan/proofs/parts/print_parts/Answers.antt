@@ -6,7 +6,7 @@ use Rattle.pks_plan.proofs.parts.print_parts.Goals as goal
 
 pub returns-in_err-put-clause-err : goal.returns-in_err-put-clause-err
 returns-in_err-put-clause-err g c =
-    let f = g.T.Part.text (names_of c.args.p.now) in
+    let f = g.T.PlanPart.text (names_of c.args.p.now) in
     let xs = c.args.parts.now in
     let i = c.loop-part.part-index in
     let x = c.part-item.result in
@@ -17,7 +17,7 @@ returns-in_err-put-clause-err g c =
 
 pub returns-in_err-print-clause-err : goal.returns-in_err-print-clause-err
 returns-in_err-print-clause-err g c =
-    let f = g.T.Part.text (names_of c.args.p.now) in
+    let f = g.T.PlanPart.text (names_of c.args.p.now) in
     let xs = c.args.parts.now in
     let i = c.loop-part.part-index in
     let x = c.part-item.result in

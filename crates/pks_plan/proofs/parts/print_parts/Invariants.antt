@@ -6,5 +6,5 @@ use Rattle.pks_plan.proofs.parts.print_parts.Given as goal
 
 abbrev pub invariant-loop-part : goal.invariant-loop-part
 invariant-loop-part g l =
-    Reached l.fn.out.items l.out.items (flat_map (λ part. 32 ∷ part) (map (g.T.Part.text (names_of l.p)) l.parts))
-    (flat_map (λ part. 32 ∷ part) (map (g.T.Part.text (names_of l.p)) (drop l.part-index l.parts)))
+    Reached l.fn.out.items l.out.items (flat_map (λ part. 32 ∷ part) (map (g.T.PlanPart.text (names_of l.p)) l.parts))
+    (flat_map (λ part. 32 ∷ part) (map (g.T.PlanPart.text (names_of l.p)) (drop l.part-index l.parts)))

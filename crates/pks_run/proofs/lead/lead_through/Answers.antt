@@ -3,7 +3,7 @@ use Rattle.pks_terms.specs.Answers.{Reading, ReadAs}
 use Rattle.pks_terms.specs.Talk.{talk, file_text, stop_line, answers_in}
 use Rattle.pks_plan.specs.TreeViews.{tree_of}
 use Rattle.pks_plan.proofs.Declared.{names_of_valid}
-use Rattle.pks_agent.specs.declared.ahead.Ahead.{Ahead}
+use Rattle.pks_agent.specs.declared.ahead.ReadAhead.{ReadAhead}
 use Rattle.pks_agent.specs.Leading.{Led}
 use Rattle.pks_agent.specs.Streams.{coming, answers_coming}
 use Rattle.pks_reader.specs.Inputs.{Reads, IsRead}
@@ -23,8 +23,8 @@ returns-in-Ok-clause-told g c = λ input has.
     let read : IsRead (file_text input) f = subst (λ x. IsRead x f) has.file c.requires.read in
     let one : (x : Reading) → Reads (file_text input) x → x ≡ ReadAs f = subst (λ y. (x : Reading) → Reads y x → x ≡ ReadAs f) has.file c.requires.one in
     let well = well_led n input f read one c.requires.fine t c.requires.best c.requires.whole.valid.says (names_of_valid c.args.f.now.problem c.requires.whole.valid) in
-    let led : (kept : Ahead) × Led old mid (answers_coming (coming kept left)) c.converse_over-ended.result (talk f.problem.signature f.names t (answers_in input)) =
-    subst (λ o. IfSome o (λ answers. (kept : Ahead) × Led old mid (answers_coming (coming kept left)) c.converse_over-ended.result (talk f.problem.signature f.names t answers)))
+    let led : (kept : ReadAhead) × Led old mid (answers_coming (coming kept left)) c.converse_over-ended.result (talk f.problem.signature f.names t (answers_in input)) =
+    subst (λ o. IfSome o (λ answers. (kept : ReadAhead) × Led old mid (answers_coming (coming kept left)) c.converse_over-ended.result (talk f.problem.signature f.names t answers)))
     (answers_to_come input (coming c.args.ahead (g.S.Source.left c.args.source.now)) c.args.text.now has) c.converse_over-ended.ensures.led in
     let stop : c.line_column_behind-stop.result.0 ≡ stop_line input = ap (λ p. p.0) c.line_column_behind-stop.ensures ∙ stop_counted c.args.text.now input has.file in
     comes_to n input f read one c.requires.fine t c.requires.best c.requires.whole.valid.says well old mid (g.K.Sink.written c.conclude.new.sink) left (g.K.Sink.faults c.converse_over-ended.new.sink)

@@ -1,4 +1,0 @@
-use Rattle.pks_pmap.proofs.tree.Tree.+build.Given as goal
-
-abbrev pub decreases-build : goal.decreases-build
-decreases-build g l = l.count
