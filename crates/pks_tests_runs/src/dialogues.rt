@@ -138,22 +138,26 @@ fn nothing_is_read_behind_a_long_answer(rt: HostRuntime) -> Result<(), Fail> {
     Ok(())
 }
 
-/// Whether each fault of the sink leaves a front of the dialogue.
-fn writes_fronts(alloc: Global, text: &[u8]) -> Result<bool, AllocError> {
+/// The first call of the sink that may fail without harm, where each before it leaves a front of the dialogue.
+fn first_without_harm(alloc: Global, text: &[u8]) -> Result<Option<u32>, AllocError> {
     let input = joined(alloc, SAFE, ".\nc3\n")?;
-    for write in 1..9u32 {
+    for write in 1..100u32 {
         let ails = Ails { write, ..NOTHING };
         let (status, written) = run_over(alloc, "agent 2", input.as_bytes(), ails)?;
+        if status == Done && written.as_slice() == text {
+            return Ok(Some(write));
+        }
         if status != WriteFault || !text.starts_with(written.as_slice()) {
-            return Ok(false);
+            return Ok(None);
         }
     }
-    Ok(true)
+    Ok(None)
 }
 
 #[test]
 fn failing_sinks_end_a_dialogue(rt: HostRuntime) -> Result<(), Fail> {
     let text = b"do (read)\nvalue (combo)\ndo (dial c3)\ngoal\n";
-    assert!(rt; writes_fronts(rt.alloc(), text.as_slice())?);
+    let first = first_without_harm(rt.alloc(), text.as_slice())?;
+    assert!(rt; first.is_some_and(|call| call > 9));
     Ok(())
 }

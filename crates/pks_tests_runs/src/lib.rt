@@ -16,6 +16,8 @@ mod modes;
 #[cfg(test)]
 mod peers;
 #[cfg(test)]
+mod reasons;
+#[cfg(test)]
 mod rows;
 #[cfg(test)]
 mod runs;

@@ -1,0 +1,313 @@
+//! Explanations, for each reason some that need it: a maker that gives up where a reason is needed answers want of memory.
+use crate::rows::{Check, all_so};
+use crate::runs::{Ails, NOTHING, run_over};
+use pks_run::Status;
+use std::alloc::Global;
+use std::test::Fail;
+
+/// Words, a file, and parts of lines that the explanation must have, which `docs/REASONS.md` leaves no other way to.
+struct Reasoned(&'static str, &'static str, &'static [&'static str]);
+
+/// Whether the part stands in the text.
+fn stands_in(part: &[u8], text: &[u8]) -> bool {
+    for from in 0..text.len() {
+        if text[from..].starts_with(part) {
+            return true;
+        }
+    }
+    false
+}
+
+impl Check for Reasoned {
+    fn is_so(&self, alloc: Global) -> Result<bool, Fail> {
+        let ails = Ails {
+            room: 2_000,
+            ..NOTHING
+        };
+        let (status, text) = run_over(alloc, self.0, self.1.as_bytes(), ails)?;
+        let mut all = status == Status::Done;
+        for part in self.2 {
+            all = all && stands_in(part.as_bytes(), text.as_slice());
+        }
+        Ok(all)
+    }
+}
+
+/// A known member of a group, and one before it that is denied.
+const MEMBER_BEFORE: &str = "(pks 1)
+(domain (types t) (objects (t a b c)) (predicates (p t)))
+(problem (init (kx (p a) (p b) (p c)) (kf (p b))) (goal (k (not (p a)))))
+";
+
+/// A known member of a group, and one behind it that is denied.
+const MEMBER_BEHIND: &str = "(pks 1)
+(domain (types t) (objects (t a b c)) (predicates (p t)))
+(problem (init (kx (p a) (p b) (p c)) (kf (p b))) (goal (k (not (p c)))))
+";
+
+/// A group of which all but the middle member are denied.
+const LAST_MEMBER: &str = "(pks 1)
+(domain (predicates (p) (q) (r)))
+(problem (init (kx (p) (q) (r)) (kf (not (p))) (kf (not (r)))) (goal (k (q))))
+";
+
+/// Two places of which one is looked into: each side of the branch owes where the thing is.
+const TWO_SIDES: &str = "(pks 1)
+(domain (types t) (objects (t a b)) (predicates (at t) (got))
+  (action look (senses (sense (at a))) (knows (kw (at a))))
+  (action grab (params (?x t)) (pre (k (at ?x))) (effects (set (got))) (knows (kf (got)))))
+(problem (init (kx (at a) (at b))) (goal (k (got))))
+";
+
+/// A place with three objects of which two are excluded.
+const LAST_OBJECT: &str = "(pks 1)
+(domain (types t) (objects (t a b c)) (functions (f t)))
+(problem (init (kf (not (= (f) a))) (kf (not (= (f) c)))) (goal (k (= (f) b))))
+";
+
+/// A place of which an object is excluded at the start, and another by a look.
+const LAST_OBJECT_SEEN: &str = "(pks 1)
+(domain (types t) (objects (t a b c)) (predicates (q)) (functions (f t))
+  (action look (senses (sense (= (f) a))) (knows (kw (= (f) a))))
+  (action open (params (?x t)) (pre (k (= (f) ?x))) (effects (set (q))) (knows (kf (q)))))
+(problem (init (kf (not (= (f) c)))) (goal (k (q))))
+";
+
+/// A fact of an object, asked of the term whose value it is.
+const VALUE_PUT_IN: &str = "(pks 1)
+(domain (types t) (objects (t a b)) (predicates (p t)) (functions (f t)))
+(problem (init (kf (= (f) a)) (kf (p a))) (goal (k (p (f)))))
+";
+
+/// A term with a value, which is no other object.
+const ANOTHER_VALUE: &str = "(pks 1)
+(domain (types t) (objects (t a b)) (predicates (p t)) (functions (f t)))
+(problem (init (kf (= (f) a))) (goal (k (not (= (f) b)))))
+";
+
+/// What is evident of objects.
+const EVIDENT: &str = "(pks 1)
+(domain (types t) (objects (t a b)) (functions (f t)))
+(problem (init (kf (= (f) a))) (goal (k (= a a)) (k (not (= a b)))))
+";
+
+/// A region with one atom, and another one denied.
+const REGION: &str = "(pks 1)
+(domain (types t) (objects (t a b)) (predicates (p t)))
+(problem (init (kf (p a)) (lcw (p _))) (goal (k (not (p b)))))
+";
+
+/// A region whose term gets its value by two equations.
+const REGION_BY_EQUATIONS: &str = "(pks 1)
+(domain (types t) (objects (t a b)) (predicates (p t)) (functions (f t) (h t)))
+(problem (init (kf (= (f) (h))) (kf (= (h) a)) (lcw (p (f)))) (goal (k (not (p (h))))))
+";
+
+/// A region to which an action brings an atom.
+const REGION_GROWS: &str = "(pks 1)
+(domain (types t) (objects (t a b c)) (predicates (p t) (q))
+  (action put (effects (set (p b)) (set (q))) (knows (kf (q)) (kf (p b)))))
+(problem (init (kf (p a)) (lcw (p _))) (goal (k (q)) (k (not (p c)))))
+";
+
+/// An empty region to which an action brings the atom of its argument.
+const EMPTY_REGION_GROWS: &str = "(pks 1)
+(domain (types t) (objects (t a b c)) (predicates (p t) (done))
+  (action put (params (?x t)) (pre (k (not (= ?x c)))) (effects (set (p ?x)) (set (done))) (knows (kf (done)))))
+(problem (init (lcw (p _))) (goal (k (done)) (k (not (p c)))))
+";
+
+/// A region that an action clears.
+const CLEARED: &str = "(pks 1)
+(domain (types tub) (objects (tub b1 b2)) (predicates (full tub))
+  (action empty-all (effects (clear (full _))) (knows (lcw (full _)))))
+(problem (goal (k (not (full b2)))))
+";
+
+/// A region that an action clears at its argument.
+const CLEARED_AT_AN_ARGUMENT: &str = "(pks 1)
+(domain (types t) (objects (t a b)) (predicates (in t t) (done))
+  (action empty (params (?x t)) (effects (clear (in ?x _)) (set (done))) (knows (lcw (in ?x _)) (kf (done)))))
+(problem (goal (k (not (in b a))) (k (done))))
+";
+
+/// Whether something was poison shows by what it did: on one side an effect cannot have fired, on the other it must have.
+const POURED: &str = "(pks 1)
+(domain (predicates (alive) (poison) (safe))
+  (action pour (effects (when ((poison)) (unset (alive)))))
+  (action look (senses (sense (alive))) (knows (kw (alive))))
+  (action praise (pre (k (not (poison)))) (effects (set (safe))) (knows (kf (safe))))
+  (action warn (pre (k (poison))) (effects (set (safe))) (knows (kf (safe)))))
+(problem (init (kf (alive))) (goal (k (safe))))
+";
+
+/// A fact that an effect would undo whose condition is known not to hold.
+const KEPT_BY_A_CONDITION: &str = "(pks 1)
+(domain (predicates (p) (q) (r))
+  (action go (effects (when ((r)) (unset (p))) (set (q))) (knows (kf (q)))))
+(problem (init (kf (p)) (kf (not (r)))) (goal (k (q)) (k (p))))
+";
+
+/// A fact that an effect would undo at a term that is known to be another object.
+const KEPT_BY_A_DIFFERENCE: &str = "(pks 1)
+(domain (types t) (objects (t a b)) (predicates (p t) (q)) (functions (f t))
+  (action wipe (effects (unset (p (f))) (set (q))) (knows (kf (q)))))
+(problem (init (kf (p a)) (kf (not (= (f) a)))) (goal (k (q)) (k (p a))))
+";
+
+/// A fact that two actions and the goal ask for, at three moments.
+const TWICE: &str = "(pks 1)
+(domain (predicates (p) (q) (r))
+  (action one (pre (k (p))) (effects (set (q))) (knows (kf (q))))
+  (action two (pre (k (p)) (k (q))) (effects (set (r))) (knows (kf (r)))))
+(problem (init (kf (p))) (goal (k (r)) (k (p))))
+";
+
+/// A lamp that a broken wire puts out: seen lit, the wire isn't broken; seen dark, it is.
+const DIMMED: &str = "(pks 1)
+(domain (predicates (broken) (lit) (reported))
+  (action touch (effects (when ((broken)) (unset (lit)))))
+  (action look (senses (sense (lit))) (knows (kw (lit))))
+  (action praise (pre (k (not (broken)))) (effects (set (reported))) (knows (kf (reported))))
+  (action complain (pre (k (broken))) (effects (set (reported))) (knows (kf (reported)))))
+(problem (init (kf (lit))) (goal (k (reported))))
+";
+
+const BY_CLOSING: &[Reasoned] = &[
+    Reasoned(
+        "explain 0",
+        MEMBER_BEFORE,
+        &["moment 0 (not (p a)) others by"],
+    ),
+    Reasoned(
+        "explain 0",
+        MEMBER_BEHIND,
+        &["moment 0 (not (p c)) others by"],
+    ),
+    Reasoned("explain 0", LAST_MEMBER, &["moment 0 (q) only by"]),
+    Reasoned(
+        "explain 3",
+        TWO_SIDES,
+        &["moment 1 (at a) side 1", "moment 1 (at b) only by"],
+    ),
+    Reasoned("explain 0", LAST_OBJECT, &["moment 0 (= (f) b) range by"]),
+    Reasoned(
+        "explain 3",
+        LAST_OBJECT_SEEN,
+        &["moment 1 (= (f) a) side 1", "moment 1 (= (f) b) range by"],
+    ),
+    Reasoned("explain 0", VALUE_PUT_IN, &["moment 0 (p (f)) swap by"]),
+    Reasoned(
+        "explain 0",
+        ANOTHER_VALUE,
+        &[
+            "moment 0 (not (= b a)) same",
+            "moment 0 (not (= (f) b)) swap by",
+        ],
+    ),
+    Reasoned(
+        "explain 0",
+        EVIDENT,
+        &["moment 0 (= a a) same", "moment 0 (not (= b a)) same"],
+    ),
+];
+
+#[test]
+fn what_closing_finds_is_explained(rt: HostRuntime) -> Result<(), Fail> {
+    all_so(rt.alloc(), BY_CLOSING)
+}
+
+const BY_REGIONS: &[Reasoned] = &[
+    Reasoned("explain 0", REGION, &["moment 0 (not (p b)) closed by"]),
+    Reasoned(
+        "explain 0",
+        REGION_BY_EQUATIONS,
+        &[
+            "moment 0 (= (f) a) swap by",
+            "moment 0 (lcw (p a)) swap by",
+            "moment 0 (not (p a)) closed by",
+            "moment 0 (not (p (h))) swap by",
+        ],
+    ),
+    Reasoned(
+        "explain 1",
+        REGION_GROWS,
+        &[
+            "moment 1 (lcw (p _) (p a) (p b)) grow by",
+            "moment 1 (not (p c)) closed by",
+        ],
+    ),
+    Reasoned(
+        "explain 1",
+        EMPTY_REGION_GROWS,
+        &[
+            "moment 1 (lcw (p _) (p a)) grow by",
+            "moment 1 (not (p c)) closed by",
+        ],
+    ),
+    Reasoned(
+        "explain 1",
+        CLEARED,
+        &[
+            "moment 1 (lcw (full _)) clear",
+            "moment 1 (not (full b2)) closed by",
+        ],
+    ),
+    Reasoned(
+        "explain 1",
+        CLEARED_AT_AN_ARGUMENT,
+        &[
+            "moment 1 (lcw (in b _)) clear",
+            "moment 1 (not (in b a)) closed by",
+        ],
+    ),
+];
+
+#[test]
+fn what_regions_tell_is_explained(rt: HostRuntime) -> Result<(), Fail> {
+    all_so(rt.alloc(), BY_REGIONS)
+}
+
+const BY_ACTIONS: &[Reasoned] = &[
+    Reasoned(
+        "explain 4",
+        POURED,
+        &[
+            "moment 0 (not (poison)) cannot by",
+            "moment 0 (poison) must by",
+            "moment 1 (alive) back by",
+            "moment 1 (not (alive)) back by",
+            "moment 2 (poison) keep by",
+        ],
+    ),
+    Reasoned("explain 1", KEPT_BY_A_CONDITION, &["moment 1 (p) keep by"]),
+    Reasoned(
+        "explain 1",
+        KEPT_BY_A_DIFFERENCE,
+        &["moment 1 (p a) keep by"],
+    ),
+    Reasoned(
+        "explain 2",
+        TWICE,
+        &[
+            "moment 0 (p) given 1",
+            "moment 1 (p) keep by",
+            "moment 2 (p) keep by",
+            "moment 1 (q) effect",
+            "moment 2 (r) effect",
+        ],
+    ),
+    Reasoned(
+        "explain 4",
+        DIMMED,
+        &[
+            "moment 0 (not (broken)) cannot by",
+            "moment 0 (broken) must by",
+        ],
+    ),
+];
+
+#[test]
+fn what_actions_keep_and_tell_is_explained(rt: HostRuntime) -> Result<(), Fail> {
+    all_so(rt.alloc(), BY_ACTIONS)
+}
