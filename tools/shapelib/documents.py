@@ -32,13 +32,14 @@ def decisions(text: str) -> Iterator[Tuple[int, str, str]]:
 
 
 def picture(text: str) -> Tuple[Dict[str, List[str]], Set[Tuple[str, str]]]:
-    """The nodes of a mermaid picture with the crates that their labels name, and its edges."""
+    """The nodes of a mermaid picture with the names that their labels have, or their own, and its edges."""
     drawn = re.findall(r'```mermaid\n(.*?)```', text, re.S)[0]
-    nodes = {name: [f'pks_{c}' if c != 'pks' else c for c in label.split(' ')]
-             for name, label in re.findall(r'(\w+)\["([^"]*)"\]', drawn)}
-    edges = set()
-    for line in drawn.split('\n'):
-        if '-->' in line:
-            upper, lower = (side.split('&') for side in line.split('-->'))
-            edges |= {(u.strip(), low.strip()) for u in upper for low in lower}
-    return nodes, edges
+    labels = dict(re.findall(r'(\w+)\["([^"]*)"\]', drawn))
+    edges: Set[Tuple[str, str]] = set()
+    nodes: Set[str] = set()
+    for line in re.sub(r'\["[^"]*"\]', '', drawn).split('\n'):
+        if line.split() and line.split()[0] not in ('graph', 'subgraph', 'end'):
+            sides = [[name.strip() for name in side.split('&')] for side in line.split('-->')]
+            nodes |= {name for side in sides for name in side}
+            edges |= {(upper, lower) for upper in sides[0] for lower in sides[-1] if len(sides) == 2}
+    return {node: labels.get(node, node).split(' ') for node in sorted(nodes)}, edges
