@@ -4,24 +4,33 @@ import glob
 import os
 import re
 from dataclasses import dataclass
-from typing import Iterator, List, Tuple
+from typing import Iterator, List
 
-from .crates import TOP
+from .crates import TOP, read
 
 FUNCTION = re.compile(r'^[ \t]*(?:pub(?:\(crate\))? )?(?:const )?fn (\w+)', re.M)
-PUBLIC_TYPE = re.compile(r'^pub (?:struct|enum|trait|type) (\w+)', re.M)
+TYPE = re.compile(r'^(?:pub(?:\(crate\))? )?(?:struct|enum|trait|type) (\w+)', re.M)
 CLAUSE = re.compile(r'(?:ensures|requires|decreases)\b[^{]*')
+LITERAL = re.compile(r'''//[^\n]*|'(?:\\.|[^'\\\n])'|r(?P<hashes>#+)".*?"(?P=hashes)|r?"(?:\\.|[^"\\])*"''', re.S)
 PAIRS = {'(': ')', '[': ']', '{': '}', '<': '>'}
 
 
 @dataclass(frozen=True)
 class Function:
-    """A function: where it stands, how many parameters it has beside `self`, and its contract."""
+    """A function: its file, its name, how many parameters it has beside `self`, its contract, and the lines from
+    that of its name over that behind its parameters to that of its body."""
     file: str
-    line: int
     name: str
     parameters: int
     contract: str
+    line: int
+    contract_line: int
+    body_line: int
+
+
+def crate_of(file: str) -> str:
+    """The crate to which a path under crates/ leads."""
+    return file.split('/')[1]
 
 
 def source_files(crate: str = '*') -> List[str]:
@@ -61,22 +70,34 @@ def parameters_in(text: str) -> int:
     return sum(1 for p in parts if not re.fullmatch(r"(?:&(?:'\w+ )?)?(?:mut )?self", p))
 
 
-def signature_from(text: str, at: int) -> Tuple[int, str]:
-    """How many parameters a function has whose name ends at this place, and its contract."""
-    if text[at] == '<':
-        at = behind(text, at)
-    start, at = at, behind(text, at)
-    count, begin = parameters_in(text[start + 1:at - 1]), at
+def without_texts(text: str) -> str:
+    """A file's text whose strings are empty, each line in its place."""
+    def emptied(found: 're.Match[str]') -> str:
+        return found.group() if found.group().startswith(('/', "'")) else '""' + '\n' * found.group().count('\n')
+    return LITERAL.sub(emptied, text)
+
+
+def contract_from(text: str, at: int) -> int:
+    """The end of the contract of a function whose parameters end at this place: where its body or its `;` stands."""
     while at < len(text) and text[at] not in '{;':
         clause = CLAUSE.match(text, at)
-        at = behind(text, clause.end()) if clause else at + 1
-    return count, text[begin:at]
+        if clause:
+            at = behind(text, clause.end())
+        elif text.startswith('//', at):
+            at = text.index('\n', at)
+        else:
+            at = behind(text, at) if text[at] in '([' else at + 1
+    return at
 
 
 def functions_of(file: str) -> Iterator[Function]:
     """The functions of a file, in order."""
-    with open(os.path.join(TOP, file), encoding='utf-8') as f:
-        text = f.read()
+    text = read(file)
     for found in FUNCTION.finditer(text):
-        count, contract = signature_from(text, found.end())
-        yield Function(file, text.count('\n', 0, found.start()) + 1, found.group(1), count, contract)
+        start = behind(text, found.end()) if text[found.end()] == '<' else found.end()
+        begin = behind(text, start)
+        end = contract_from(text, begin)
+        first = text.count('\n', 0, found.start()) + 1
+        yield Function(file, found.group(1), parameters_in(text[start + 1:begin - 1]), text[begin:end],
+                       first, first + text.count('\n', found.start(), begin),
+                       first + text.count('\n', found.start(), end))
