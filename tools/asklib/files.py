@@ -148,9 +148,10 @@ def read_file(text: Union[bytes, str]) -> File:
     if len(forms) < 3 or any(isinstance(form, str) for form in forms):
         raise Malformed('no file: it has a version, a domain and a problem')
     version, domain, problem = (form for form in forms[:3] if not isinstance(form, str))
-    return File(int(str(version[1])), *(section(domain, head) for head in DECLARATIONS),
-                tuple(read_action(part) for part in domain[1:] if part[0] == 'action'),
-                section(problem, 'init'), section(problem, 'goal'))
+    types, objects, predicates, functions = (section(domain, head) for head in DECLARATIONS)
+    actions = tuple(read_action(part) for part in domain[1:] if part[0] == 'action')
+    return File(int(str(version[1])), types, objects, predicates, functions, actions, section(problem, 'init'),
+                section(problem, 'goal'))
 
 
 def section(form: List_, head: str) -> List_:

@@ -5,8 +5,8 @@ from dataclasses import dataclass, field
 from typing import Callable, Dict, FrozenSet, List, Optional, Sequence, Tuple
 
 import pkslib
-from asklib.files import Expression, File, List_
-from pkslib import Act, limits
+from asklib.files import File, List_
+from pkslib import Act, Expression, limits
 
 from .staged import Asked, Names, Question, depth, staged
 

@@ -3,8 +3,8 @@
 from dataclasses import dataclass
 from typing import Dict, List, Tuple
 
-from asklib.files import Expression, File, List_
-from pkslib import written
+from asklib.files import File, List_
+from pkslib import Expression, written
 
 from .asking import State
 
@@ -20,8 +20,10 @@ class Everything:
 
     def queries(self) -> List_:
         """All queries: of each fact `kw`, and that it is known to be false; of each place `kv`."""
-        return (*(query for atom in self.facts() for query in (('kw', atom), ('k', ('not', atom)))),
-                *(('kv', place) for place in self.places()))
+        queries: List[List_] = [('kw', atom) for atom in self.facts()]
+        queries += [('k', ('not', atom)) for atom in self.facts()]
+        queries += [('kv', place) for place in self.places()]
+        return tuple(queries)
 
     def facts(self) -> List[List_]:
         """Each predicate at each choice of objects."""
@@ -43,10 +45,10 @@ class Everything:
     def news(self, before: State, state: State) -> List[Tuple[str, List[str]]]:
         """What is answered now and wasn't before, beside the known literals."""
         known = set(state.known)
-        whether = [('kw', atom) for atom in self.facts() if ('k', ('not', atom)) not in state.answered
+        whether: List[List_] = [('kw', atom) for atom in self.facts() if ('k', ('not', atom)) not in state.answered
                    and written(atom) not in known]
-        closed = [('k', ('not', atom)) for atom in self.facts() if written(('not', atom)) not in known]
-        values = [('kv', place) for place in self.places()
+        closed: List[List_] = [('k', ('not', atom)) for atom in self.facts() if written(('not', atom)) not in known]
+        values: List[List_] = [('kv', place) for place in self.places()
                   if not any(text.startswith(f'(= {written(place)} ') for text in known)]
         return [(name, [written(query[1]) for query in queries
                         if query in state.answered and query not in before.answered])

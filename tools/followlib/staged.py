@@ -9,8 +9,8 @@ to the goal at once. So all that is left to the program is to go the way, and it
 from dataclasses import dataclass, field, replace
 from typing import List, Sequence, Tuple, Union
 
-from asklib.files import Action, Expression, File, List_, negated
-from pkslib import limits
+from asklib.files import Action, File, List_, negated
+from pkslib import Expression, limits
 
 
 @dataclass(frozen=True)
@@ -51,6 +51,10 @@ class Closed:
 
 Question = Union[Step, Fork, Asked, Left, Closed]
 """What is asked: a tree."""
+
+
+Answer = Tuple[Expression, Expression]
+"""An effect, and the add that tells it."""
 
 
 class TooMany(Exception):
@@ -182,7 +186,7 @@ class Stages:
         for at in range(0, max(1, len(queries)), PER_ACTION):
             own = queries[at:at + PER_ACTION]
             tells = [(self.names.said, self.number(at + n)) for n in range(len(own))]
-            answers = [(('set', tell), ('if', (query,), ('kf', tell))) for query, tell in zip(own, tells)]
+            answers: List[Answer] = [(('set', tell), ('if', (query,), ('kf', tell))) for query, tell in zip(own, tells)]
             after = self.after()
             if at + PER_ACTION >= len(queries):
                 answers.append((('set', self.end()), ('kf', self.end())))
@@ -195,7 +199,7 @@ class Stages:
         """The atom that is the goal."""
         return (self.names.said, self.names.end)
 
-    def put_answers(self, what: str, answers: Sequence[Tuple[Expression, Expression]], number: str,
+    def put_answers(self, what: str, answers: Sequence[Answer], number: str,
                     conditions: List_, params: List_ = ()) -> None:
         """Adds an action of effects and what is told of each."""
         self.put_action(Action(self.name(what), params=params, pre=(('k', self.at(number)), *conditions),

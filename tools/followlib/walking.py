@@ -2,10 +2,10 @@
 
 import functools
 from dataclasses import dataclass, field
-from typing import Dict, Iterator, List, Optional, Sequence, Tuple
+from typing import Callable, Iterator, List, Optional, Sequence, Tuple
 
-from asklib.files import OVER_TIME, Action, Expression, File, List_, negated, put_in, words_of
-from pkslib import Act, Branch, Cases, Goal, Impossible, Tree, limits, written
+from asklib.files import OVER_TIME, Action, File, List_, negated, put_in, words_of
+from pkslib import Act, Branch, Cases, Expression, Goal, Impossible, Tree, limits, written
 
 from .asking import Asker, Lost, State, Way
 from .everything import Everything
@@ -100,20 +100,20 @@ class Walk:
             more = f' and {len(texts) - most} more' if most and len(texts) > most else ''
             self.say(indent, f'    {name}: {" ".join(texts[:most])}{more}')
 
-    def fault(self, indent: str, step: str, what: str, lines: Sequence[str]) -> None:
-        """Prints why a step can't be done."""
+    def fault(self, indent: str, step: str, what: str, lines: Sequence[str]) -> Optional[Question]:
+        """Prints why a step can't be done, and gives that the plan can't be gone whole."""
         self.say(indent, f'{step}    CAN\'T BE DONE')
         for line in (what, *lines):
             self.say(indent, f'    {line}')
         self.faults.append(f'{step}: {what}')
+        return None
 
     def other_end(self, tree: Tree, state: State, indent: str) -> Optional[Question]:
         """Where the plan and the program differ on whether a run comes to a side."""
         if state.impossible:
             self.say(indent, '(impossible: what would be known here contradicts itself, so no run comes here)')
             return Closed()
-        self.fault(indent, 'impossible', 'what is known here doesn\'t contradict itself', ())
-        return None
+        return self.fault(indent, 'impossible', 'what is known here doesn\'t contradict itself', ())
 
     # Actions
 
@@ -180,7 +180,8 @@ class Walk:
             return [f'{written(plain)} is answered there']
         atoms = [literal[1] if literal[0] == 'not' else literal for literal in plain[1:]]
         heads = {word for atom in atoms for word in words_of(atom)} & set(self.file.arguments)
-        asked = tuple(q for atom in atoms if plain[0] != 'kv' for q in (('k', atom), ('k', ('not', atom)), ('kw', atom)))
+        asked = tuple(asking for atom in atoms if plain[0] != 'kv'
+                      for asking in (('k', atom), ('k', ('not', atom)), ('kw', atom)))
         places = tuple(('kv', place) for atom in atoms for place in self.places(atom))
         try:
             answered = self.asker.at(way, asked + places).answered
@@ -218,20 +219,19 @@ class Walk:
         alone = len(opened) > 1 and all(('kw', literal) in state.answered for literal in opened)
         self.say(indent, text)
         self.done += 1
-        rests = []
-        for side, child in (('true', tree.true), ('false', tree.false)):
-            self.say(indent, side)
-            if alone:
-                step = functools.partial(taken_apart, opened) if side == 'true' else None
-            elif side == 'true':
-                step = lambda rest: branched(tree.literals, opened, rest, Left())
-            else:
-                step = lambda rest: branched(tree.literals, opened, Left(), rest)
-            longer = way if step is None else (*way, step)
-            rests.append(self.walk(child, longer, state, (), indent + '  '))
-        if alone or None in rests:
-            return None
-        return branched(tree.literals, opened, *rests)
+        self.say(indent, 'true')
+        true = self.walk(tree.true, (*way, self.true_side(tree, opened, alone)), state, (), indent + '  ')
+        self.say(indent, 'false')
+        # (where each literal is known whether by itself, nothing is learnt on this side)
+        denying: Way = () if alone else (lambda rest: branched(tree.literals, opened, Left(), rest),)
+        false = self.walk(tree.false, way + denying, state, (), indent + '  ')
+        return None if alone or true is None or false is None else branched(tree.literals, opened, true, false)
+
+    def true_side(self, tree: Branch, opened: List_, alone: bool) -> Callable[[Question], Question]:
+        """The side of a branch on which all is true, as a step."""
+        if alone:
+            return functools.partial(taken_apart, opened)
+        return lambda rest: branched(tree.literals, opened, rest, Left())
 
     def values(self, tree: Cases) -> List[str]:
         """The objects that the term may have as its value, by its type."""
@@ -254,7 +254,8 @@ class Walk:
         for value, child in tree.sides:
             self.say(indent, f'case {value}')
             if value not in left:
-                self.say(indent, f'  ({written(negated(("=", tree.term, value)))} is known, so this case doesn\'t come)')
+                denial = written(negated(('=', tree.term, value)))
+                self.say(indent, f'  ({denial} is known, so this case doesn\'t come)')
                 continue
             step = functools.partial(chosen, tree.term, self.file.type_of(tree.term), value)
             rest = self.walk(child, (*way, step), state, (), indent + '  ')

@@ -6,8 +6,8 @@ from dataclasses import dataclass
 from typing import Dict, Iterator, List, Optional, Sequence, Set, Tuple
 
 import pkslib
-from asklib.files import OVER_TIME, Action, Expression, File, List_, atom_of, negated, words_of
-from pkslib import expressions, limits, written
+from asklib.files import OVER_TIME, Action, File, List_, atom_of, negated, words_of
+from pkslib import Expression, expressions, limits, written
 
 
 class Rank(enum.IntEnum):
@@ -78,7 +78,7 @@ def same(expression: Expression) -> Expression:
     if isinstance(expression, str):
         return expression
     parts = tuple(same(part) for part in expression)
-    return (parts[0], *sorted(parts[1:], key=written)) if parts[:1] == ('=',) else parts
+    return (parts[0], *tuple(sorted(parts[1:], key=written))) if parts[:1] == ('=',) else parts
 
 
 def is_valued(action: Action, add: Expression) -> bool:
@@ -88,10 +88,10 @@ def is_valued(action: Action, add: Expression) -> bool:
 
 
 def with_adds(file: File, name: str, adds: List_) -> File:
-    """The file with further adds of an action, as many as it may have."""
+    """The file with further adds of an action; where they are too many it is refused, and so no plan is claimed."""
     action = file.action(name)
     assert action is not None
-    return file.with_action(name, knows=(action.knows + adds)[:limits.ADDS])
+    return file.with_action(name, knows=action.knows + adds)
 
 
 def told(file: File, missing: Dict[str, List_]) -> Iterator[Change]:
@@ -177,10 +177,10 @@ def sensed_apart(file: File) -> Iterator[Change]:
             apart = tuple(('sense', literal) for literal in sense[1:])
             others = tuple(other for other in action.senses if other != sense)
             adds = tuple(('kw', literal) for literal in sense[1:])
-            changed = file.with_action(action.name, senses=(others + apart)[:limits.SENSES],
+            changed = file.with_action(action.name, senses=others + apart,
                                        knows=tuple(a for a in action.knows if a != ('kw', *sense[1:])) + adds)
             yield Change(Rank.SENSED_APART, changed, f'in `{action.name}` sense the literals one by one',
-                         texts((('senses', *apart), ('knows', *adds))),
+                         (written(('senses', *apart)), written(('knows', *adds))),
                          f'`{action.name}` senses a conjunction: where it is false, none of its parts is known to be.')
 
 
@@ -275,6 +275,17 @@ def starts(file: File) -> Iterator[Change]:
             yield start(file, item, order)
 
 
+MISSING = {
+    'kf': 'A fact is missing at the start.',
+    'negative': 'A negative is missing at the start: what isn\'t written isn\'t false, it is unknown.',
+    'kw': 'Nothing tells whether it is so, so the plan can\'t branch on it: a sense that tells would do, too.',
+    'kv': 'Nothing tells the value: a sense that tells would do, too.',
+    'kx': 'Nothing says that one of these is true.',
+    'lcw': 'Negatives are missing at the start: what isn\'t written isn\'t false, it is unknown. (Or `(kf (not ..))` '
+           'for each.)',
+}
+
+
 def start(file: File, item: Expression, order: int) -> Change:
     """An item of `init` as a change."""
     mirrored = other_way(file, item)
@@ -282,13 +293,8 @@ def start(file: File, item: Expression, order: int) -> Change:
         return Change(Rank.OTHER_WAY, file.with_init(item), 'in `init` add', (written(item),),
                       f'A way leads one way only: {written(mirrored)} is in `init`, and the other way round isn\'t.')
     rank = Rank.START if order < 4 else Rank.START_MORE
-    why = {'kf': 'A fact is missing at the start.', 'kw': 'Nothing tells whether it is so, so the plan can\'t branch on '
-           'it: a sense that tells would do, too.', 'kv': 'Nothing tells the value: a sense that tells would do, too.',
-           'kx': 'Nothing says that one of these is true.', 'lcw': 'Negatives are missing at the start: what isn\'t '
-           'written isn\'t false, it is unknown. (Or `(kf (not ..))` for each.)'}[str(item[0])]
-    if item[0] == 'kf' and item[1][0] == 'not':
-        why = 'A negative is missing at the start: what isn\'t written isn\'t false, it is unknown.'
-    return Change(rank, file.with_init(item), 'in `init` add', (written(item),), why)
+    kind = 'negative' if item[0] == 'kf' and item[1][0] == 'not' else str(item[0])
+    return Change(rank, file.with_init(item), 'in `init` add', (written(item),), MISSING[kind])
 
 
 def other_way(file: File, item: Expression) -> Optional[Expression]:
@@ -300,10 +306,11 @@ def other_way(file: File, item: Expression) -> Optional[Expression]:
 
 
 def is_fixed(file: File, literal: Expression) -> bool:
-    """Whether no action changes or tells anything of what a literal speaks of."""
+    """Whether no action changes or tells anything of what a literal speaks of, nor has effects that hang on it."""
     head = atom_of(literal)[0]
-    told_heads = {word for action in file.actions for add in action.knows for word in words_of(item_of(add))}
-    return head != '=' and head not in changed_heads(file) | told_heads
+    told: List[Expression] = [item_of(add) for action in file.actions for add in action.knows]
+    told += [effect[1] for action in file.actions for effect in action.effects if effect[0] == 'when']
+    return head != '=' and head not in changed_heads(file) | {word for part in told for word in words_of(part)}
 
 
 def changed_heads(file: File) -> Set[str]:

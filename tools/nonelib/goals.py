@@ -3,8 +3,8 @@
 from dataclasses import dataclass, replace
 from typing import Dict, List, Optional, Tuple
 
-from asklib.files import Expression, File, List_
-from pkslib import written
+from asklib.files import File, List_
+from pkslib import Expression, written
 
 from .questions import Asking, Outcome
 

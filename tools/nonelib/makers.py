@@ -3,14 +3,17 @@
 from dataclasses import dataclass, replace
 from typing import Dict, Iterator, List, Optional, Set, Tuple
 
-from asklib.files import Action, Expression, File, List_, atom_of, negated, put_in
-from pkslib import limits, written
+from asklib.files import Action, File, List_, atom_of, negated, put_in, words_of
+from pkslib import Expression, written
 
 from .changes import item_of, target
 from .questions import Asking, Outcome
 
 LEVELS = 3
 """How many levels back are looked at."""
+
+MOST_FACTS = 6
+"""How many facts of the start are shown."""
 
 
 @dataclass(frozen=True)
@@ -28,11 +31,11 @@ def makers(file: File, query: Expression) -> Iterator[Maker]:
     """All that may make a query answered: adds, senses, effects that aren't told."""
     wanted = query[1]
     for action in file.actions:
-        items = [(item_of(add), 'tells it', add[1] if add[0] == 'if' else ()) for add in action.knows]
+        items = [(item_of(add), 'tells it', tuple(add[1]) if add[0] == 'if' else ()) for add in action.knows]
         items += [(item, 'makes it so, and its `knows` doesn\'t tell', ()) for item in untold(action)]
         seen: Set[Tuple[Tuple[str, Expression], ...]] = set()
         for item, how, queries in items:
-            found = matched(file, action, item, query[0], wanted)
+            found = matched(file, action, item, str(query[0]), wanted)
             if found is not None and found[0] not in seen:
                 seen.add(found[0])
                 yield Maker(action, found[0], found[1] or how, tuple(queries))
@@ -50,12 +53,12 @@ def conditions(action: Action) -> Iterator[Expression]:
             yield from effect[1]
 
 
-def untold(action: Action) -> Iterator[Expression]:
+def untold(action: Action) -> Iterator[List_]:
     """The effects of an action as items that `knows` would have to tell."""
     told = [item_of(add) for add in action.knows]
     for effect in action.effects:
         done = target(effect)
-        item: Optional[Expression] = {'set': ('kf', done[1]), 'unset': ('kf', ('not', done[1])),
+        item: Optional[List_] = {'set': ('kf', done[1]), 'unset': ('kf', ('not', done[1])),
                                       'assign': ('kf', ('=', *done[1:]))}.get(str(done[0]))
         if item is not None and item not in told:
             yield item
@@ -81,7 +84,11 @@ def matched(file: File, action: Action, item: Expression, head: str,
     return None
 
 
-def unified(file: File, action: Action, own: Expression, wanted: Expression) -> Optional[Tuple[Tuple[str, Expression], ...]]:
+Given = Tuple[Tuple[str, Expression], ...]
+"""Terms for parameters."""
+
+
+def unified(file: File, action: Action, own: Expression, wanted: Expression) -> Optional[Given]:
     """The terms of an action's parameters with which its expression is the one that is wanted; None where none are.
 
     A word with a `?` in what is wanted may be anything.
@@ -121,14 +128,26 @@ class Tree:
         """Adds what would make a query answered."""
         indent = '    ' * level
         found = list(makers(self.file, query))
-        groups = [item for item in self.file.init if item[0] == 'kx' and query[0] == 'k'
-                  and any(atom_of(member) == atom_of(query[1]) for member in item[1:])]
-        for item in groups:
-            self.lines.append(f'{indent}The group {written(item)} tells it where the others are known.')
-        if not found and not groups:
-            self.lines.append(f'{indent}No add, no sense and no effect of an action is about it.')
+        start = list(self.of_start(query))
+        self.lines += [f'{indent}{line}' for line in start]
+        if not found and not start:
+            self.lines.append(f'{indent}No add, no sense, no effect and no item of `init` is about it.')
         for maker in found:
             self.put_maker(maker, query, level)
+
+    def of_start(self, query: Expression) -> Iterator[str]:
+        """What `init` has that is about a query."""
+        heads = {word for word in words_of(query[1]) if word in self.file.arguments}
+        items = [item for item in self.file.init if heads & set(words_of(item))]
+        for head, how in (('kx', 'tells it where the others are known'), ('kw', 'says that it will be known whether'),
+                          ('kv', 'says that the value will be known, so cases may tell')):
+            for item in items:
+                if item[0] == head:
+                    yield f'{written(item)} in `init` {how}.'
+        facts = [written(item) for item in items if item[0] in ('kf', 'lcw')]
+        if facts:
+            more = ' ..' if len(facts) > MOST_FACTS else ''
+            yield f'About it there is in `init` {" ".join(facts[:MOST_FACTS])}{more}.'
 
     def put_maker(self, maker: Maker, query: Expression, level: int) -> None:
         """Adds an action, whether it can be done, and what it lacks."""
@@ -171,10 +190,15 @@ class Tree:
 
     def can_be_done(self, maker: Maker, pre: List_) -> Outcome:
         """Whether an action can be done, with these terms and this precondition; the depth counts it too."""
-        done = next(name for name in ('done', *(f'done{n}' for n in range(99))) if name not in self.file.arguments)
+        done = self.free(set(self.file.arguments))
         fixed = tuple(('k', ('=', name, term)) for name, term in maker.given)
-        last = replace(maker.action, name=f'{maker.action.name}-{done}'[-limits.NAME_BYTES:], pre=(fixed + pre)[:limits.PRECONDITIONS],
+        last = replace(maker.action, name=self.free({action.name for action in self.file.actions}), pre=fixed + pre,
                        effects=(('set', (done,)),), senses=(), knows=(('kf', (done,)),))
         asked = replace(self.file, predicates=self.file.predicates + ((done,),), actions=self.file.actions + (last,),
                         goal=(('k', (done,)),))
         return self.asking.ask(asked, self.depth, self.seconds)
+
+    @staticmethod
+    def free(taken: Set[str]) -> str:
+        """A name that isn't taken."""
+        return next(name for name in ('done', *(f'done{n}' for n in range(len(taken) + 1))) if name not in taken)

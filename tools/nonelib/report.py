@@ -87,7 +87,8 @@ def said_of(change: Change, outcome: Outcome, depth: int, is_said: bool) -> List
         return [why]
     if change.rank > Rank.TOLD or change.rank < Rank.DEPTH and not change.always:
         return []
-    return [f'{why}Whether there is a plan with this isn\'t known, the search didn\'t end: {change.what}', *change.lines]
+    return [f'{why}Whether there is a plan with this isn\'t known, the search didn\'t end: {change.what}',
+            *change.lines]
 
 
 def entry_lines(number: int, entry: Sequence[str]) -> List[str]:

@@ -4,8 +4,8 @@ import itertools
 from dataclasses import replace
 from typing import Iterator, List, Optional, Tuple
 
-from asklib.files import OVER_TIME, Action, Expression, File, List_, atom_of, negated, words_of
-from pkslib import limits, written
+from asklib.files import OVER_TIME, Action, File, List_, atom_of, negated, words_of
+from pkslib import Expression, limits, written
 from whylib import uncounted
 
 from .changes import Change, Rank, changed_heads, item_of, target, texts
@@ -20,7 +20,7 @@ def traps(file: File) -> Iterator[Change]:
 
 def add_never_counts(file: File) -> Iterator[Change]:
     """An add of an equation whose wrong side stands first: the functions in another order."""
-    domain = ('domain', ('objects', *file.objects), ('functions', *file.functions),
+    domain: Expression = ('domain', ('objects', *file.objects), ('functions', *file.functions),
               *(action.expression() for action in file.actions))
     found = list(uncounted.uncounted(domain))
     functions = uncounted.swapped(file.functions, found)
@@ -158,7 +158,8 @@ def cases_apart(file: File) -> Iterator[Change]:
 
 def fewer_values(file: File) -> Iterator[Change]:
     """A value that will be known and that may be one of more than sixteen: all others excluded."""
-    told = [item_of(add) for action in file.actions for add in action.knows] + list(file.init)
+    told: List[Expression] = [item_of(add) for action in file.actions for add in action.knows]
+    told += file.init
     for name, kind in file.results.items():
         objects = file.of_type(kind)
         if len(objects) <= limits.CASES or not any(item[0] == 'kv' and item[1][0] == name for item in told):
