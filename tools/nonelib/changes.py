@@ -1,0 +1,398 @@
+"""Changes of a file, each of which may make a plan: one item of the start, one query less, one add more."""
+
+import enum
+import itertools
+from dataclasses import dataclass
+from typing import Dict, Iterator, List, Optional, Sequence, Set, Tuple
+
+import pkslib
+from asklib.files import OVER_TIME, Action, File, List_, atom_of, negated, words_of
+from pkslib import Expression, expressions, limits, written
+
+
+class Rank(enum.IntEnum):
+    """What is said first, where there is a plan with it."""
+
+    ADD_NEVER_COUNTS = 10
+    ALWAYS_AT_START = 11
+    LOOK_WITHOUT_BRANCH = 12
+    LAST_OF_GROUP = 13
+    WHETHER_FOR_KNOWN = 14
+    TYPE_TOO_NARROW = 15
+    CASES_APART = 16
+    NESTED = 17
+    SPOILED = 18
+    DEPTH = 20
+    TOLD = 21
+    TOLD_TOGETHER = 22
+    TOLD_APART = 23
+    GUARD = 24
+    SENSED_APART = 25
+    FEWER_VALUES = 26
+    SIGN = 27
+    OTHER_WAY = 28
+    START = 30
+    START_MORE = 31
+    QUERY_GUARD = 32
+    QUERY = 33
+    GOAL = 40
+
+
+@dataclass(frozen=True, eq=False)
+class Change:
+    """A changed file, and what is said of it where it has a plan."""
+
+    rank: Rank
+    file: File
+    what: str
+    """What is done, as `in X take (Y) out of pre`."""
+    lines: Tuple[str, ...] = ()
+    """What to write."""
+    why: str = ''
+    """The cause that is named then."""
+    always: bool = False
+    """Whether the cause is so whether or not there is a plan with the change."""
+
+
+def texts(parts: Sequence[Expression]) -> Tuple[str, ...]:
+    """Expressions as lines to write."""
+    return tuple(written(part) for part in parts)
+
+
+# What actions tell
+
+def missing_adds(file: File) -> Dict[str, List_]:
+    """The adds that follow from the text of each action and that it doesn't have, by its name."""
+    found = {}
+    for name, lines in pkslib.derive(file.text()).items():
+        action = file.action(name)
+        if action is not None:
+            own = {same(add) for add in action.knows}
+            found[name] = tuple(add for add in expressions(' '.join(lines))
+                                if same(add) not in own and not is_valued(action, add))
+    return {name: adds for name, adds in found.items() if adds}
+
+
+def same(expression: Expression) -> Expression:
+    """The expression with the sides of each equation in one order, so that equal ones are the same."""
+    if isinstance(expression, str):
+        return expression
+    parts = tuple(same(part) for part in expression)
+    return (parts[0], *tuple(sorted(parts[1:], key=written))) if parts[:1] == ('=',) else parts
+
+
+def is_valued(action: Action, add: Expression) -> bool:
+    """Whether an add tells that a value is known which the action tells itself."""
+    return add[0] == 'kv' and any(item_of(own)[0] == 'kf' and item_of(own)[1][0] == '=' and add[1] in item_of(own)[1]
+                                  for own in action.knows)
+
+
+def with_adds(file: File, name: str, adds: List_) -> File:
+    """The file with further adds of an action; where they are too many it is refused, and so no plan is claimed."""
+    action = file.action(name)
+    assert action is not None
+    return file.with_action(name, knows=action.knows + adds)
+
+
+def told(file: File, missing: Dict[str, List_]) -> Iterator[Change]:
+    """One add more; all adds more of one action; all adds of all."""
+    for name, adds in missing.items():
+        for add in sorted(adds, key=lambda add: written(add).startswith('(if ((kw ')):
+            yield Change(Rank.TOLD, with_adds(file, name, (add,)), f'in `knows` of `{name}` add', (written(add),),
+                         untold(file, name, add))
+        if len(adds) > 1:
+            yield Change(Rank.TOLD_TOGETHER, with_adds(file, name, adds), f'in `knows` of `{name}` add', texts(adds),
+                         f'`{name}` has effects or senses that its `knows` doesn\'t tell; `derive` lists them.')
+    if len(missing) > 1:
+        every = file
+        for name, adds in missing.items():
+            every = with_adds(every, name, adds)
+        lines = tuple(f'{written(add)} in `{name}`' for name, adds in missing.items() for add in adds)
+        yield Change(Rank.TOLD_TOGETHER, every, 'in `knows` of the actions add', lines,
+                     'Several actions have effects or senses that `knows` doesn\'t tell; `derive` lists them.')
+
+
+def untold(file: File, name: str, add: Expression) -> str:
+    """What an add that is missing would tell."""
+    item, action = item_of(add), file.action(name)
+    assert action is not None
+    heads = set(words_of(item)) & set(file.arguments)
+    if any(heads & set(words_of(item_of(own))) for own in action.knows):
+        return f'`{name}` may tell more than its `knows` says; `derive` lists it.'
+    kind = 'a sense' if item[0] in ('kw', 'kv') and action.senses and add[0] != 'if' else 'an effect'
+    under = ' under a condition' if add[0] == 'if' else ''
+    return f'`{name}` has {kind}{under} that its `knows` doesn\'t tell, so the agent doesn\'t know of it.'
+
+
+def told_apart(file: File) -> Iterator[Change]:
+    """Where a later effect may be about the same thing: a precondition that they differ, and the adds that follow."""
+    for action in file.actions:
+        for early, late in undone(action):
+            pairs = [(a, b) for a, b in zip(early[1:], late[1:]) if a != b]
+            if not pairs:
+                continue
+            query = ('k', ('not', ('=', *pairs[0])))
+            changed = file.with_action(action.name, pre=action.pre + (query,))
+            try:
+                adds = missing_adds(changed).get(action.name, ())
+            except pkslib.PksError:
+                continue
+            fact = early if early in [target(e)[1] for e in action.effects if target(e)[0] == 'set'] else ('not', early)
+            yield Change(Rank.TOLD_APART, with_adds(changed, action.name, adds),
+                         f'in `pre` of `{action.name}` add {written(query)}, and in its `knows` add', texts(adds),
+                         f'`{written(fact)}` isn\'t known after `{action.name}`, since `{written(late)}` may be about '
+                         'the same: the last effect wins.')
+
+
+def target(effect: Expression) -> List_:
+    """What an effect does, without its condition."""
+    done = effect[2] if effect[0] == 'when' else effect
+    assert not isinstance(done, str)
+    return done
+
+
+def item_of(add: Expression) -> List_:
+    """What an add tells, without its queries."""
+    item = add[2] if add[0] == 'if' else add
+    assert not isinstance(item, str)
+    return item
+
+
+def undone(action: Action) -> Iterator[Tuple[List_, List_]]:
+    """The atoms of each two effects of which the later one may undo the earlier."""
+    effects = [target(effect) for effect in action.effects]
+    for at, early in enumerate(effects):
+        for late in effects[at + 1:]:
+            if {early[0], late[0]} == {'set', 'unset'} and early[1][0] == late[1][0]:
+                assert not isinstance(early[1], str) and not isinstance(late[1], str)
+                yield early[1], late[1]
+
+
+def sensed_apart(file: File) -> Iterator[Change]:
+    """Each conjunction that is sensed, sensed literal by literal."""
+    for action in file.actions:
+        for sense in action.senses:
+            if sense[0] != 'sense' or len(sense) < 3:
+                continue
+            apart = tuple(('sense', literal) for literal in sense[1:])
+            others = tuple(other for other in action.senses if other != sense)
+            adds = tuple(('kw', literal) for literal in sense[1:])
+            changed = file.with_action(action.name, senses=others + apart,
+                                       knows=tuple(a for a in action.knows if a != ('kw', *sense[1:])) + adds)
+            yield Change(Rank.SENSED_APART, changed, f'in `{action.name}` sense the literals one by one',
+                         (written(('senses', *apart)), written(('knows', *adds))),
+                         f'`{action.name}` senses a conjunction: where it is false, none of its parts is known to be.')
+
+
+# Preconditions
+
+def queries_of(file: File) -> Iterator[Tuple[Action, Expression, List_]]:
+    """Each query of each precondition, with the others."""
+    for action in file.actions:
+        for at, query in enumerate(action.pre):
+            yield action, query, action.pre[:at] + action.pre[at + 1:]
+
+
+def signs(file: File) -> Iterator[Change]:
+    """Each `k` of a precondition with the other sign."""
+    for action, query, others in queries_of(file):
+        if query[0] == 'k' and atom_of(query[1])[0] != '=':
+            other = ('k', negated(query[1]))
+            yield Change(Rank.SIGN, file.with_action(action.name, pre=others + (other,)),
+                         f'in `pre` of `{action.name}` write, in place of {written(query)},', (written(other),),
+                         f'`{action.name}` asks for {written(query)}, which isn\'t known when it is needed; its '
+                         'contrary is.')
+
+
+def queries_out(file: File) -> Iterator[Change]:
+    """Each query of a precondition taken out."""
+    for action, query, others in queries_of(file):
+        rank = Rank.QUERY_GUARD if query[0] == 'not-derived' else Rank.QUERY
+        why = ('The guard is too tight.' if query[0] == 'not-derived'
+               else f'It is what keeps `{action.name}` from being done where it would help.')
+        yield Change(rank, file.with_action(action.name, pre=others),
+                     f'take {written(query)} out of `pre` of `{action.name}`', (), why)
+
+
+def guards(file: File) -> Iterator[Change]:
+    """Where an action assigns a parameter and the goal says which value is wanted: a precondition that it is this."""
+    for action in file.actions:
+        for effect in map(target, action.effects):
+            if effect[0] != 'assign' or effect[2] not in action.parameters:
+                continue
+            for wanted in wanted_values(file, effect[1]):
+                query = ('k', ('=', effect[2], wanted))
+                yield Change(Rank.GUARD, file.with_action(action.name, pre=action.pre + (query,)),
+                             f'in `pre` of `{action.name}` add', (written(query),),
+                             f'There are too many choices: `{action.name}` may be done with any of '
+                             f'{file.count(list(action.parameters.values()))} choices of objects, and with each value '
+                             'that is known by then.')
+
+
+def wanted_values(file: File, place: Expression) -> List[Expression]:
+    """What the goal wants a place to be, with the place's parameters put in for the objects of the goal."""
+    found: List[Expression] = []
+    assert not isinstance(place, str)
+    for aim in file.goal:
+        if aim[0] != 'k' or aim[1][0] != '=':
+            continue
+        for side, other in ((aim[1][1], aim[1][2]), (aim[1][2], aim[1][1])):
+            if isinstance(side, str) or side[0] != place[0]:
+                continue
+            back = dict(zip(map(written, side[1:]), place[1:]))
+            value = replaced(other, back)
+            if value not in found and not isinstance(other, str):
+                found.append(value)
+    return found
+
+
+def replaced(expression: Expression, words: Dict[str, Expression]) -> Expression:
+    """The expression with terms put in for words, but for its head."""
+    if isinstance(expression, str):
+        return words.get(expression, expression)
+    return (expression[0], *(replaced(part, words) for part in expression[1:]))
+
+
+# The start
+
+MOST_ITEMS = 80
+
+
+def starts(file: File) -> Iterator[Change]:
+    """One item more of `init`: first of what the start says nothing of."""
+    told_heads = {word for item in file.init for word in words_of(item)}
+    goal = {part for aim in file.goal if aim[0] in ('k', 'kw') and not is_fixed(file, aim[1]) for part in aim[1:]}
+    found: List[Tuple[int, Expression]] = []
+    for literal in needed(file):
+        for order, item in items_for(file, literal):
+            if item[1] not in goal and negated(item[1]) not in goal:
+                known = atom_of(literal)[0] in told_heads
+                found.append((order + (4 if known else 0), item))
+    seen: Set[Expression] = set(file.init)
+    for order, item in sorted(found, key=lambda pair: pair[0])[:10 * MOST_ITEMS]:
+        if item not in seen:
+            seen.add(item)
+            yield start(file, item, order)
+
+
+MISSING = {
+    'kf': 'A fact is missing at the start.',
+    'negative': 'A negative is missing at the start: what isn\'t written isn\'t false, it is unknown.',
+    'kw': 'Nothing tells whether it is so, so the plan can\'t branch on it: a sense that tells would do, too.',
+    'kv': 'Nothing tells the value: a sense that tells would do, too.',
+    'kx': 'Nothing says that one of these is true.',
+    'lcw': 'Negatives are missing at the start: what isn\'t written isn\'t false, it is unknown. (Or `(kf (not ..))` '
+           'for each.)',
+}
+
+
+def start(file: File, item: Expression, order: int) -> Change:
+    """An item of `init` as a change."""
+    mirrored = other_way(file, item)
+    if mirrored:
+        return Change(Rank.OTHER_WAY, file.with_init(item), 'in `init` add', (written(item),),
+                      f'A way leads one way only: {written(mirrored)} is in `init`, and the other way round isn\'t.')
+    rank = Rank.START if order < 4 else Rank.START_MORE
+    kind = 'negative' if item[0] == 'kf' and item[1][0] == 'not' else str(item[0])
+    return Change(rank, file.with_init(item), 'in `init` add', (written(item),), MISSING[kind])
+
+
+def other_way(file: File, item: Expression) -> Optional[Expression]:
+    """The item of `init` of which this one is the other way round, where no action changes its predicate."""
+    if item[0] != 'kf' or item[1][0] == '=' or len(item[1]) != 3 or item[1][0] in changed_heads(file):
+        return None
+    mirrored = ('kf', (item[1][0], item[1][2], item[1][1]))
+    return mirrored if mirrored in file.init and mirrored != item else None
+
+
+def is_fixed(file: File, literal: Expression) -> bool:
+    """Whether no action changes or tells anything of what a literal speaks of, nor has effects that hang on it."""
+    head = atom_of(literal)[0]
+    told: List[Expression] = [item_of(add) for action in file.actions for add in action.knows]
+    told += [effect[1] for action in file.actions for effect in action.effects if effect[0] == 'when']
+    return head != '=' and head not in changed_heads(file) | {word for part in told for word in words_of(part)}
+
+
+def changed_heads(file: File) -> Set[str]:
+    """The predicates and functions that some action changes."""
+    return {str(target(effect)[1][0]) for action in file.actions for effect in action.effects}
+
+
+def needed(file: File) -> Iterator[Expression]:
+    """The literals that queries and conditions speak of, each parameter as it is written."""
+    for action in file.actions:
+        types = action.parameters
+        hanging = [effect for effect in action.effects if effect[0] == 'when']
+        conditions = [effect[1] for effect in hanging]
+        queries = [query for add in action.knows if add[0] == 'if' for query in add[1]]
+        for query in (*action.pre, *queries):
+            plain = query[1] if query[0] == 'not-derived' else query
+            if plain[0] in ('k', 'kw') and query[0] != 'not-derived':
+                yield from (located(literal, types) for literal in plain[1:])
+        for condition in conditions:
+            yield from (located(literal, types) for literal in condition)
+        for done in map(target, hanging):
+            if done[0] in ('set', 'unset'):
+                yield located(('not', done[1]) if done[0] == 'set' else done[1], types)
+    for aim in file.goal:
+        plain = aim[1] if aim[0] in OVER_TIME else aim
+        if plain[0] in ('k', 'kw'):
+            yield from plain[1:]
+
+
+def located(literal: Expression, types: Dict[str, str]) -> Expression:
+    """The literal with each parameter replaced by its type behind a `?`."""
+    return replaced_all(literal, {name: f'?{kind}' for name, kind in types.items()})
+
+
+def replaced_all(expression: Expression, words: Dict[str, str]) -> Expression:
+    """The expression with words replaced everywhere."""
+    if isinstance(expression, str):
+        return words.get(expression, expression)
+    return tuple(replaced_all(part, words) for part in expression)
+
+
+def items_for(file: File, literal: Expression) -> Iterator[Tuple[int, Expression]]:
+    """Items of `init` by which a literal may be known, or known whether, the likeliest first."""
+    atom = atom_of(literal)
+    if atom[0] == '=':
+        yield from values_for(file, atom)
+        return
+    is_negative = literal[0] == 'not'
+    grounded = list(instances(file, atom))[:MOST_ITEMS]
+    if is_negative and 1 <= len(atom) - 1 <= limits.WILDCARDS:
+        yield 0, ('lcw', (atom[0], *('_' for _ in atom[1:])))
+    for each in grounded:
+        yield 1, ('kw', each)
+    for each in grounded:
+        yield (0 if is_negative or len(grounded) < 9 else 2), ('kf', ('not', each) if is_negative else each)
+    if limits.GROUP_LEAST <= len(grounded) <= limits.GROUP:
+        yield 3, ('kx', *grounded)
+
+
+def values_for(file: File, equation: List_) -> Iterator[Tuple[int, Expression]]:
+    """Items of `init` by which an equation may be known."""
+    for side in equation[1:]:
+        if isinstance(side, str):
+            continue
+        for place in list(instances(file, side))[:MOST_ITEMS]:
+            yield 1, ('kv', place)
+            for value in file.of_type(file.results[str(place[0])])[:limits.GROUP]:
+                yield 2, ('kf', ('=', place, value))
+
+
+def instances(file: File, atom: List_) -> Iterator[List_]:
+    """An atom with objects for what isn't an object in it."""
+    kinds = file.arguments.get(str(atom[0]), ())
+    choices: List[List[str]] = []
+    for term, kind in zip(atom[1:], kinds):
+        if isinstance(term, str) and not term.startswith('?'):
+            choices.append([term])
+        else:
+            own = term[1:] if isinstance(term, str) else kind
+            choices.append([name for name in file.of_type(own) if file.fits(file.kinds[name], kind)])
+    count = 1
+    for choice in choices:
+        count *= len(choice)
+    if count <= 4 * MOST_ITEMS:
+        yield from ((atom[0], *objects) for objects in itertools.product(*choices))

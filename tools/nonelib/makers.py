@@ -1,0 +1,204 @@
+"""What would make a goal known, and what each action lacks that would: a tree, one level back and then again."""
+
+from dataclasses import dataclass, replace
+from typing import Dict, Iterator, List, Optional, Set, Tuple
+
+from asklib.files import Action, File, List_, atom_of, negated, put_in, words_of
+from pkslib import Expression, written
+
+from .changes import item_of, target
+from .questions import Asking, Outcome
+
+LEVELS = 3
+"""How many levels back are looked at."""
+
+MOST_FACTS = 6
+"""How many facts of the start are shown."""
+
+
+@dataclass(frozen=True)
+class Maker:
+    """An action that may make a query answered, with the terms that its parameters must be, and how it does."""
+
+    action: Action
+    given: Tuple[Tuple[str, Expression], ...]
+    how: str
+    queries: List_ = ()
+    """The queries under which it tells it."""
+
+
+def makers(file: File, query: Expression) -> Iterator[Maker]:
+    """All that may make a query answered: adds, senses, effects that aren't told."""
+    wanted = query[1]
+    for action in file.actions:
+        items = [(item_of(add), 'tells it', tuple(add[1]) if add[0] == 'if' else ()) for add in action.knows]
+        items += [(item, 'makes it so, and its `knows` doesn\'t tell', ()) for item in untold(action)]
+        seen: Set[Tuple[Tuple[str, Expression], ...]] = set()
+        for item, how, queries in items:
+            found = matched(file, action, item, str(query[0]), wanted)
+            if found is not None and found[0] not in seen:
+                seen.add(found[0])
+                yield Maker(action, found[0], found[1] or how, tuple(queries))
+        for condition in conditions(action):
+            given = unified(file, action, atom_of(condition), atom_of(wanted)) if query[0] in ('k', 'kw') else None
+            if given is not None and given not in seen:
+                seen.add(given)
+                yield Maker(action, given, 'has an effect that hangs on it: what comes of that may tell, on a branch')
+
+
+def conditions(action: Action) -> Iterator[Expression]:
+    """The literals on which effects of an action hang."""
+    for effect in action.effects:
+        if effect[0] == 'when':
+            yield from effect[1]
+
+
+def untold(action: Action) -> Iterator[List_]:
+    """The effects of an action as items that `knows` would have to tell."""
+    told = [item_of(add) for add in action.knows]
+    for effect in action.effects:
+        done = target(effect)
+        item: Optional[List_] = {'set': ('kf', done[1]), 'unset': ('kf', ('not', done[1])),
+                                      'assign': ('kf', ('=', *done[1:]))}.get(str(done[0]))
+        if item is not None and item not in told:
+            yield item
+
+
+def matched(file: File, action: Action, item: Expression, head: str,
+            wanted: Expression) -> Optional[Tuple[Tuple[Tuple[str, Expression], ...], str]]:
+    """How an item meets what is wanted: the terms of the parameters, and a word on how; None where it doesn't."""
+    if item[0] == 'kf' and head in ('k', 'kw'):
+        sides = [item[1]] if head == 'k' else [item[1], negated(item[1])]
+        return next(((found, '') for found in (unified(file, action, side, wanted) for side in sides)
+                     if found is not None), None)
+    if item[0] == 'kw' and head in ('k', 'kw') and len(item) == 2:
+        found = unified(file, action, atom_of(item[1]), atom_of(wanted))
+        how = 'finds out whether it is so, so a branch may tell' if head == 'k' else 'finds out'
+        return (found, how) if found is not None else None
+    if item[0] == 'kv' and head in ('k', 'kv'):
+        places = [wanted] if head == 'kv' else list(atom_of(wanted)[1:]) if atom_of(wanted)[0] == '=' else []
+        for place in places:
+            found = unified(file, action, item[1], place) if not isinstance(place, str) else None
+            if found is not None:
+                return found, 'finds out the value, so cases may tell' if head == 'k' else 'finds out the value'
+    return None
+
+
+Given = Tuple[Tuple[str, Expression], ...]
+"""Terms for parameters."""
+
+
+def unified(file: File, action: Action, own: Expression, wanted: Expression) -> Optional[Given]:
+    """The terms of an action's parameters with which its expression is the one that is wanted; None where none are.
+
+    A word with a `?` in what is wanted may be anything.
+    """
+    given: Dict[str, Expression] = {}
+    if not met(file, action, own, wanted, given):
+        return None
+    return tuple((name, term) for name, term in given.items() if not (isinstance(term, str) and term[0] == '?'))
+
+
+def met(file: File, action: Action, own: Expression, wanted: Expression, given: Dict[str, Expression]) -> bool:
+    """Whether an expression of an action may be what is wanted; fills in the parameters."""
+    if isinstance(own, str) and own in action.parameters:
+        kind = file.type_of(wanted) if not (isinstance(wanted, str) and wanted.startswith('?')) else None
+        if kind is not None and not file.fits(kind, action.parameters[own]):
+            return False
+        return given.setdefault(own, wanted) == wanted
+    if isinstance(wanted, str) and wanted.startswith('?'):
+        return True
+    if isinstance(own, str) or isinstance(wanted, str):
+        return own == wanted
+    return len(own) == len(wanted) and own[0] == wanted[0] and all(
+        met(file, action, a, b, given) for a, b in zip(own[1:], wanted[1:]))
+
+
+# Asking
+
+class Tree:
+    """The lines of what would make queries answered."""
+
+    def __init__(self, file: File, depth: int, asking: Asking, seconds: float) -> None:
+        self.file, self.depth, self.asking, self.seconds = file, depth, asking, seconds
+        self.lines: List[str] = []
+        self.seen: Set[Tuple[str, str]] = set()
+
+    def put(self, query: Expression, level: int = 0) -> None:
+        """Adds what would make a query answered."""
+        indent = '    ' * level
+        found = list(makers(self.file, query))
+        start = list(self.of_start(query))
+        self.lines += [f'{indent}{line}' for line in start]
+        if not found and not start:
+            self.lines.append(f'{indent}No add, no sense, no effect and no item of `init` is about it.')
+        for maker in found:
+            self.put_maker(maker, query, level)
+
+    def of_start(self, query: Expression) -> Iterator[str]:
+        """What `init` has that is about a query."""
+        heads = {word for word in words_of(query[1]) if word in self.file.arguments}
+        items = [item for item in self.file.init if heads & set(words_of(item))]
+        for head, how in (('kx', 'tells it where the others are known'), ('kw', 'says that it will be known whether'),
+                          ('kv', 'says that the value will be known, so cases may tell')):
+            for item in items:
+                if item[0] == head:
+                    yield f'{written(item)} in `init` {how}.'
+        facts = [written(item) for item in items if item[0] in ('kf', 'lcw')]
+        if facts:
+            more = ' ..' if len(facts) > MOST_FACTS else ''
+            yield f'About it there is in `init` {" ".join(facts[:MOST_FACTS])}{more}.'
+
+    def put_maker(self, maker: Maker, query: Expression, level: int) -> None:
+        """Adds an action, whether it can be done, and what it lacks."""
+        indent = '    ' * level
+        given = dict(maker.given)
+        shown = written((maker.action.name, *(given.get(name, name) for name in maker.action.parameters)))
+        begun = f'{indent}{shown} {maker.how}'
+        if (shown, written(query)) in self.seen:
+            self.lines.append(f'{begun} (see above).')
+            return
+        self.seen.add((shown, written(query)))
+        outcome = self.can_be_done(maker, maker.action.pre)
+        if outcome.depth is not None:
+            steps = f'after {outcome.depth - 1} steps' if outcome.depth != 2 else 'after one step'
+            when = steps if outcome.depth > 1 else 'at once'
+            self.lines.append(f'{begun}. It can be done {when}{self.told_under(maker)}.')
+        elif outcome.is_none:
+            self.lines.append(f'{begun}. No plan to depth {self.depth - 1} leads to it on every side.')
+            self.put_lacking(maker, level)
+        else:
+            self.lines.append(f'{begun}. Whether it can be done isn\'t known, the search didn\'t end in its time.')
+
+    def told_under(self, maker: Maker) -> str:
+        """On what it hangs that the action tells it."""
+        queries = [written(put_in(query, dict(maker.given))) for query in maker.queries]
+        return f'; what it tells hangs on {" ".join(queries)}' if queries else ''
+
+    def put_lacking(self, maker: Maker, level: int) -> None:
+        """Adds which queries of an action aren't answered, each by asking without it, and what would make it so."""
+        for query in maker.action.pre:
+            others = tuple(other for other in maker.action.pre if other != query)
+            if self.asking.left() < 1:
+                return
+            if self.can_be_done(maker, others).depth is None:
+                continue
+            lacking = put_in(query, dict(maker.given))
+            self.lines.append(f'{"    " * level}  It lacks {written(lacking)}: without that it could.')
+            if level + 1 < LEVELS and lacking[0] in ('k', 'kw', 'kv'):
+                self.put(lacking, level + 1)
+
+    def can_be_done(self, maker: Maker, pre: List_) -> Outcome:
+        """Whether an action can be done, with these terms and this precondition; the depth counts it too."""
+        done = self.free(set(self.file.arguments))
+        fixed = tuple(('k', ('=', name, term)) for name, term in maker.given)
+        last = replace(maker.action, name=self.free({action.name for action in self.file.actions}), pre=fixed + pre,
+                       effects=(('set', (done,)),), senses=(), knows=(('kf', (done,)),))
+        asked = replace(self.file, predicates=self.file.predicates + ((done,),), actions=self.file.actions + (last,),
+                        goal=(('k', (done,)),))
+        return self.asking.ask(asked, self.depth, self.seconds)
+
+    @staticmethod
+    def free(taken: Set[str]) -> str:
+        """A name that isn't taken."""
+        return next(name for name in ('done', *(f'done{n}' for n in range(len(taken) + 1))) if name not in taken)

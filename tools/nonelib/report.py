@@ -1,0 +1,99 @@
+"""What is printed of what was found, best first."""
+
+import textwrap
+from typing import List, Sequence, Tuple
+
+from . import goals
+from .changes import Change, Rank
+from .questions import Outcome
+from .search import Found
+
+WIDTH = 100
+
+
+def wrapped(text: str, first: str, others: str) -> List[str]:
+    """A text in lines."""
+    return textwrap.wrap(text, WIDTH, initial_indent=first, subsequent_indent=others, break_long_words=False,
+                         break_on_hyphens=False)
+
+
+def report(found: Found, depth: int) -> List[str]:
+    """All lines of a report."""
+    lines = [begun(found, depth)]
+    entries = told(found, depth)
+    for number, entry in enumerate(entries, 1):
+        lines += ['', *entry_lines(number, entry)]
+    if not entries:
+        lines += ['', 'No single change that was asked makes a plan.']
+    for part in (goals.said(found.goals, depth) if found.goals else [], found.lines):
+        lines += ['', *(line for text in part for line in indented(text))]
+    return lines
+
+
+def indented(text: str) -> List[str]:
+    """A text in lines, each with its indentation; what is behind the first one further in."""
+    own = ' ' * (len(text) - len(text.lstrip()))
+    return wrapped(text.strip(), own, own + '  ') if len(text) > WIDTH else [text]
+
+
+def begun(found: Found, depth: int) -> str:
+    """The first line: what is known of the file as it is."""
+    if found.base.is_none:
+        return f'There is no plan to depth {depth}.'
+    return f'Whether there is a plan to depth {depth} isn\'t known: the search didn\'t end in its time.'
+
+
+MOST_SHOWN, MOST_ALIKE = 6, 2
+"""The most entries, and the most of one cause."""
+
+
+def told(found: Found, depth: int) -> List[List[str]]:
+    """What is said of the changes, the best first: a text for each, and the lines to write."""
+    entries: List[List[str]] = []
+    said: List[str] = []
+    single = any(change.rank == Rank.TOLD for change in found.cures())
+    for change, outcome in sorted(found.outcomes.items(), key=lambda pair: place(*pair)):
+        if single and change.rank in (Rank.TOLD_TOGETHER, Rank.TOLD_APART):
+            continue
+        if said.count(change.why) == MOST_ALIKE or len(entries) == MOST_SHOWN:
+            continue
+        entry = said_of(change, outcome, depth, change.why in said)
+        if entry:
+            said.append(change.why)
+            entries.append(entry)
+    return entries
+
+
+def place(change: Change, outcome: Outcome) -> Tuple[int, int, int]:
+    """By which changes are sorted: rank, then those with a plan, then the depth.
+
+    An add of which it isn't known whether there is a plan with it comes behind all that are likelier than the rest.
+    """
+    rank = change.rank if outcome.depth is not None or change.always else max(change.rank, Rank.SIGN)
+    return rank, int(outcome.depth is not None and rank == Rank.SIGN), outcome.depth or 0
+
+
+def said_of(change: Change, outcome: Outcome, depth: int, is_said: bool) -> List[str]:
+    """What is said of a change whose cause was said before or not; nothing where it is no cause."""
+    why = '' if is_said else change.why + ' '
+    if change.rank == Rank.DEPTH:
+        at = outcome.depth
+        return [f'The depth is too small by {at - depth}: with {at} in place of {depth} there is a plan.'] if at else []
+    if outcome.depth is not None:
+        return [f'{why}With this there is a plan of depth {outcome.depth}: {change.what}', *change.lines]
+    if outcome.ended or not why:
+        return [why] if change.always and why else []
+    if change.always and not change.what:
+        return [why]
+    if change.rank > Rank.TOLD or change.rank < Rank.DEPTH and not change.always:
+        return []
+    return [f'{why}Whether there is a plan with this isn\'t known, the search didn\'t end: {change.what}',
+            *change.lines]
+
+
+def entry_lines(number: int, entry: Sequence[str]) -> List[str]:
+    """A numbered entry; its lines to write stand further in."""
+    lines = wrapped(entry[0], f'{number}. ', '   ')
+    for line in entry[1:]:
+        lines += wrapped(line, '       ', '           ')
+    return lines
