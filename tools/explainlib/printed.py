@@ -3,6 +3,7 @@
 import re
 
 from explainlib.problem import forms, literal_at
+from pkslib import Act, Branch, Cases, Goal, read_plan, sides
 
 
 class Line:
@@ -33,51 +34,32 @@ class Path:
         return Path(self.effects, self.sides + ((self.moment(), kind, on, side),))
 
 
-class Tree:
-    """The lines of a printed tree, read from its root on; what it owes is listed on the way."""
+class Owing:
+    """What a tree owes, listed in the order in which it is printed: paths with literals."""
 
-    def __init__(self, problem, lines):
+    def __init__(self, problem):
         self.problem = problem
-        self.lines = lines
-        self.at = 0
         self.owed = []
 
     def owes(self, path, literals):
         self.owed += [(path, literal) for literal in literals]
 
-    def next(self, indent):
-        line = self.lines[self.at]
-        self.at += 1
-        if not line.startswith(indent) or line[len(indent):].startswith(' '):
-            raise ValueError(f'a line of the tree is indented otherwise: {line!r}')
-        return line[len(indent):]
-
-    def peek(self, indent, word):
-        return self.at < len(self.lines) and self.lines[self.at].startswith(indent + word)
-
-    def walk(self, path, indent=''):
-        p, line = self.problem, self.next(indent)
-        if line == 'goal':
+    def walk(self, tree, path):
+        p = self.problem
+        if isinstance(tree, Goal):
             self.owes(path, p.goals)
-        elif line == 'impossible':
-            pass
-        elif line.startswith('branch '):
-            on = [p.literal(f) for f in forms(line[len('branch '):])]
-            for side in ('true', 'false'):
-                if self.next(indent) != side:
-                    raise ValueError(f'no side {side}')
-                self.walk(path.taken('branch', on, side), indent + '  ')
-        elif line.startswith('cases '):
-            on = p.term(forms(line[len('cases '):])[0])
-            while self.peek(indent, 'case '):
-                side = p.term(self.next(indent).split()[1])
-                self.walk(path.taken('cases', on, side), indent + '  ')
-        else:
-            name, *arguments = forms(line)[0]
-            action = p.actions[p.acts[name]]
-            given = [p.term(t) for t in arguments]
+        elif isinstance(tree, Act):
+            action = p.actions[p.acts[tree.name]]
+            given = [p.term(t) for t in tree.arguments]
             self.owes(path, [literal_at(l, given) for l in action.needed])
-            self.walk(path.acted([e.at(given) for e in action.effects]), indent)
+            self.walk(tree.next, path.acted([e.at(given) for e in action.effects]))
+        elif isinstance(tree, Branch):
+            on = [p.literal(l) for l in tree.literals]
+            for side, child in sides(tree):
+                self.walk(child, path.taken('branch', on, side))
+        elif isinstance(tree, Cases):
+            for side, child in tree.sides:
+                self.walk(child, path.taken('cases', p.term(tree.term), p.term(side)))
 
 
 def read_line(problem, number, line):
@@ -93,13 +75,11 @@ def read_line(problem, number, line):
 def read_text(problem, text):
     """The owed literals with their paths, and the entries: literals with their proofs."""
     lines = text.split('\n')
-    if lines.pop() != '' or not lines[0].startswith('plan depth '):
-        raise ValueError('no tree, or no line feed at the end')
+    if lines.pop() != '':
+        raise ValueError('no line feed at the end')
     first = next((n for n, line in enumerate(lines) if line.startswith('known ')), len(lines))
-    tree = Tree(problem, lines[1:first])
-    tree.walk(Path())
-    if tree.at != len(tree.lines):
-        raise ValueError('lines behind the tree')
+    owing = Owing(problem)
+    owing.walk(read_plan('\n'.join(lines[:first])), Path())
     entries = []
     for line in lines[first:]:
         if line.startswith('known '):
@@ -107,4 +87,4 @@ def read_text(problem, text):
         else:
             proof = entries[-1][1]
             proof.append(read_line(problem, len(proof) + 1, line))
-    return tree.owed, entries
+    return owing.owed, entries

@@ -6,22 +6,9 @@ of an equation first. A slot of a pattern is a term or WILD. A fact is ('lit', l
 ('kx', literals) or ('lcw', (predicate, slots), atoms).
 """
 
-import re
+from pkslib import expressions as forms
 
 WILD = (-1,)
-
-
-def forms(text):
-    """The forms of a text, lists as Python's."""
-    stack = [[]]
-    for word in re.findall(r'[()]|[^\s()]+', re.sub(r';[^\n]*', '', text)):
-        if word == '(':
-            stack.append([])
-        elif word == ')':
-            stack[-2].append(stack.pop())
-        else:
-            stack[-1].append(word)
-    return stack[0]
 
 
 # Terms and literals
@@ -155,7 +142,7 @@ class Problem:
     # ---- parts, in a file and in printed text
 
     def term(self, form, names={}):
-        if isinstance(form, list):
+        if isinstance(form, tuple):
             return (2, self.functions[form[0]], tuple(self.term(t, names) for t in form[1:]))
         if form.startswith('?'):
             return (1, names[form])

@@ -1,8 +1,6 @@
 """PDDL as lists of words, each with its place in its file."""
 
-import re
-
-TOKEN = re.compile(r';[^\n]*|[()]|[^\s();]+')
+from pkslib import ALL_WORDS, Text
 
 
 class Refusal(Exception):
@@ -68,36 +66,22 @@ class Form:
         return text if len(text) <= 48 else text[:44] + ' ..)'
 
 
-def tokens(source):
-    """Each word and parenthesis with its line and column, and the comments before it."""
-    for number, line in enumerate(source.lines, 1):
-        for found in TOKEN.finditer(line):
-            yield found.group(), number, found.start() + 1
-
-
 def forms(source):
     """The forms of a file."""
-    top = Form(source, 1, 1)
-    open_lists, comments = [top], []
-    for token, line, column in tokens(source):
-        if token.startswith(';'):
-            if not source.lines[line - 1][:column - 1].strip():
-                comments.append(token.lstrip(';').strip())
-            continue
-        if token == ')':
-            if len(open_lists) == 1:
-                raise Refusal(Form(source, line, column), 'this `)` closes nothing',
-                              'Take it away, or look for a list above that was closed too early.')
-            open_lists.pop()
-        else:
-            form = Form(source, line, column, None if token == '(' else token, comments)
-            open_lists[-1].parts.append(form)
-            if token == '(':
-                open_lists.append(form)
-        comments = []
-    if len(open_lists) > 1:
-        raise Refusal(open_lists[-1], 'this list isn\'t closed', 'Add the `)` that is missing.')
-    return top.parts
+    read = Text(source.text, ALL_WORDS)
+    if read.extra:
+        raise Refusal(Form(source, *read.place(read.extra[0])), 'this `)` closes nothing',
+                      'Take it away, or look for a list above that was closed too early.')
+    if read.open:
+        raise Refusal(of_source(source, read.open[-1]), 'this list isn\'t closed', 'Add the `)` that is missing.')
+    return [of_source(source, form) for form in read.forms]
+
+
+def of_source(source, read):
+    """What was read, as a form of this file."""
+    form = Form(source, read.line, read.column, read.word, read.comments)
+    form.parts = [of_source(source, part) for part in read.parts]
+    return form
 
 
 def definition(source, kind):

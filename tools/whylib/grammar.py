@@ -1,6 +1,6 @@
 """What may stand where: the grammar by the enclosing list, in the user's words."""
 
-from .forms import NAME, VAR
+from pkslib import NAME, VARIABLE
 
 SECTIONS = {
     'domain': ['types', 'objects', 'predicates', 'functions', 'action'],
@@ -152,7 +152,7 @@ def version_hint(form, version):
 
 
 def is_var(form):
-    return bool(form.word and VAR.match(form.word))
+    return bool(form.word and VARIABLE.match(form.word))
 
 
 def is_name(form):

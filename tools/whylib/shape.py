@@ -1,7 +1,8 @@
 """Explains the codes of shape: 120 to 124, and 300 for the world."""
 
+from pkslib import VARIABLE, gained_parenthesis, lost_parenthesis
+
 from . import grammar
-from .forms import VAR, gained_parenthesis, lost_parenthesis
 from .names import count, near
 
 FOREIGN = {
@@ -210,7 +211,7 @@ def word_hint(form, kind):
                 'is `(room place)`, in version 2.']
     if kind == 'number':
         return ['A cost is a number in digits, not `0` and without a leading zero.']
-    if kind == 'name' and own in ('predicates', 'functions') and VAR.match(word):
+    if kind == 'name' and own in ('predicates', 'functions') and VARIABLE.match(word):
         return ['Predicates and functions are declared by types alone: `(in item room)`.']
     if kind in ('name', 'term') and word[0].isdigit():
         return [f'`{word}` is no name: a name begins with a letter.']

@@ -1,0 +1,61 @@
+"""The planner `pks` for Python: its files, its plans and its program.
+
+    import pkslib
+    tree = pkslib.plan(open('kettle.pks', 'rb').read(), 4, seconds=60)
+    if tree is not None:
+        print(tree.depth, tree.cost, len(tree.leaves))
+
+The program is found by the environment variable PKS, beside the tools, or on the PATH; nothing here builds or
+proves it. Every public function has types, and raises the exceptions that its sentence names; all that come of
+the program are a PksError.
+
+Calls of the program (each takes `seconds`, the time that it may take, and `program`, the path of another program):
+
+    plan(text, depth)           the best plan as a tree, or None where none is derived
+    check(text)                 returns where the file is accepted, and raises Refused where it isn't
+    derive(text)                the adds that follow from the text of each action, by the action's name
+    ask(words, text)            the text that the program prints where the job is done
+    call(words, text)           the status and the text, whatever they are
+    find()                      the path of the program
+
+Plans:
+
+    Act(name, arguments, next)  an action; Branch(literals, true, false); Cases(term, sides); Goal(); Impossible()
+    .cost .depth .leaves        of each: what the dearest way costs, the steps of the longest, the ends of all
+    .children .price            of an inner node: the trees below, and what the step alone costs
+    ways(tree)                  all ways to a leaf, each with .steps, .leaf and .cost
+    read_plan(text, prices)     the tree of a printed plan;  printed(tree) is its text again
+    costs(text)                 the cost of each action of a file
+
+Files:
+
+    Text(data)                  forms with places, also of a broken text: .forms .lists .open .extra
+    Form                        a word or a list: .word .parts .parent .start .end .line .column
+    read(data)                  the forms, or Malformed;  expressions(data) has words and tuples instead
+    written(expression)         an expression as it is printed
+    lost_parenthesis(text), gained_parenthesis(text)    by the indentation of the lines
+
+Words of the format: the module `limits` has each limit, `Status` and `Code`.
+
+Exceptions: PksError is the class of NoProgram, TimedOut, Refused (.line .column .code), NoPlan and Failed (.status);
+Malformed is a ValueError with .line and .column.
+"""
+
+from . import limits
+from .errors import Failed, NoPlan, NoProgram, PksError, Refused, TimedOut
+from .forms import (ALL_WORDS, NAME, PKS_WORDS, VARIABLE, Expression, Form, Malformed, Text, expressions, read,
+                    written)
+from .indentation import gained_parenthesis, lost_parenthesis
+from .limits import Code, Refusal, Status, read_refusal
+from .planning import plan
+from .program import Answer, ask, call, check, derive, find
+from .trees import (Act, Branch, Cases, Goal, Impossible, Leaf, Literal, Side, Term, Tree, Way, costs, printed,
+                    read_body, read_plan, sides, ways)
+
+__all__ = [
+    'ALL_WORDS', 'Act', 'Answer', 'Branch', 'Cases', 'Code', 'Expression', 'Failed', 'Form', 'Goal', 'Impossible',
+    'Leaf', 'Literal', 'Malformed', 'NAME', 'NoPlan', 'NoProgram', 'PKS_WORDS', 'PksError', 'Refusal', 'Refused',
+    'Side', 'Status', 'Term', 'Text', 'TimedOut', 'Tree', 'VARIABLE', 'Way', 'ask', 'call', 'check', 'costs', 'derive',
+    'expressions', 'find', 'gained_parenthesis', 'limits', 'lost_parenthesis', 'plan', 'printed', 'read', 'read_body',
+    'read_plan', 'read_refusal', 'sides', 'ways', 'written',
+]
