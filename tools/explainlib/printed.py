@@ -1,20 +1,9 @@
 """What `explain` prints: a tree and the paths in it, and entries with their proofs."""
 
-import re
+from dataclasses import replace
 
-from explainlib.problem import forms, literal_at
-from pkslib import Act, Branch, Cases, Goal, read_plan, sides
-
-
-class Line:
-    """A line of a proof."""
-
-    def __init__(self, moment, fact, reason, number, cites):
-        self.moment = moment
-        self.fact = fact
-        self.reason = reason
-        self.number = number
-        self.cites = cites
+from explainlib.problem import literal_at
+from pkslib import Act, Branch, Cases, Goal, read_explained, sides
 
 
 class Path:
@@ -62,29 +51,17 @@ class Owing:
                 self.walk(child, path.taken('cases', p.term(tree.term), p.term(side)))
 
 
-def read_line(problem, number, line):
-    """A line of a proof, which must have this number and be spelled as it is printed."""
-    named = re.fullmatch(r'(\d+) moment (\d+) (\(.*\)) ([a-z]+)( \d+)?( by((?: \d+)+))?', line)
-    if not named or int(named[1]) != number:
-        raise ValueError(f'no line {number} of a proof: {line!r}')
-    cites = [int(c) for c in (named[7] or '').split()]
-    told = int(named[5]) if named[5] else None
-    return Line(int(named[2]), problem.fact(forms(named[3])[0]), named[4], told, cites)
-
-
 def read_text(problem, text):
     """The owed literals with their paths, and the entries: literals with their proofs."""
-    lines = text.split('\n')
-    if lines.pop() != '':
+    if not text.endswith('\n'):
         raise ValueError('no line feed at the end')
-    first = next((n for n, line in enumerate(lines) if line.startswith('known ')), len(lines))
+    said = read_explained(text)
     owing = Owing(problem)
-    owing.walk(read_plan('\n'.join(lines[:first])), Path())
-    entries = []
-    for line in lines[first:]:
-        if line.startswith('known '):
-            entries.append((problem.literal(forms(line[len('known '):])[0]), []))
-        else:
-            proof = entries[-1][1]
-            proof.append(read_line(problem, len(proof) + 1, line))
-    return owing.owed, entries
+    owing.walk(said.tree, Path())
+    return owing.owed, [(problem.literal(entry.literal), [of_problem(problem, line) for line in entry.proof])
+                        for entry in said.entries]
+
+
+def of_problem(problem, line):
+    """A line of a proof, its fact over the numbers of the problem."""
+    return replace(line, fact=problem.fact(line.fact))

@@ -324,7 +324,7 @@ def is_allowed(problem, path, cited, line):
     """The line is allowed by its reason and by what it cites."""
     reason, fact, moment = line.reason, line.fact, line.moment
     wrong_kind = (reason in OF_LITERALS and fact[0] != 'lit') or (reason in OF_REGIONS and fact[0] != 'lcw')
-    if wrong_kind or moment > path.moment() or (line.number is not None) != (reason in NUMBERED):
+    if wrong_kind or moment > path.moment() or (line.told is not None) != (reason in NUMBERED):
         return False
     of = fact[1]
     if reason in ('keep', 'effect', 'grow', 'clear'):
@@ -338,8 +338,8 @@ def is_allowed(problem, path, cited, line):
             return False
         return {'back': back, 'must': must, 'cannot': cannot}[reason](Step(cited, moment, path.effects[moment]), of)
     within = {
-        'given': lambda: given(problem, line.number, moment, fact),
-        'side': lambda: side(path, cited, line.number, moment, of),
+        'given': lambda: given(problem, line.told, moment, fact),
+        'side': lambda: side(path, cited, line.told, moment, of),
         'same': lambda: same(problem, of),
         'swap': lambda: swap(cited, moment, fact),
         'only': lambda: only(cited, moment, of),

@@ -27,6 +27,18 @@ Plans:
     read_plan(text, prices)     the tree of a printed plan;  printed(tree) is its text again
     costs(text)                 the cost of each action of a file
 
+Dialogues, which lead `agent` over a pipe (the class tells how; a robot stands in examples/robot.py):
+
+    Dialogue(text, depth)       its steps are Do(name, arguments), AskValue(term), AskTest(literals), End(how)
+    .next() .answer(said)       the next step; an answer to the last question: a name, or True or False
+    .answers .resume(answers)   what was answered; begins anew and gives these answers again
+    .close()                    ends the program; so does the end of a `with`
+
+Other printed texts (trees as above; Malformed where a text isn't one):
+
+    read_run, read_recalled, read_explained, read_shared    Run, Recalled, Explained, Shared; read_printed takes all
+    World(true, values)         a world: .value(term), .holds(literal), .lines()
+
 Files:
 
     Text(data)                  forms with places, also of a broken text: .forms .lists .open .extra
@@ -37,11 +49,13 @@ Files:
 
 Words of the format: the module `limits` has each limit, `Status` and `Code`.
 
-Exceptions: PksError is the class of NoProgram, TimedOut, Refused (.line .column .code), NoPlan and Failed (.status);
+Exceptions: PksError is the class of NoProgram, TimedOut, Refused (.line .column .code), UnfitAnswer (a Refused with
+.question and .answer), NoPlan and Failed (.status);
 Malformed is a ValueError with .line and .column.
 """
 
 from . import limits
+from .dialogue import AskTest, AskValue, Dialogue, End, Question, Step, UnfitAnswer
 from .errors import Failed, NoPlan, NoProgram, PksError, Refused, TimedOut
 from .forms import (ALL_WORDS, NAME, PKS_WORDS, VARIABLE, Expression, Form, Malformed, Text, expressions, read,
                     written)
@@ -49,13 +63,20 @@ from .indentation import gained_parenthesis, lost_parenthesis
 from .limits import Code, Refusal, Status, read_refusal
 from .planning import plan
 from .program import Answer, ask, call, check, derive, find
+from .texts import (Branched, Cased, Do, Entry, Event, Explained, Instances, Moment, Printed, ProofLine, Recalled, Run,
+                    Shared, Value, Whether, read_act, read_explained, read_printed, read_proof_line, read_recalled,
+                    read_run, read_shared, tree_of)
 from .trees import (Act, Branch, Cases, Goal, Impossible, Leaf, Literal, Side, Term, Tree, Way, costs, printed,
                     read_body, read_plan, sides, ways)
+from .worlds import Fact, World
 
 __all__ = [
-    'ALL_WORDS', 'Act', 'Answer', 'Branch', 'Cases', 'Code', 'Expression', 'Failed', 'Form', 'Goal', 'Impossible',
-    'Leaf', 'Literal', 'Malformed', 'NAME', 'NoPlan', 'NoProgram', 'PKS_WORDS', 'PksError', 'Refusal', 'Refused',
-    'Side', 'Status', 'Term', 'Text', 'TimedOut', 'Tree', 'VARIABLE', 'Way', 'ask', 'call', 'check', 'costs', 'derive',
-    'expressions', 'find', 'gained_parenthesis', 'limits', 'lost_parenthesis', 'plan', 'printed', 'read', 'read_body',
-    'read_plan', 'read_refusal', 'sides', 'ways', 'written',
+    'ALL_WORDS', 'Act', 'Answer', 'AskTest', 'AskValue', 'Branch', 'Branched', 'Cased', 'Cases', 'Code', 'Dialogue',
+    'Do', 'End', 'Entry', 'Event', 'Explained', 'Expression', 'Fact', 'Failed', 'Form', 'Goal', 'Impossible',
+    'Instances', 'Leaf', 'Literal', 'Malformed', 'Moment', 'NAME', 'NoPlan', 'NoProgram', 'PKS_WORDS', 'PksError',
+    'Printed', 'ProofLine', 'Question', 'Recalled', 'Refusal', 'Refused', 'Run', 'Shared', 'Side', 'Status', 'Step',
+    'Term', 'Text', 'TimedOut', 'Tree', 'UnfitAnswer', 'VARIABLE', 'Value', 'Way', 'Whether', 'World', 'ask', 'call',
+    'check', 'costs', 'derive', 'expressions', 'find', 'gained_parenthesis', 'limits', 'lost_parenthesis', 'plan',
+    'printed', 'read', 'read_act', 'read_body', 'read_explained', 'read_plan', 'read_printed', 'read_proof_line',
+    'read_recalled', 'read_refusal', 'read_run', 'read_shared', 'sides', 'tree_of', 'ways', 'written',
 ]
