@@ -7,12 +7,10 @@ ghost use Rattle.pks_terms.specs.Settling.{effects_of};
 ghost use Rattle.pks_terms.specs.Syntax.{negated};
 ghost use Rattle.pks_terms.specs.ValidProblems.{AssignsToPlace, IsValidProblem, ArePlaced};
 ghost use Rattle.pks_terms.specs.Views.{term_of, literal_of, literals_in, target_of, effect_of, instance_of, problem_of};
-ghost use Rattle.pks_kf.specs.Known.{literals_of};
 ghost use Rattle.pks_query_lookup.specs.Fives.{five_of};
-ghost use Rattle.pks_laws_forget.specs.Testing.{has, made_by, tells, had_value, fires_surely, fires_never, is_written, assigns, is_assigned};
+ghost use Rattle.pks_laws_forget.specs.Testing.{has, made_by, fires_surely, fires_never, is_written, assigns, is_assigned};
 ghost use Rattle.pks_history_forget.specs.Placed.{writes};
 
-use crate::objects::gives_value;
 use pks_query_lookup::five::Five;
 use pks_terms::literal::{Atom, Literal, equation};
 use pks_terms::problem::Problem;
@@ -63,43 +61,6 @@ pub(crate) fn made_by(x: &Target) -> Option<Literal>
         Target::Assign { place, value } => match place {
             Term::Obj(_) | Term::Param(_) => unreachable!(),
             Term::App { .. } => Some(equation(place, value, true)),
-        },
-    }
-}
-
-/// Whether the literal gives the value of the place.
-#[tactic(auto, unfolding(pks_terms::specs::Orders::term_eq))]
-fn tells(place: &Term, l: &Literal) -> bool
-    ensures { result ≡ tells (term_of place.now) (literal_of l.now) }
-{
-    match &l.atom {
-        Atom::Pred(_) => false,
-        Atom::Eq { left, right } => gives_value(left, right) && (l.positive && *left == *place),
-    }
-}
-
-/// Whether a known literal gives the value of the place.
-fn has_value(d: &Five, place: &Term) -> bool
-    ensures { result ≡ list_any (tells (term_of place.now)) (literals_of d.now.kf) }
-{
-    for l in d.kf.items() {
-        if tells(place, l) {
-            return true;
-        }
-    }
-    false
-}
-
-/// Whether a place that the target assigns has a known value.
-pub(crate) fn had_value(d: &Five, x: &Target) -> bool
-    requires { AssignsToPlace x.now }
-    ensures { result ≡ had_value (five_of d.now) (target_of x.now) }
-{
-    match x {
-        Target::Set(_) | Target::Unset(_) | Target::Clear(_) => true,
-        Target::Assign { place, .. } => match place {
-            Term::Obj(_) | Term::Param(_) => unreachable!(),
-            Term::App { .. } => has_value(d, place),
         },
     }
 }

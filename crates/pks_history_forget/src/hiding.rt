@@ -6,9 +6,9 @@ ghost use Rattle.pks_terms.specs.ValidProblems.{AssignsToPlace, IsValidProblem, 
 ghost use Rattle.pks_terms.specs.Views.{literal_of, effect_of, instance_of, problem_of};
 ghost use Rattle.pks_query_lookup.specs.Fives.{five_of};
 ghost use Rattle.pks_laws_forget.specs.Transparent.{gives_value};
-ghost use Rattle.pks_laws_forget.specs.Testing.{has, had_value, fires_surely, is_decided_to, is_decided, hides_nothing};
+ghost use Rattle.pks_laws_forget.specs.Testing.{has, fires_surely, is_decided_to, is_decided, hides_nothing};
 
-use crate::effects::{effects_of, fires_never, fires_surely, had_value, has, made_by};
+use crate::effects::{effects_of, fires_never, fires_surely, has, made_by};
 use crate::kept::{groups_last, literals_last, regions_last};
 use crate::objects::{gives_value, is_of_objects};
 use pks_query::databases::Db;
@@ -18,12 +18,11 @@ use pks_terms::problem::Problem;
 use pks_terms::schema::{Effect, Instance};
 use std::alloc::{AllocError, Global};
 
-/// Whether the effect surely fires, what it makes so is known after, and a place that it assigns had a known value.
+/// Whether the effect surely fires, and what it makes so is known after.
 fn is_done(before: &Five, after: &Five, e: &Effect, l: &Literal) -> bool
-    requires { AssignsToPlace e.now.target }
-    ensures { result ≡ (fires_surely (five_of before.now) (effect_of e.now) && (has (five_of after.now) (literal_of l.now) && had_value (five_of before.now) (effect_of e.now).target)) }
+    ensures { result ≡ (fires_surely (five_of before.now) (effect_of e.now) && has (five_of after.now) (literal_of l.now)) }
 {
-    fires_surely(before, e) && (has(after, l) && had_value(before, &e.target))
+    fires_surely(before, e) && has(after, l)
 }
 
 /// Whether the literal gives a place an object as its value.
@@ -38,7 +37,6 @@ fn is_of_place(l: &Literal) -> bool
 
 /// Whether the effect, which makes the literal so, is decided.
 fn is_decided_to(before: &Five, after: &Five, e: &Effect, l: &Literal) -> bool
-    requires { AssignsToPlace e.now.target }
     ensures { result ≡ is_decided_to (five_of before.now) (five_of after.now) (effect_of e.now) (literal_of l.now) }
 {
     (is_of_objects(l) && (is_done(before, after, e, l) || fires_never(before, e)))

@@ -1,5 +1,5 @@
 -- Two lists of literals that give the same values at all places but changed ones: a term in which none of these occurs has the same normal form by both.
-use Rattle.std.proofs.Common.{◌≡◌, ◌&&◌, ℕ, Bool, true, false, not, List, [], ◌∷◌, map, filter, Option, Some, None, option_and_then, refl, sym, ap, ◌∙◌}
+use Rattle.std.proofs.Common.{◌≡◌, ◌&&◌, ℕ, Bool, true, false, not, List, [], ◌∷◌, map, filter, Option, Some, None, option_and_then, refl, sym, ap, ◌∙◌, true≢false}
 use Rattle.std.specs.List.{list_all}
 use Rattle.std.specs.Option.{option_map_or}
 use Rattle.std.proofs.lemmas.Bool.{and_parts, not-true}
@@ -46,6 +46,18 @@ normal-term_of kg (Apply g ds) =
     either None = ap (λ es. Apply g (map Object es)) (sym (same_list ds))
     either (Some e) = refl
 
+-- an application that is a normal form is of the same function, at the arguments in normal form
+pub application_form : (kg : List Literal) (g f : ℕ) (vs us : List Inner) → normal kg (Apply g vs) ≡ Apply f us → (f ≡ g) × (us ≡ map (inner_normal kg) vs)
+unfolding normal
+application_form kg g f vs us e = either (option_and_then (λ ds. least (values_at kg g ds)) (all_some (map as_object (map (inner_normal kg) vs)))) e
+  where
+    either : (o : Option ℕ) → ◌≡◌ {A = Term} (option_map_or Object o (Apply g (map (inner_normal kg) vs))) (Apply f us) → (f ≡ g) × (us ≡ map (inner_normal kg) vs)
+    either None k =
+        let same : f ≡ g = cc in
+        let inside : us ≡ map (inner_normal kg) vs = cc in
+        (same, inside)
+    either (Some d) k = absurd (true≢false (sym (ap (λ (t : Term). is_application t) k)))
+
 module _ (s : Signature) (kf kg : List Literal) (changed : Term → Bool)
     (one : (f : ℕ) (ds : List ℕ) (e e' : ℕ) → IsIn e (values_at kg f ds) → IsIn e' (values_at kg f ds) → e ≡ e')
     (agree : (f : ℕ) (ds : List ℕ) → changed (place f ds) ≡ false → least (values_at kf f ds) ≡ least (values_at kg f ds))
@@ -80,7 +92,7 @@ module _ (s : Signature) (kf kg : List Literal) (changed : Term → Bool)
   normals-terms_of [] = refl
   normals-terms_of (u ∷ us) = λ i. normal-term_of kg u i ∷ normals-terms_of us i
 
-  normal_inners_again : (us : List Inner) → map (normal kg) (map term_of (map (inner_normal kg) us)) ≡ map (normal kg) (map term_of us)
+  pub normal_inners_again : (us : List Inner) → map (normal kg) (map term_of (map (inner_normal kg) us)) ≡ map (normal kg) (map term_of us)
   normal_inners_again us =
       ap (map (normal kg)) (sym (normals-terms_of us))
       ∙ map-map (normal kg) (normal kg) (map term_of us) ∙ map_alike (λ t. normal kg (normal kg t)) (normal kg) (term_again s kg one) (map term_of us)

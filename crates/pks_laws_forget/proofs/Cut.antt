@@ -40,7 +40,7 @@ use Rattle.pks_laws_forget.proofs.Trees.{Likens, like_trees}
 -- ---- sets stay sets
 
 module _ (p : Problem) where
-  abbrev SetSteps : List (Instance × Five) → Type 0
+  abbrev pub SetSteps : List (Instance × Five) → Type 0
   SetSteps xs = Each (λ (x : Instance × Five). AreSets x.1) xs
 
   grown_sets : (d : Five) (news : List Literal) → AreSets d → AreSets (grown p.signature d news)
@@ -54,27 +54,27 @@ module _ (p : Problem) where
   unfolding settle_round
   round_sets h a = record { start = grown_sets h.start (from_next p h.start h.steps) a.start; steps = steps_sets h.start h.steps a.steps }
 
-  rounds_sets : (n : ℕ) (h : History) → AreSetsAlong h → AreSetsAlong (settle_rounds p n h)
+  pub rounds_sets : (n : ℕ) (h : History) → AreSetsAlong h → AreSetsAlong (settle_rounds p n h)
   rounds_sets zero h a = a
   rounds_sets (suc n) h a = round_sets (settle_rounds p n h) (rounds_sets n h a)
 
-  tidied_sets_along : (h : History) → AreSetsAlong h → AreSetsAlong (tidied_history h)
+  pub tidied_sets_along : (h : History) → AreSetsAlong h → AreSetsAlong (tidied_history h)
   tidied_sets_along h a = record { start = tidied_sets h.start a.start; steps = each_map (λ (x : Instance × Five). AreSets x.1) (λ x. (x.0, tidied x.1)) h.steps (each_weaker (λ (x : Instance × Five). AreSets x.1) (λ (x : Instance × Five). AreSets (tidied x.1)) (λ x m. tidied_sets x.1 m) h.steps a.steps) }
 
-  last_sets : (d : Five) (xs : List (Instance × Five)) → AreSets d → SetSteps xs → AreSets (last_of d xs)
+  pub last_sets : (d : Five) (xs : List (Instance × Five)) → AreSets d → SetSteps xs → AreSets (last_of d xs)
   last_sets d [] m a = m
   last_sets d (x ∷ xs) m a = last_sets x.1 xs a.0 a.1
 
-  ordered_of : (h : History) → AreSetsAlong h → AreOrdered h.start h.steps
+  pub ordered_of : (h : History) → AreSetsAlong h → AreOrdered h.start h.steps
   ordered_of h a = (a.start.known, each_weaker (λ (x : Instance × Five). AreSets x.1) (λ (x : Instance × Five). IsOrdered literal_cmp x.1.kf) (λ x m. m.known) h.steps a.steps)
 
-  last_replaced : (xs : List (Instance × Five)) (d : Five) → SetSteps xs → AreSets d → SetSteps (steps_with_last xs d)
+  pub last_replaced : (xs : List (Instance × Five)) (d : Five) → SetSteps xs → AreSets d → SetSteps (steps_with_last xs d)
   last_replaced [] d a m = tt
   last_replaced (x ∷ []) d a m = (m, tt)
   last_replaced (x ∷ y ∷ xs) d a m = (a.0, last_replaced (y ∷ xs) d a.1 m)
 
 -- what is assumed and closed has what was known, and the same groups and regions till they are tidied
-assumed_more : (s : Signature) (d : Five) (c : Choice) (side : Side) → Within d.kf (assumed s d c side).kf × (d.kx ≡ (assumed s d c side).kx) × (d.lcw ≡ (assumed s d c side).lcw)
+pub assumed_more : (s : Signature) (d : Five) (c : Choice) (side : Side) → Within d.kf (assumed s d c side).kf × (d.kx ≡ (assumed s d c side).kx) × (d.lcw ≡ (assumed s d c side).lcw)
 unfolding assumed
 assumed_more s d (BranchOn c) AsTrue = (λ l i. added_in literal_cmp_total literal_cmp_tells d.kf c l (inl i), refl, refl)
 assumed_more s d (BranchOn c) AsFalse = (λ l i. added_in literal_cmp_total literal_cmp_tells d.kf (denials (filter (λ l. not (holds s d l)) c)) l (inl i), refl, refl)
@@ -86,12 +86,12 @@ assumed_more s d (Act x) AsTrue = (λ l i. i, refl, refl)
 assumed_more s d (Act x) AsFalse = (λ l i. i, refl, refl)
 assumed_more s d (Act x) (Is e) = (λ l i. i, refl, refl)
 
-rounds_have : (s : Signature) (n : ℕ) (d : Five) → Within d.kf (rounds s n d).kf
+pub rounds_have : (s : Signature) (n : ℕ) (d : Five) → Within d.kf (rounds s n d).kf
 unfolding round
 rounds_have s zero d l i = i
 rounds_have s (suc n) d l i = added_in literal_cmp_total literal_cmp_tells (rounds s n d).kf (additions s (rounds s n d)) l (inl (rounds_have s n d l i))
 
-rounds_leave : (s : Signature) (n : ℕ) (d : Five) → (d.kx ≡ (rounds s n d).kx) × (d.lcw ≡ (rounds s n d).lcw)
+pub rounds_leave : (s : Signature) (n : ℕ) (d : Five) → (d.kx ≡ (rounds s n d).kx) × (d.lcw ≡ (rounds s n d).lcw)
 unfolding round
 rounds_leave s zero d = (refl, refl)
 rounds_leave s (suc n) d = rounds_leave s n d

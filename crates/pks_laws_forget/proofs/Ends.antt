@@ -94,11 +94,11 @@ module _ (p : Problem) where
 same_five : (d e : Five) → forget d ≡ forget e → d.kf ≡ e.kf → d ≡ e
 same_five d e q r = λ i. record (q i) { kf = r i }
 
-abbrev head_five : Five → List (Instance × Five) → Five
+abbrev pub head_five : Five → List (Instance × Five) → Five
 head_five d [] = d
 head_five d (x ∷ xs) = x.1
 
-abbrev tail_steps : List (Instance × Five) → List (Instance × Five)
+abbrev pub tail_steps : List (Instance × Five) → List (Instance × Five)
 tail_steps [] = []
 tail_steps (x ∷ xs) = xs
 
@@ -106,7 +106,7 @@ same_known : (d e : Five) → Within d.kf e.kf → Within e.kf d.kf → IsOrdere
 same_known d e v w o q f = same_five d e f (same_members literal_cmp_total literal_cmp_tells d.kf e.kf o q v w)
 
 -- the same members and the same other sets: the same family
-along_same : (d : Five) (xs : List (Instance × Five)) (e : Five) (ys : List (Instance × Five)) → WithinAlong d xs e ys → WithinAlong e ys d xs → AreOrdered d xs → AreOrdered e ys → forget d ≡ forget e → forget_steps xs ≡ forget_steps ys → (d ≡ e) × (xs ≡ ys)
+pub along_same : (d : Five) (xs : List (Instance × Five)) (e : Five) (ys : List (Instance × Five)) → WithinAlong d xs e ys → WithinAlong e ys d xs → AreOrdered d xs → AreOrdered e ys → forget d ≡ forget e → forget_steps xs ≡ forget_steps ys → (d ≡ e) × (xs ≡ ys)
 along_same d [] e [] v w o q f g = (same_known d e v.0 w.0 o.0 q.0 f, refl)
 along_same d (x ∷ xs) e (y ∷ ys) v w o q f g =
     let rest = along_same x.1 xs y.1 ys v.2 w.2 o.1 q.1 (ap (head_five (forget d)) g) (ap tail_steps g) in
@@ -114,7 +114,7 @@ along_same d (x ∷ xs) e (y ∷ ys) v w o q f g =
 along_same d [] e (y ∷ ys) v w o q f g = absurd v
 along_same d (x ∷ xs) e [] v w o q f g = absurd v
 
-first_within : (d : Five) (xs : List (Instance × Five)) (e : Five) (ys : List (Instance × Five)) → WithinAlong d xs e ys → Within d.kf e.kf × (d.kx ≡ e.kx) × (d.lcw ≡ e.lcw)
+pub first_within : (d : Five) (xs : List (Instance × Five)) (e : Five) (ys : List (Instance × Five)) → WithinAlong d xs e ys → Within d.kf e.kf × (d.kx ≡ e.kx) × (d.lcw ≡ e.lcw)
 first_within d [] e [] w = w
 first_within d (x ∷ xs) e (y ∷ ys) w = w.0
 first_within d [] e (y ∷ ys) w = absurd w
@@ -174,6 +174,31 @@ module _ (s : Signature) (later big : Five) (inhabited : HasValues s) (within : 
 one_normal : (kf : List Literal) (t : Term) → is_some (as_object t) ≡ true → normal kf t ≡ t
 one_normal kf t a = let e : normal kf t ∷ [] ≡ t ∷ [] = objects_normal kf (t ∷ []) (a, tt) in cc
 
+-- groups and regions at objects are in normal form
+pub group_at_objects : (kf : List Literal) (g : List Literal) → Each IsOfObjects g → in_sequence g ≡ g → normal_group kf g ≡ g
+group_at_objects kf g a e = ap in_sequence (all_normal g a) ∙ e
+  where
+    all_normal : (ms : List Literal) → Each IsOfObjects ms → map (normal_literal kf) ms ≡ ms
+    all_normal [] a = refl
+    all_normal (m ∷ ms) a = λ j. literal_normal kf m a.0 j ∷ all_normal ms a.1 j
+
+pub entry_at_objects : (kf : List Literal) (r : Entry) → AreObjects (entry_terms r) → set_of atom_cmp r.listed ≡ r.listed → normal_entry kf r ≡ r
+entry_at_objects kf r o l =
+    let ss = slots r.pattern.slots (each_front (λ t. is_some (as_object t) ≡ true) (fixed_terms r.pattern.slots) _ o) in
+    let made = atoms r.listed (each_back (λ t. is_some (as_object t) ≡ true) (fixed_terms r.pattern.slots) _ o) in
+    λ k. record { pattern = record { predicate = r.pattern.predicate; slots = ss k }; listed = (ap (set_of atom_cmp) made ∙ l) k }
+  where
+    slots : (ss : List (Option Term)) → AreObjects (fixed_terms ss) → map (option_map (normal kf)) ss ≡ ss
+    slots [] a = refl
+    slots (None ∷ ss) a = ap (λ (us : List (Option Term)). None ∷ us) (slots ss a)
+    slots (Some t ∷ ss) a = λ k. Some (one_normal kf t a.0 k) ∷ slots ss a.1 k
+
+    atoms : (xs : List Atom) → AreObjects (flat_map (λ (a : Atom). a.arguments) xs) → map (normal_atom kf) xs ≡ xs
+    atoms [] a = refl
+    atoms (x ∷ xs) a = λ k.
+        record { predicate = x.predicate; arguments = objects_normal kf x.arguments (each_front (λ t. is_some (as_object t) ≡ true) x.arguments _ a) k }
+        ∷ atoms xs (each_back (λ t. is_some (as_object t) ≡ true) x.arguments _ a) k
+
 -- ---- within a closed family nothing clashes
 
 module _ (p : Problem) (inhabited : HasValues p.signature) where
@@ -183,14 +208,14 @@ module _ (p : Problem) (inhabited : HasValues p.signature) where
       ap is_some (nothing_found (λ l. holds p.signature d (negated l)) d.kf
       (λ l i h. not_denied p.signature e inhabited sat fine l (w l i) (holds_grows p.signature e inhabited sat fine d w g r (negated l) h)))
 
-  quiet_within : (d : Five) (xs : List (Instance × Five)) (e : Five) (ys : List (Instance × Five)) → WithinAlong d xs e ys → ClosedAlong p e ys → (is_some (first_clash p.signature d) || list_any (λ (x : Instance × Five). is_some (first_clash p.signature x.1)) xs) ≡ false
+  pub quiet_within : (d : Five) (xs : List (Instance × Five)) (e : Five) (ys : List (Instance × Five)) → WithinAlong d xs e ys → ClosedAlong p e ys → (is_some (first_clash p.signature d) || list_any (λ (x : Instance × Five). is_some (first_clash p.signature x.1)) xs) ≡ false
   quiet_within d [] e [] w c = ap (λ b. b || false) (quiet_below d e w.0 w.1 w.2 c.0 c.1)
   quiet_within d (x ∷ xs) e (y ∷ ys) w c =
       ap (λ b. b || (is_some (first_clash p.signature x.1) || list_any (λ (x : Instance × Five). is_some (first_clash p.signature x.1)) xs)) (quiet_below d e w.0.0 w.0.1 w.0.2 c.0.0 c.0.1) ∙ quiet_within x.1 xs y.1 ys w.2 c.3
   quiet_within d [] e (y ∷ ys) w c = absurd w
   quiet_within d (x ∷ xs) e [] w c = absurd w
 
-  first_closed : (e : Five) (ys : List (Instance × Five)) → ClosedAlong p e ys → IsSaturated p.signature e × (first_clash p.signature e ≡ None)
+  pub first_closed : (e : Five) (ys : List (Instance × Five)) → ClosedAlong p e ys → IsSaturated p.signature e × (first_clash p.signature e ≡ None)
   first_closed e [] c = c
   first_closed e (y ∷ ys) c = c.0
 
@@ -338,30 +363,10 @@ module _ (p : Problem) (inhabited : HasValues p.signature) where
     -- ---- with the other sets in normal form
 
     group_normal : (kf : List Literal) (g : List Literal) → IsIn g before.kx → normal_group kf g ≡ g
-    group_normal kf g j = ap in_sequence (all_normal g (each_in (LastsAsGroup before after (effects_of p i)) before.kx g start.lasting j).0) ∙ each_in (λ g. in_sequence g ≡ g) before.kx g start.sequenced j
-      where
-        all_normal : (ms : List Literal) → Each IsOfObjects ms → map (normal_literal kf) ms ≡ ms
-        all_normal [] a = refl
-        all_normal (m ∷ ms) a = λ j. literal_normal kf m a.0 j ∷ all_normal ms a.1 j
+    group_normal kf g j = group_at_objects kf g (each_in (LastsAsGroup before after (effects_of p i)) before.kx g start.lasting j).0 (each_in (λ g. in_sequence g ≡ g) before.kx g start.sequenced j)
 
     entry_normal : (kf : List Literal) (r : Entry) → IsIn r before.lcw → normal_entry kf r ≡ r
-    entry_normal kf r j =
-        let o = each_in (λ r. AreObjects (entry_terms r)) before.lcw r start.objects j in
-        let l = each_in (λ (r : Entry). set_of atom_cmp r.listed ≡ r.listed) before.lcw r start.listed j in
-        let ss = slots r.pattern.slots (each_front (λ t. is_some (as_object t) ≡ true) (fixed_terms r.pattern.slots) _ o) in
-        let made = atoms r.listed (each_back (λ t. is_some (as_object t) ≡ true) (fixed_terms r.pattern.slots) _ o) in
-        λ k. record { pattern = record { predicate = r.pattern.predicate; slots = ss k }; listed = (ap (set_of atom_cmp) made ∙ l) k }
-      where
-        slots : (ss : List (Option Term)) → AreObjects (fixed_terms ss) → map (option_map (normal kf)) ss ≡ ss
-        slots [] a = refl
-        slots (None ∷ ss) a = ap (λ (us : List (Option Term)). None ∷ us) (slots ss a)
-        slots (Some t ∷ ss) a = λ k. Some (one_normal kf t a.0 k) ∷ slots ss a.1 k
-
-        atoms : (xs : List Atom) → AreObjects (flat_map (λ (a : Atom). a.arguments) xs) → map (normal_atom kf) xs ≡ xs
-        atoms [] a = refl
-        atoms (x ∷ xs) a = λ k.
-            record { predicate = x.predicate; arguments = objects_normal kf x.arguments (each_front (λ t. is_some (as_object t) ≡ true) x.arguments _ a) k }
-            ∷ atoms xs (each_back (λ t. is_some (as_object t) ≡ true) x.arguments _ a) k
+    entry_normal kf r j = entry_at_objects kf r (each_in (λ r. AreObjects (entry_terms r)) before.lcw r start.objects j) (each_in (λ (r : Entry). set_of atom_cmp r.listed ≡ r.listed) before.lcw r start.listed j)
 
     pub first_tidied : (moment next : Five) → Follows p i before after moment next → Follows p i before after (tidied moment) next
     unfolding tidied

@@ -6,15 +6,15 @@ use Rattle.std.proofs.lemmas.Bool.{or_cases, or_left, or_right, and_parts, and_f
 use Rattle.std.proofs.lemmas.Option.{none-some}
 use Rattle.pks_terms.specs.Sets.{Each, IsIn, all_some}
 use Rattle.pks_terms.specs.Syntax.{Object, Parameter, Apply, Inner, Term, object, term_of, place, as_object, Relation, Named, Equality, Literal, Atom, negated}
-use Rattle.pks_terms.specs.Orders.{term_cmp, term_eq, in_order, literal, equation, inequation, number_of, arguments_of}
+use Rattle.pks_terms.specs.Orders.{term_cmp, term_eq, in_order, literal, inequation, number_of, arguments_of}
 use Rattle.pks_terms.specs.Signatures.{Signature, HasValues}
-use Rattle.pks_terms.specs.Databases.{Entry, Five, Told, value_if_at, told, values_at, least, applied, normal, normal_literal, is_known, is_evident, is_plain, differ, some_differ, fits, is_shut_out, is_closed_off, holds}
+use Rattle.pks_terms.specs.Databases.{Entry, Five, Told, value_if_at, told, values_at, least, applied, inner_normal, normal, normal_literal, is_known, is_evident, is_plain, differ, some_differ, fits, is_shut_out, is_closed_off, holds}
 use Rattle.pks_terms.specs.Closure.{first_clash, is_application, applications_in}
 use Rattle.pks_terms.specs.Actions.{Target, Set, Unset, Clear, Assign, Effect}
 use Rattle.pks_terms.specs.Spoiling.{may_fire, may_change}
 use Rattle.pks_terms.specs.Progress.{fixed_terms, entry_terms}
 use Rattle.pks_terms.specs.Saturated.{Within, IsSaturated}
-use Rattle.pks_terms.proofs.ListLaws.{each_in, each_of, each_from_all, all_from_each, each_front, each_back, found_in, any_in, in_filter, in_filtered, in_appended}
+use Rattle.pks_terms.proofs.ListLaws.{each_in, each_of, each_from_all, all_from_each, each_front, each_back, found_in, any_in, in_filter, in_filtered, in_appended, in_mapped}
 use Rattle.pks_terms.proofs.OrderLaws.{term_cmp_tells, same_term}
 use Rattle.pks_terms.specs.Totality.{term_cmp_total}
 use Rattle.pks_laws.proofs.Least.{in_left, in_right, in_filter_map, term_eq_itself, one_value, least_one, value_literal}
@@ -22,12 +22,12 @@ use Rattle.pks_laws.proofs.ClosedAgain.{holds-normal}
 use Rattle.pks_laws.proofs.Values.{least_in}
 use Rattle.pks_laws.proofs.Holding.{eqb_comm, same_objects_itself}
 use Rattle.pks_laws.proofs.NormalMembers.{eq_turned}
-use Rattle.pks_laws_forget.specs.Transparent.{AreObjects, is_named, IsOfObjects, gives_value, IsOfPlace, left_of, Makes, is_about, assigns_in, is_elsewhere, Assigns, HadValue, SurelyFires, NeverFires, IsDecided, IsAssigned, IsUntouched, IsKept, LastsAsGroup}
+use Rattle.pks_laws_forget.specs.Transparent.{AreObjects, is_named, IsOfObjects, gives_value, IsOfPlace, left_of, Makes, is_about, assigns_in, is_elsewhere, Assigns, SurelyFires, NeverFires, IsDecided, IsAssigned, IsUntouched, IsKept, LastsAsGroup}
 use Rattle.pks_laws_forget.proofs.Lists.{not_twice, negated_twice, nothing_found, any_each}
 use Rattle.pks_laws_forget.proofs.Alike.{objects_stay, normal_relation, normal_sign, normal_arguments, negated_normal, evident_equation, found_known, holds_cases, evident_holds, off_holds, known_holds, differ_holds, not_denied, some_differ_alike, not_apart}
-use Rattle.pks_laws_forget.proofs.Agreeing.{objects_all, objects_are, normal_agrees, normals_agree}
-use Rattle.pks_laws_forget.specs.Testing.{is_of_objects}
-use Rattle.pks_laws_forget.proofs.Objects.{of_objects, of_objects_test, objects_normal, literal_normal, others_differ, objects_shut_out, denied_by, makes_one, none_apart, denies, denies_about, named_gives_none, OfPlace, of_place, objects_of_place, none_inside, place_is, equation_is}
+use Rattle.pks_laws_forget.proofs.Agreeing.{objects_all, objects_are, application_form, normal_agrees, normals_agree, normal_inners_again}
+use Rattle.pks_laws_forget.specs.Testing.{are_objects, is_of_objects}
+use Rattle.pks_laws_forget.proofs.Objects.{of_objects, of_objects_test, objects_normal, literal_normal, others_differ, objects_shut_out, denied_by, makes_one, none_apart, denies, denies_about, named_gives_none, OfPlace, of_place, objects_of_place, none_inside, place_is, literal_of_place, terms_of_place, negated_place}
 
 pub same_predicate : (p q : ℕ) → Named p ≡ Named q → p ≡ q
 same_predicate p q e = cc
@@ -405,26 +405,51 @@ module _ (s : Signature) (before after later moment : Five) (es : List Effect) (
   unfolding normal
   object_normal e = refl
 
-  pub had_value : (x : Target) (t : Term) → Assigns x t → HadValue before x → (u : ℕ) × IsIn (equation t (object u)) before.kf
-  had_value (Assign f ts v) t a h = (h.0, subst (λ y. IsIn (equation y (object h.0)) before.kf) a h.1)
-  had_value (Set b) t a h = absurd a
-  had_value (Unset b) t a h = absurd a
-  had_value (Clear y) t a h = absurd a
+  -- ---- an assigned place had a value, or no literal gives it one
 
-  pub assigned_value : (t : Term) → IsAssigned before es t → (u : ℕ) × IsIn (equation t (object u)) before.kf
-  assigned_value t a = ⊎_elim (λ k. had_value a.effect.target t a.assigns k.2) (λ n. absurd (fires_or_never a.effect a.among a.fires n.0)) (made_of a.effect a.among).known
+  -- no literal gives the term a value, before or then, and an effect may change it
+  abbrev pub IsBare : Term → Type 0
+  IsBare t = (normal all t ≡ t) × (normal before.kf t ≡ t) × (is_changed t ≡ true)
 
-  pub said : (k : Literal) → IsIn k before.kf → (q : OfPlace k) → IsAssigned before es (left_of k) → Said k
+  pub least_there : (es : List ℕ) (e : ℕ) → least es ≡ Some e → IsIn e es
+  least_there es e h = least_in (λ x. IsIn x es) es e (each_of (λ x. IsIn x es) es (λ x i. i)) h
+
+  pub bare_normal : (kf : List Literal) (f : ℕ) (us : List Inner) (ds : List ℕ) → all_some (map as_object us) ≡ Some ds → least (values_at kf f ds) ≡ None → normal kf (Apply f us) ≡ Apply f us
+  unfolding normal
+  bare_normal kf f us ds q n =
+      ap (applied as_object kf f) (objects_stay kf us ds q) ∙ ap (λ o. option_map_or Object (option_and_then (λ ds. least (values_at kf f ds)) o) (Apply f us)) q
+      ∙ ap (λ o. option_map_or Object o (Apply f us)) n
+
+  pub none_first : (f : ℕ) (ds : List ℕ) → least (values_at all f ds) ≡ None → (o : Option ℕ) → least (values_at before.kf f ds) ≡ o → least (values_at before.kf f ds) ≡ None
+  none_first f ds n None r = r
+  none_first f ds n (Some e) r =
+      absurd (none_least (values_at all f ds) e (value_from all f ds e (first_in (Told' f ds e) (value_literal before.kf f ds e (least_there (values_at before.kf f ds) e r)))) n)
+
+  pub valued_or_bare : (f : ℕ) (us : List Inner) (ds : List ℕ) → all_some (map as_object us) ≡ Some ds → is_changed (Apply f us) ≡ true → ((u : ℕ) × IsIn u (values_at all f ds)) ⊎ IsBare (Apply f us)
+  valued_or_bare f us ds q c =
+      elim (least (values_at all f ds)) as (λ o. least (values_at all f ds) ≡ o → ((u : ℕ) × IsIn u (values_at all f ds)) ⊎ IsBare (Apply f us)) [
+        | Some e ↦ λ h. inl (e, least_there (values_at all f ds) e h)
+        | None ↦ λ h. inr (bare_normal all f us ds q h, bare_normal before.kf f us ds q (none_first f ds h (least (values_at before.kf f ds)) refl), c)
+      ] refl
+
+  -- the value that a changed place has then it had before
+  pub value_known : (f : ℕ) (us : List Inner) (ds : List ℕ) (u : ℕ) → all_some (map as_object us) ≡ Some ds → is_changed (Apply f us) ≡ true → IsIn u (values_at all f ds) → IsIn (Told' f ds u) before.kf
+  value_known f us ds u q c i = value_literal before.kf f ds u (value_first f ds u (ap (λ ws. is_changed (Apply f ws)) (sym (objects_are us ds q)) ∙ c) i)
+
+  pub said : (k : Literal) → IsIn k before.kf → (q : OfPlace k) → IsAssigned before es (left_of k) → Said k ⊎ IsBare (Apply q.fun q.arguments)
   unfolding normal_literal
   said k i q a =
-      let w = assigned_value (left_of k) a in
       let ds = objects_of_place q.arguments q.at_objects in
       let at_place : Apply q.fun q.arguments ≡ place q.fun ds.0 = ap (Apply q.fun) (objects_are q.arguments ds.0 ds.1) in
-      let value : IsIn (Told' q.fun ds.0 w.0) before.kf = subst (λ l. IsIn l before.kf) (ap (λ t. equation t (object w.0)) (place_left k q ∙ at_place) ∙ equation_is q.fun (map Object ds.0) w.0) w.1 in
-      let there : IsIn w.0 (values_at all q.fun ds.0) = value_from all q.fun ds.0 w.0 (first_in (Told' q.fun ds.0 w.0) value) in
+      let changed : is_changed (Apply q.fun q.arguments) ≡ true = ap is_changed (sym (place_left k q)) ∙ assigned_changed (left_of k) a in
+      ⊎_elim
+      (λ w.
+      let value : IsIn (Told' q.fun ds.0 w.0) before.kf = value_known q.fun q.arguments ds.0 w.0 ds.1 changed w.1 in
       let sides : map (normal all) k.arguments ≡ object w.0 ∷ object q.value ∷ [] =
-      ap (λ (x : Literal). map (normal all) x.arguments) q.is ∙ (λ j. place_normal q.fun q.arguments ds.0 w.0 ds.1 there j ∷ object_normal q.value j ∷ []) in
-      (w.0, q.value, (λ j. literal (relation_is k q j) (sides j) k.positive), sides, right k.positive q.fun ds.0 w.0 q.value (at_objects k q ds.0 at_place i) value)
+      ap (λ (x : Literal). map (normal all) x.arguments) q.is ∙ (λ j. place_normal q.fun q.arguments ds.0 w.0 ds.1 w.1 j ∷ object_normal q.value j ∷ []) in
+      inl (w.0, q.value, (λ j. literal (relation_is k q j) (sides j) k.positive), sides, right k.positive q.fun ds.0 w.0 q.value (at_objects k q ds.0 at_place i) value))
+      (λ b. inr b)
+      (valued_or_bare q.fun q.arguments ds.0 ds.1 changed)
     where
       relation_is : (k : Literal) (q : OfPlace k) → k.relation ≡ Equality
       relation_is k q = ap (λ (x : Literal). x.relation) q.is
@@ -474,6 +499,42 @@ module _ (s : Signature) (before after later moment : Five) (es : List Effect) (
   off_named d (Named p) ts b h = refl
   off_named d Equality ts b h = absurd (true≢false (sym h))
 
+  -- ---- a changed place without a value
+
+  -- what stays doesn't become it
+  pub form_unchanged : (t : Term) (f : ℕ) (us : List Inner) → stays t ≡ true → normal all t ≡ Apply f us → is_changed (Apply f us) ≡ true → ⊥
+  unfolding normal
+  form_unchanged (Object d) f us h e c = true≢false (sym (ap (λ (t : Term). is_application t) e))
+  form_unchanged (Parameter d) f us h e c = true≢false (sym (ap (λ (t : Term). is_application t) e))
+  form_unchanged (Apply g vs) f us h e c =
+      let q = and_parts (not (is_changed (Apply g vs))) _ h in
+      let r = application_form later.kf g f vs us (sym (normal_one (Apply g vs) h) ∙ e) in
+      let again = changed_alike g (map (inner_normal later.kf) vs) vs (normal_inners_again s all later.kf is_changed one_later least_agrees changed_alike vs) in
+      true≢false (sym c ∙ (λ i. is_changed (Apply (r.0 i) (r.1 i))) ∙ again ∙ not-true _ q.0)
+
+  in_of_order : (r : Relation) (ts : List Term) (t : Term) → IsIn t (in_order r ts) → IsIn t ts
+  in_of_order Equality (u ∷ v ∷ []) t i = elim (is_lt (term_cmp u v)) as (λ c. IsIn t (cond c (v ∷ u ∷ []) (u ∷ v ∷ [])) → IsIn t (u ∷ v ∷ [])) [ true ↦ turned | false ↦ λ j. j ] i
+    where
+      turned : IsIn t (v ∷ u ∷ []) → IsIn t (u ∷ v ∷ [])
+      turned (inl e) = inr (inl e)
+      turned (inr (inl e)) = inl e
+      turned (inr (inr j)) = absurd j
+  in_of_order Equality [] t i = i
+  in_of_order Equality (u ∷ []) t i = i
+  in_of_order Equality (u ∷ v ∷ w ∷ ts) t i = i
+  in_of_order (Named p) ts t i = i
+
+  normal_terms : (l : Literal) → (normal_literal all l).arguments ≡ in_order l.relation (map (normal all) l.arguments)
+  unfolding normal_literal literal
+  normal_terms l = refl
+
+  pub bare_stays : (l m : Literal) (q : OfPlace m) → all_stay l.arguments ≡ true → IsBare (Apply q.fun q.arguments) → normal_literal all l ≡ m → ⊥
+  bare_stays l m q a b e =
+      let there : IsIn (let t : Term = Apply q.fun q.arguments in t) m.arguments = subst (λ (x : Literal). IsIn (let t : Term = Apply q.fun q.arguments in t) x.arguments) (sym q.is) (inl refl) in
+      let i = in_of_order l.relation (map (normal all) l.arguments) (Apply q.fun q.arguments) (subst (IsIn (let t : Term = Apply q.fun q.arguments in t)) (ap (λ (x : Literal). x.arguments) (sym e) ∙ normal_terms l) there) in
+      let r = in_mapped (normal all) l.arguments (Apply q.fun q.arguments) i in
+      form_unchanged r.0 q.fun q.arguments (each_in (λ t. stays t ≡ true) l.arguments r.0 (stays_each l.arguments a) r.1) r.2 b.2
+
   pub equation_later : (l : Literal) → is_named l.relation ≡ false → all_stay l.arguments ≡ true → holds s G l ≡ true → holds s later l ≡ true
   equation_later l n a h =
       ⊎_elim by_known
@@ -495,12 +556,49 @@ module _ (s : Signature) (before after later moment : Five) (es : List Effect) (
           (λ w. absurd (true≢false (sym w.0 ∙ same_kind f.0 l f.2 ∙ n)))
           (λ w. let q = of_place f.0 w in
           ⊎_elim
-          (λ c. let v = said f.0 o.0 q c in holds_by l (literal Equality (object v.0 ∷ object v.1 ∷ []) f.0.positive) (sym (normal_same l a) ∙ sym f.2 ∙ v.2) (right_holds s later v.0 v.1 f.0.positive v.4))
+          (λ c.
+          ⊎_elim (λ v. holds_by l (literal Equality (object v.0 ∷ object v.1 ∷ []) f.0.positive) (sym (normal_same l a) ∙ sym f.2 ∙ v.2) (right_holds s later v.0 v.1 f.0.positive v.4))
+          (λ b. absurd (bare_stays l f.0 q a b (sym f.2 ∙ literal_of_place all f.0 q b.0)))
+          (said f.0 o.0 q c))
           (λ c. of_stays f.0 c.0 (place_literal_stays f.0 q c.1) f.2)
           (kept_place f.0 o.0 w))
           o.1)
           (λ i. let b = back_of f.0 i in of_stays f.0 b.0 b.1 f.2)
           (in_appended own back f.0 f.1)
+
+  -- what is said of it then was said before
+  objects_there : (d e : ℕ) → are_objects (in_order Equality (object d ∷ object e ∷ [])) ≡ true
+  objects_there d e =
+      elim (is_lt (term_cmp (object d) (object e))) as (λ c. are_objects (cond c (object e ∷ object d ∷ []) (object d ∷ object e ∷ [])) ≡ true) [ true ↦ refl | false ↦ refl ]
+
+  bare_not_said : (m k : Literal) (q : OfPlace m) → Said k → normal_literal all k ≡ m → ⊥
+  bare_not_said m k q v e =
+      true≢false
+      (sym (objects_there v.0 v.1) ∙ sym (ap are_objects (literal_arguments Equality (object v.0 ∷ object v.1 ∷ []) k.positive)) ∙ ap (λ (x : Literal). are_objects x.arguments) (sym v.2 ∙ e ∙ q.is))
+
+  pub bare_before : (m : Literal) (q : OfPlace m) → IsBare (Apply q.fun q.arguments) → (k : Literal) → IsIn k all → normal_literal all k ≡ m → IsIn m before.kf
+  bare_before m q b k j e =
+      ⊎_elim
+      (λ i. let o = own_of k i in
+      ⊎_elim
+      (λ w. absurd (true≢false (sym w.0 ∙ ap is_named (sym (normal_relation all k) ∙ ap (λ (x : Literal). x.relation) e) ∙ ap (λ (x : Literal). is_named x.relation) q.is)))
+      (λ w. let p = of_place k w in
+      ⊎_elim
+      (λ a. ⊎_elim (λ v. absurd (bare_not_said m k q v e)) (λ c. subst (λ x. IsIn x before.kf) (sym (literal_of_place all k p c.0) ∙ e) o.0) (said k o.0 p a))
+      (λ c. absurd (bare_stays k m q (place_literal_stays k p c.1) b e))
+      (kept_place k o.0 w))
+      o.1)
+      (λ i. absurd (bare_stays k m q (back_of k i).1 b e))
+      (in_appended own back k j)
+
+  pub bare_holds : (m : Literal) (q : OfPlace m) → IsBare (Apply q.fun q.arguments) → holds s G m ≡ true → holds s before m ≡ true
+  bare_holds m q b h =
+      ⊎_elim
+      (λ k. let f = found_known all m k in known_holds s before m m (bare_before m q b f.0 f.1 (f.2 ∙ literal_of_place all m q b.0)) refl)
+      (λ r. ⊎_elim
+      (λ e. evident_holds s before m (ap (λ ts. is_evident s m.relation ts m.positive) (terms_of_place before.kf m q b.1 ∙ sym (terms_of_place all m q b.0)) ∙ e))
+      (λ c. absurd (true≢false (sym (off_named G m.relation m.arguments m.positive c) ∙ ap (λ (x : Literal). is_named x.relation) q.is))) r)
+      (holds_cases s G m h)
 
   pub differ_later : (t u : Term) → stays t ≡ true → stays u ≡ true → differ s all t u ≡ true → differ s later.kf t u ≡ true
   unfolding literal
@@ -647,7 +745,7 @@ module _ (s : Signature) (before after later moment : Five) (es : List Effect) (
   pub place_free : (l : Literal) → IsIn l before.kf → IsOfPlace l → holds s G (negated l) ≡ true → ⊥
   place_free l i o h =
       ⊎_elim
-      (λ a. changed_free (said l i (of_place l o) a))
+      (λ a. ⊎_elim changed_free (λ b. first_denied l i (bare_holds (negated l) (negated_place l (of_place l o)) b h)) (said l i (of_place l o) a))
       (λ c. later_denied l c.0 (equation_later (negated l) unnamed (place_literal_stays l (of_place l o) c.1) h))
       (kept_place l i o)
     where
@@ -665,6 +763,11 @@ module _ (s : Signature) (before after later moment : Five) (es : List Effect) (
           let sign : k.positive ≡ not l.positive = sym (literal_sign Equality (object r.0 ∷ object r.1 ∷ []) k.positive) ∙ ap (λ (x : Literal). x.positive) (sym r.2 ∙ e) ∙ literal_sign Equality (object v.0 ∷ object v.1 ∷ []) (not l.positive) in
           right_wrong r.0 r.1 v.0 v.1 k.positive r.4 (subst (IsRight v.0 v.1) (sym (ap not sign ∙ not_twice l.positive)) v.4) (sym r.2 ∙ e ∙ (λ x. literal Equality (object v.0 ∷ object v.1 ∷ []) (sym sign x)))
 
+      bare_wrong : (k : Literal) (v : Said l) (q : OfPlace k) → IsBare (Apply q.fun q.arguments) → normal_literal all k ≡ literal Equality (object v.0 ∷ object v.1 ∷ []) (not l.positive) → ⊥
+      bare_wrong k v q b e =
+          true≢false
+          (sym (objects_there v.0 v.1) ∙ sym (ap are_objects (literal_arguments Equality (object v.0 ∷ object v.1 ∷ []) (not l.positive))) ∙ ap (λ (x : Literal). are_objects x.arguments) (sym e ∙ literal_of_place all k q b.0 ∙ q.is))
+
       by_known : (v : Said l) (k : Literal) → IsIn k all → normal_literal all k ≡ literal Equality (object v.0 ∷ object v.1 ∷ []) (not l.positive) → ⊥
       by_known v k j e =
           ⊎_elim
@@ -672,7 +775,7 @@ module _ (s : Signature) (before after later moment : Five) (es : List Effect) (
           ⊎_elim
           (λ z. true≢false (sym z.0 ∙ ap is_named (sym (normal_relation all k) ∙ ap (λ (x : Literal). x.relation) e) ∙ literal_kind Equality (object v.0 ∷ object v.1 ∷ []) (not l.positive)))
           (λ z. ⊎_elim
-          (λ a. let r = said k w.0 (of_place k z) a in wrong_said k v r e)
+          (λ a. ⊎_elim (λ r. wrong_said k v r e) (λ b. bare_wrong k v (of_place k z) b e) (said k w.0 (of_place k z) a))
           (λ c. wrong_later k v c.0 (place_literal_stays k (of_place k z) c.1) e)
           (kept_place k w.0 z)) w.1)
           (λ m. let b = back_of k m in wrong_later k v b.0 b.1 e)

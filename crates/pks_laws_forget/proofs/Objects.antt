@@ -3,8 +3,8 @@ use Rattle.std.proofs.Common.{◌≡◌, ◌||◌, ◌==◌, ℕ, Bool, true, fa
 use Rattle.std.specs.List.{list_all}
 use Rattle.std.proofs.lemmas.Bool.{or_cases, or_left, or_right, and_parts, and_from, cases_Bool, eq-eqb, eqb-true, not_from_false, false_from_ne_true, not-true}
 use Rattle.pks_terms.specs.Sets.{IsIn, all_some, one_replaced}
-use Rattle.pks_terms.specs.Syntax.{Object, Parameter, Apply, Inner, Term, object, term_of, place, as_object, are_two_objects, Relation, Named, Equality, Literal, Atom}
-use Rattle.pks_terms.specs.Orders.{term_cmp, term_eq, in_order, literal, equation}
+use Rattle.pks_terms.specs.Syntax.{Object, Parameter, Apply, Inner, Term, object, term_of, place, as_object, are_two_objects, Relation, Named, Equality, Literal, Atom, negated}
+use Rattle.pks_terms.specs.Orders.{term_cmp, term_eq, in_order, literal, equation, inequation}
 use Rattle.pks_terms.specs.Signatures.{Signature}
 use Rattle.pks_terms.specs.Databases.{Entry, normal, normal_literal, is_evident, is_plain, differ, some_differ, fits, is_shut_out}
 use Rattle.pks_terms.specs.Closure.{term_steps, is_application, applications_in}
@@ -13,7 +13,7 @@ use Rattle.pks_terms.specs.Spoiling.{may_make_true, may_make_false}
 use Rattle.pks_terms.specs.Progress.{fixed_terms, entry_terms}
 use Rattle.pks_terms.proofs.ListLaws.{each_front, each_back, in_mapped}
 use Rattle.pks_laws.proofs.Holding.{eqb_comm}
-use Rattle.pks_laws_forget.specs.Transparent.{AreObjects, is_named, IsOfObjects, is_place, gives_value, IsOfPlace, Makes, is_about, at_other_objects}
+use Rattle.pks_laws_forget.specs.Transparent.{AreObjects, is_named, IsOfObjects, is_place, gives_value, IsOfPlace, left_of, Makes, is_about, at_other_objects}
 use Rattle.pks_laws_forget.specs.Testing.{are_objects, is_of_objects}
 use Rattle.pks_laws_forget.proofs.Lists.{not_twice}
 
@@ -237,6 +237,28 @@ none_inside (Apply g vs ∷ us) h = absurd (true≢false (sym h))
 pub place_is : (f : ℕ) (ds : List ℕ) → is_place (place f ds) ≡ true
 place_is f [] = refl
 place_is f (d ∷ ds) = place_is f ds
+
+-- a literal of a place that no literal gives a value is in normal form
+module _ (kf : List Literal) (l : Literal) (q : OfPlace l) (bare : normal kf (Apply q.fun q.arguments) ≡ Apply q.fun q.arguments) where
+  pub terms_of_place : map (normal kf) l.arguments ≡ l.arguments
+  unfolding normal
+  terms_of_place = ap (λ (x : Literal). map (normal kf) x.arguments) q.is ∙ (λ i. bare i ∷ Object q.value ∷ []) ∙ ap (λ (x : Literal). x.arguments) (sym q.is)
+
+  pub literal_of_place : normal_literal kf l ≡ l
+  unfolding normal_literal literal term_cmp
+  literal_of_place = (λ i. literal l.relation (terms_of_place i) l.positive) ∙ (λ i. literal (q.is i).relation (q.is i).arguments l.positive) ∙ sym q.is
+
+-- the negation is of the same place, and so is what says that the place isn't an object
+abbrev pub negated_place : (l : Literal) → OfPlace l → OfPlace (negated l)
+negated_place l q = record { fun = q.fun; arguments = q.arguments; value = q.value; at_objects = q.at_objects; is = ap negated q.is }
+
+pub inequation_place : (f : ℕ) (us : List Inner) (e : ℕ) → list_all (λ t. is_some (as_object t)) us ≡ true → OfPlace (inequation (Apply f us) (object e))
+unfolding literal term_cmp
+inequation_place f us e o = record { fun = f; arguments = us; value = e; at_objects = o; is = refl }
+
+pub inequation_left : (f : ℕ) (us : List Inner) (e : ℕ) → left_of (inequation (Apply f us) (object e)) ≡ Apply f us
+unfolding literal term_cmp
+inequation_left f us e = refl
 
 -- an equation between an application and an object stands in order
 pub equation_is : (f : ℕ) (us : List Inner) (e : ℕ) → equation (Apply f us) (object e) ≡ record { relation = Equality; arguments = Apply f us ∷ Object e ∷ []; positive = true }

@@ -21,8 +21,8 @@ use Rattle.pks_laws_forget.specs.Transparent.{AreObjects, is_named, IsOfObjects,
 use Rattle.pks_laws_forget.proofs.Lists.{negated_twice, in_cond, any_each, any_more, self_or_other, replaced_alike, replaced_too}
 use Rattle.pks_laws_forget.proofs.Alike.{normal_relation, known_holds, group_closed, no_both, some_differ_alike, inner_step_normal, step_normal, member_grows, member_is}
 use Rattle.pks_laws_forget.proofs.Agreeing.{objects_are, normal-term_of}
-use Rattle.pks_laws_forget.proofs.Objects.{literal_normal, no_steps, no_applications, denied_by, makes_about, none_apart, named_gives_none, OfPlace, of_place, objects_of_place, none_inside, equation_is}
-use Rattle.pks_laws_forget.proofs.Given.{IsGiven, apart, assigned_changed, assigned_value, back_holds, back_of, changed_alike, changed_in, clash_free, each_stays, equation_later, equations_untouched, fires_or_never, first_in, into_back, is_own, kept_place, known_then, later_denied, literal_arguments, literal_kind, literal_named, literal_negated, made_later, made_of, none_differ, objects_do, objects_each, opposed, order_stays, place_left, place_literal_stays, place_or_objects, place_stays, region_holds, returns_in, same_predicate, some_differ_later, stays_each, stays_in, stays_or_opposed, surely_may, touched_in, touched_named, untouched_returns, value_first, value_from, value_later, why}
+use Rattle.pks_laws_forget.proofs.Objects.{literal_normal, no_steps, no_applications, denied_by, makes_about, none_apart, named_gives_none, OfPlace, of_place, objects_of_place, none_inside, inequation_place, inequation_left, equation_is}
+use Rattle.pks_laws_forget.proofs.Given.{IsGiven, apart, IsBare, assigned_changed, back_holds, bare_holds, back_of, changed_alike, changed_in, clash_free, each_stays, equation_later, equations_untouched, fires_or_never, first_in, into_back, is_own, kept_place, known_then, later_denied, literal_arguments, literal_kind, literal_named, literal_negated, made_later, made_of, none_differ, objects_do, objects_each, opposed, order_stays, place_left, place_literal_stays, place_or_objects, place_stays, region_holds, returns_in, same_predicate, some_differ_later, stays_each, stays_in, stays_or_opposed, surely_may, touched_in, touched_named, untouched_returns, value_first, value_from, value_known, value_later, valued_or_bare, why}
 
 module _ (s : Signature) (before after later moment : Five) (es : List Effect) (given : IsGiven s before after later moment es) where
   abbrev is_changed : Term → Bool
@@ -388,23 +388,62 @@ module _ (s : Signature) (before after later moment : Five) (es : List Effect) (
       ⊎_elim (λ z. inl (sym q ∙ eqb-true o e z)) (λ z. inr (subst (λ x. holds s G (inequation t (object x)) ≡ true) q z)) (or_cases (o == e) _ p.0)
   denied_or t u e (o ∷ os) (inr i) h = denied_or t u e os i (and_parts ((o == e) || holds s G (inequation t (object o))) _ h).1
 
+  -- of a changed place without a value no more is left out then than before
+  left_before : (f : ℕ) (us : List Inner) → list_all (λ t. is_some (as_object t)) us ≡ true → IsBare s before after later moment es given (Apply f us) → (os : List ℕ) (e : ℕ) → is_last_left s G (Apply f us) os e ≡ true → is_last_left s before (Apply f us) os e ≡ true
+  left_before f us a b [] e k = refl
+  left_before f us a b (o ∷ os) e k =
+      let q = and_parts ((o == e) || holds s G (inequation (Apply f us) (object o))) _ k in
+      and_from _ _
+      (⊎_elim (λ z. or_left _ _ z) (λ z. or_right _ _ (before_too o z)) (or_cases (o == e) _ q.0))
+      (left_before f us a b os e q.1)
+    where
+      before_too : (o : ℕ) → holds s G (inequation (Apply f us) (object o)) ≡ true → holds s before (inequation (Apply f us) (object o)) ≡ true
+      before_too o z = let m = inequation_place f us o a in bare_holds s before after later moment es given (inequation (Apply f us) (object o)) m (bare_there m) z
+        where
+          bare_there : (m : OfPlace (inequation (Apply f us) (object o))) → IsBare s before after later moment es given (Apply m.fun m.arguments)
+          bare_there m = subst (IsBare s before after later moment es given) (sym (inequation_left f us o) ∙ place_left s before after later moment es given (inequation (Apply f us) (object o)) m) b
+
+  range_valued : (f : ℕ) (us : List Inner) (u : ℕ) (k : Literal) → list_all (λ t. is_some (as_object t)) us ≡ true → IsIn (equation (Apply f us) (object u)) before.kf → IsIn k (by_range_of G (Apply f us)) → IsIn k all
+  range_valued f us u k a value j =
+      let t : Term = Apply f us in
+      let r = in_mapped (λ e. equation t (object e)) (filter (is_last_left s G t (range_of s t)) (range_of s t)) k j in
+      let z = in_filtered (is_last_left s G t (range_of s t)) (range_of s t) r.0 r.1 in
+      ⊎_elim
+      (λ e. first_in s before after later moment es given k (subst (λ x. IsIn x before.kf) (ap (λ x. equation t (object x)) e ∙ r.2) value))
+      (λ d. absurd (clash_free s before after later moment es given (equation t (object u)) (first_in s before after later moment es given (equation t (object u)) value) (ap (holds s G) (literal_negated Equality (t ∷ object u ∷ []) true) ∙ d)))
+      (denied_or t u r.0 (range_of s t) (value_ranged f us u a value r.0 z.0) z.1)
+
+  range_bare : (l k : Literal) (f : ℕ) (us : List Inner) → IsIn l before.kf → IsIn (let t : Term = Apply f us in t) (flat_map applications_in l.arguments) → list_all (λ t. is_some (as_object t)) us ≡ true → IsBare s before after later moment es given (Apply f us) → IsIn k (by_range_of G (Apply f us)) → IsIn k all
+  unfolding additions by_range
+  range_bare l k f us h i a b j =
+      let t : Term = Apply f us in
+      let r = in_mapped (λ e. equation t (object e)) (filter (is_last_left s G t (range_of s t)) (range_of s t)) k j in
+      let z = in_filtered (is_last_left s G t (range_of s t)) (range_of s t) r.0 r.1 in
+      let there : IsIn k (by_range_of before t) =
+      subst (λ x. IsIn x (by_range_of before t)) r.2
+      (in_map (λ e. equation t (object e)) (filter (is_last_left s before t (range_of s t)) (range_of s t)) r.0 (in_filter (is_last_left s before t (range_of s t)) (range_of s t) r.0 z.0 (left_before f us a b (range_of s t) r.0 z.1))) in
+      first_in s before after later moment es given k
+      (given.first_saturated k (in_right (flat_map (by_value before.kf) before.kf) _ k (in_right (flat_map (by_group s before) before.kx) _ k
+      (in_flat (λ l. flat_map (λ t. by_range_of before t) (flat_map applications_in l.arguments)) before.kf l k h (in_flat (λ t. by_range_of before t) (flat_map applications_in l.arguments) t k i there)))))
+
   range_assigned : (l k : Literal) (t : Term) → Assigned l → IsIn t (flat_map applications_in l.arguments) → IsIn k (by_range_of G t) → IsIn k all
   range_assigned l k t h i j =
       let q = h.1 in
       let is : Apply q.fun q.arguments ≡ t = one_application q.fun q.arguments q.value q.at_objects t (subst (λ (x : Literal). IsIn t (flat_map applications_in x.arguments)) q.is i) in
-      let w = assigned_value s before after later moment es given (left_of l) h.2 in
-      let value : IsIn (equation t (object w.0)) before.kf = subst (λ x. IsIn (equation x (object w.0)) before.kf) (place_left s before after later moment es given l q ∙ is) w.1 in
-      let r = in_mapped (λ e. equation t (object e)) (filter (is_last_left s G t (range_of s t)) (range_of s t)) k j in
-      let z = in_filtered (is_last_left s G t (range_of s t)) (range_of s t) r.0 r.1 in
-      let among : IsIn w.0 (range_of s t) = subst (λ x. IsIn w.0 (range_of s x)) is (value_ranged q.fun q.arguments w.0 q.at_objects (subst (λ x. IsIn (equation x (object w.0)) before.kf) (sym is) value) r.0 (subst (λ x. IsIn r.0 (range_of s x)) (sym is) z.0)) in
+      let ds = objects_of_place q.arguments q.at_objects in
+      let changed : is_changed (Apply q.fun q.arguments) ≡ true = ap is_changed (sym (place_left s before after later moment es given l q)) ∙ assigned_changed s before after later moment es given (left_of l) h.2 in
+      let there : IsIn k (by_range_of G (Apply q.fun q.arguments)) = subst (λ x. IsIn k (by_range_of G x)) (sym is) j in
       ⊎_elim
-      (λ e. first_in s before after later moment es given k (subst (λ x. IsIn x before.kf) (ap (λ x. equation t (object x)) e ∙ r.2) value))
-      (λ d. absurd (clash_free s before after later moment es given (equation t (object w.0)) (first_in s before after later moment es given (equation t (object w.0)) value) (ap (holds s G) (literal_negated Equality (t ∷ object w.0 ∷ []) true) ∙ d)))
-      (denied_or t w.0 r.0 (range_of s t) among z.1)
+      (λ w. range_valued q.fun q.arguments w.0 k q.at_objects (value_at q.fun q.arguments ds.0 w.0 ds.1 (value_known s before after later moment es given q.fun q.arguments ds.0 w.0 ds.1 changed w.1)) there)
+      (λ b. range_bare l k q.fun q.arguments h.0 (subst (λ x. IsIn x (flat_map applications_in l.arguments)) (sym is) i) q.at_objects b there)
+      (valued_or_bare s before after later moment es given q.fun q.arguments ds.0 ds.1 changed)
     where
       one_application : (f : ℕ) (us : List Inner) (e : ℕ) → list_all (λ t. is_some (as_object t)) us ≡ true → (t : Term) → IsIn t (flat_map applications_in (Apply f us ∷ Object e ∷ [])) → Apply f us ≡ t
       one_application f us e o t (inl q) = q
       one_application f us e o t (inr i) = ⊎_elim (λ k. absurd (subst (IsIn t) (none_inside us o) k)) (λ k. absurd k) (in_appended (filter is_application (map term_of us)) [] t i)
+
+      value_at : (f : ℕ) (us : List Inner) (ds : List ℕ) (u : ℕ) → all_some (map as_object us) ≡ Some ds → IsIn (record { relation = Equality; arguments = place f ds ∷ object u ∷ []; positive = true }) before.kf → IsIn (equation (Apply f us) (object u)) before.kf
+      value_at f us ds u q v = subst (λ l. IsIn l before.kf) (sym (equation_is f (map Object ds) u) ∙ ap (λ ws. equation (Apply f ws) (object u)) (sym (objects_are us ds q))) v
 
   range_in : (l k : Literal) (t : Term) → IsIn l all → IsIn t (flat_map applications_in l.arguments) → IsIn k (by_range_of G t) → IsIn k all
   range_in l k t i j h =

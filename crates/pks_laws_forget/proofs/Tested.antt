@@ -1,11 +1,11 @@
 -- A step that passes the test hides nothing.
-use Rattle.std.proofs.Common.{◌≡◌, ◌⊎◌, ◌&&◌, ◌||◌, ℕ, Bool, true, false, not, is_some, List, [], ◌∷◌, Option, Some, None, Ordering, Less, Equal, Greater, is_eq, refl, sym, ap, ◌∙◌, subst, inl, inr, ⊎_elim, true≢false}
+use Rattle.std.proofs.Common.{◌≡◌, ◌⊎◌, ◌&&◌, ◌||◌, Bool, true, false, not, is_some, List, Option, Some, None, Ordering, Less, Equal, Greater, is_eq, refl, sym, ap, ◌∙◌, subst, inl, inr, ⊎_elim, true≢false}
 use Rattle.std.specs.List.{list_any, list_all}
 use Rattle.std.specs.Option.{option_map_or}
 use Rattle.std.proofs.lemmas.Bool.{or_cases, and_parts, not-true}
 use Rattle.std.proofs.lemmas.Option.{none-some, same_Some}
 use Rattle.pks_terms.specs.Sets.{Each, IsIn}
-use Rattle.pks_terms.specs.Syntax.{Object, Apply, Inner, Term, object, as_object, Equality, Literal, negated, affirmed, denied}
+use Rattle.pks_terms.specs.Syntax.{Apply, Term, as_object, Literal, negated, affirmed, denied}
 use Rattle.pks_terms.specs.Orders.{literal_eq, conj_cmp, equation}
 use Rattle.pks_terms.specs.Databases.{Entry, entry_cmp, Five}
 use Rattle.pks_terms.specs.Actions.{Target, Set, Unset, Clear, Assign, Effect, Instance}
@@ -14,20 +14,20 @@ use Rattle.pks_terms.specs.Problems.{Problem}
 use Rattle.pks_terms.specs.Settling.{effects_of}
 use Rattle.pks_terms.proofs.ListLaws.{each_from_all, found_in}
 use Rattle.pks_terms.proofs.OrderLaws.{same_literal, same_term, conj_cmp_tells, entry_cmp_tells}
-use Rattle.pks_laws_forget.specs.Transparent.{AreObjects, IsOfObjects, gives_value, left_of, Makes, is_about, assigns_in, is_elsewhere, Assigns, HadValue, SurelyFires, NeverFires, IsDecided, IsWritten, IsAssigned, IsUntouched, IsKept, LastsAsGroup, IsTransparent}
-use Rattle.pks_laws_forget.specs.Testing.{has, are_objects, is_of_objects, made_by, tells, had_value, fires_surely, fires_never, is_decided_to, is_decided, is_written, assigns, is_assigned, is_untouched, is_kept, lasts_as_group, lasts_as_region, hides_nothing}
-use Rattle.pks_laws_forget.proofs.Objects.{of_objects, of_place, equation_is}
+use Rattle.pks_laws_forget.specs.Transparent.{AreObjects, IsOfObjects, gives_value, left_of, Makes, is_about, assigns_in, is_elsewhere, Assigns, SurelyFires, NeverFires, IsDecided, IsWritten, IsAssigned, IsUntouched, IsKept, LastsAsGroup, IsTransparent}
+use Rattle.pks_laws_forget.specs.Testing.{has, are_objects, is_of_objects, made_by, fires_surely, fires_never, is_decided_to, is_decided, is_written, assigns, is_assigned, is_untouched, is_kept, lasts_as_group, lasts_as_region, hides_nothing}
+use Rattle.pks_laws_forget.proofs.Objects.{of_objects}
 
 -- each element that passes has P
 each_passes : {X : Type 0} (P : X → Type 0) (q : X → Bool) → ((x : X) → q x ≡ true → P x) → (xs : List X) → list_all q xs ≡ true → Each P xs
 each_passes P q f xs h = each_from_all P q f xs h
 
-equal_of : (o : Ordering) → is_eq o ≡ true → o ≡ Equal
+pub equal_of : (o : Ordering) → is_eq o ≡ true → o ≡ Equal
 equal_of Less h = absurd (true≢false (sym h))
 equal_of Equal h = refl
 equal_of Greater h = absurd (true≢false (sym h))
 
-has_in : (d : Five) (l : Literal) → has d l ≡ true → IsIn l d.kf
+pub has_in : (d : Five) (l : Literal) → has d l ≡ true → IsIn l d.kf
 has_in d l h = let f = found_in (literal_eq l) d.kf h in subst (λ x. IsIn x d.kf) (sym (same_literal l f.0 f.2)) f.1
 
 surely : (d : Five) (e : Effect) → fires_surely d e ≡ true → SurelyFires d e
@@ -42,27 +42,8 @@ makes (Unset a) l h = same_Some (denied a) l h
 makes (Assign f ts v) l h = same_Some (equation (Apply f ts) v) l h
 makes (Clear y) l h = absurd (none-some l h)
 
--- a literal that gives the value of a place is an equation of it
-told_value : (f : ℕ) (us : List Inner) (l : Literal) → tells (Apply f us) l ≡ true → (e : ℕ) × (l ≡ equation (Apply f us) (object e))
-told_value f us l h =
-    let p = and_parts (gives_value l.relation l.arguments) _ h in
-    let q = and_parts l.positive _ p.1 in
-    let o = of_place l p.0 in
-    let same : Apply o.fun o.arguments ≡ Apply f us = sym (ap left_of o.is) ∙ same_term (left_of l) (Apply f us) q.1 in
-    (o.value, o.is ∙ (λ i. record { relation = Equality; arguments = same i ∷ Object o.value ∷ []; positive = q.0 i }) ∙ sym (equation_is f us o.value))
-
-value_had : (d : Five) (x : Target) → had_value d x ≡ true → HadValue d x
-value_had d (Assign f us v) h =
-    let g = found_in (tells (Apply f us)) d.kf h in
-    let t = told_value f us g.0 g.2 in (t.0, subst (λ l. IsIn l d.kf) t.1 g.1)
-value_had d (Set a) h = tt
-value_had d (Unset a) h = tt
-value_had d (Clear y) h = tt
-
-fires_known : (before after : Five) (e : Effect) (l : Literal) → (fires_surely before e && (has after l && had_value before e.target)) ≡ true → SurelyFires before e × IsIn l after.kf × HadValue before e.target
-fires_known before after e l h =
-    let p = and_parts (fires_surely before e) _ h in
-    let q = and_parts (has after l) _ p.1 in (surely before e p.0, has_in after l q.0, value_had before e.target q.1)
+fires_known : (before after : Five) (e : Effect) (l : Literal) → (fires_surely before e && has after l) ≡ true → SurelyFires before e × IsIn l after.kf
+fires_known before after e l h = let p = and_parts (fires_surely before e) _ h in (surely before e p.0, has_in after l p.1)
 
 decided_to : (before after : Five) (e : Effect) (l : Literal) → Makes e.target l → is_decided_to before after e l ≡ true → IsDecided before after e
 decided_to before after e l m h =
@@ -74,10 +55,10 @@ decided_to before after e l m h =
       made = l;
       makes = m;
       objects = inl o;
-      known = ⊎_elim (λ f. inl (fires_known before after e l f)) (λ n. inr (never before e n, o)) (or_cases (fires_surely before e && (has after l && had_value before e.target)) _ p.1);
+      known = ⊎_elim (λ f. inl (fires_known before after e l f)) (λ n. inr (never before e n, o)) (or_cases (fires_surely before e && has after l) _ p.1);
     })
     (λ k. let p = and_parts (gives_value l.relation l.arguments) _ k in record { made = l; makes = m; objects = inr p.0; known = inl (fires_known before after e l p.1) })
-    (or_cases (is_of_objects l && ((fires_surely before e && (has after l && had_value before e.target)) || fires_never before e)) _ h)
+    (or_cases (is_of_objects l && ((fires_surely before e && has after l) || fires_never before e)) _ h)
 
 decided : (before after : Five) (e : Effect) → is_decided before after e ≡ true → IsDecided before after e
 decided before after e h = go (made_by e.target) refl h
@@ -143,7 +124,7 @@ group_lasts before after es g h =
           (or_cases (list_any (λ h. is_eq (conj_cmp g h)) after.kx && list_all (is_untouched es) g) _ p.1),
     )
 
-region_lasts : (after : Five) (r : Entry) → lasts_as_region after r ≡ true → AreObjects (entry_terms r) × IsIn r after.lcw
+pub region_lasts : (after : Five) (r : Entry) → lasts_as_region after r ≡ true → AreObjects (entry_terms r) × IsIn r after.lcw
 region_lasts after r h =
     let p = and_parts (are_objects (entry_terms r)) _ h in
     let f = found_in (λ q. is_eq (entry_cmp r q)) after.lcw p.1 in

@@ -17,6 +17,14 @@ untidy d = record { relation = Named 0; arguments = object d ∷ []; positive = 
 abbrev pub here : ℕ → Literal
 here d = record { relation = Equality; arguments = Apply 0 [] ∷ object d ∷ []; positive = true }
 
+-- one isn't there
+abbrev pub not_here : ℕ → Literal
+not_here d = record { relation = Equality; arguments = Apply 0 [] ∷ object d ∷ []; positive = false }
+
+-- the room in which one is is tidy
+abbrev pub tidy_here : Literal
+tidy_here = record { relation = Named 0; arguments = Apply 0 [] ∷ []; positive = true }
+
 -- an action on a room with the effect
 abbrev pub deed : Effect → Schema
 deed e = record { cost = 1; parameters = 0 ∷ []; pre = []; effects = e ∷ []; senses = []; adds = [] }

@@ -1,5 +1,5 @@
 -- A test whether a step hides nothing: it asks of each effect, literal, group and region in turn.
-use Rattle.std.specs.Prelude.{true, false, Bool, not, ◌&&◌, ◌||◌, is_some, List, Option, Some, None}
+use Rattle.std.specs.Prelude.{false, Bool, not, ◌&&◌, ◌||◌, is_some, List, Option, Some, None}
 use Rattle.std.specs.List.{list_any, list_all}
 use Rattle.std.specs.Option.{option_map_or}
 use Rattle.std.specs.Ordering.{is_eq}
@@ -31,17 +31,6 @@ made_by (Unset a) = Some (denied a)
 made_by (Assign f ts value) = Some (equation (Apply f ts) value)
 made_by (Clear x) = None
 
--- the literal gives the value of the place
-abbrev pub tells : Term → Literal → Bool
-tells t l = gives_value l.relation l.arguments && (l.positive && term_eq (left_of l) t)
-
--- a place that is assigned had a known value
-abbrev pub had_value : Five → Target → Bool
-had_value d (Assign f ts value) = list_any (tells (Apply f ts)) d.kf
-had_value d (Set a) = true
-had_value d (Unset a) = true
-had_value d (Clear x) = true
-
 -- each condition is known
 abbrev pub fires_surely : Five → Effect → Bool
 fires_surely d e = list_all (has d) e.condition
@@ -53,8 +42,7 @@ fires_never d e = list_any (λ c. has d (negated c)) e.condition
 -- of an effect that makes the literal so
 abbrev pub is_decided_to : Five → Five → Effect → Literal → Bool
 is_decided_to before after e l =
-    (is_of_objects l && ((fires_surely before e && (has after l && had_value before e.target)) || fires_never before e))
-    || (gives_value l.relation l.arguments && (fires_surely before e && (has after l && had_value before e.target)))
+    (is_of_objects l && ((fires_surely before e && has after l) || fires_never before e)) || (gives_value l.relation l.arguments && (fires_surely before e && has after l))
 
 -- the effect is decided
 abbrev pub is_decided : Five → Five → Effect → Bool

@@ -1,5 +1,5 @@
 -- Steps of a history that hide nothing: what is learnt after such a step comes back through it only as a copy.
-use Rattle.std.specs.Prelude.{ℕ, true, false, ◌≡◌, ◌⊎◌, ◌==◌, ◌&&◌, ◌||◌, not, Bool, is_some, List, [], ◌∷◌, map}
+use Rattle.std.specs.Prelude.{true, false, ◌≡◌, ◌⊎◌, ◌==◌, ◌&&◌, ◌||◌, not, Bool, is_some, List, [], ◌∷◌, map}
 use Rattle.std.specs.List.{list_any, list_all}
 use Rattle.pks_terms.specs.Sets.{Each, IsIn}
 use Rattle.pks_terms.specs.Syntax.{Object, Parameter, Apply, Term, object, term_of, as_object, are_two_objects, Relation, Named, Equality, Literal, negated, affirmed, denied}
@@ -86,13 +86,6 @@ Assigns (Set a) t = ⊥
 Assigns (Unset a) t = ⊥
 Assigns (Clear x) t = ⊥
 
--- a place that is assigned had a known value
-abbrev pub HadValue : Five → Target → Type 0
-HadValue d (Assign f ts value) = (e : ℕ) × IsIn (equation (Apply f ts) (object e)) d.kf
-HadValue d (Set a) = Unit {0}
-HadValue d (Unset a) = Unit {0}
-HadValue d (Clear x) = Unit {0}
-
 -- each condition of the effect is a known literal
 abbrev pub SurelyFires : Five → Effect → Type 0
 SurelyFires d e = Each (λ c. IsIn c d.kf) e.condition
@@ -101,12 +94,12 @@ SurelyFires d e = Each (λ c. IsIn c d.kf) e.condition
 abbrev pub NeverFires : Five → Effect → Type 0
 NeverFires d e = (c : Literal) × IsIn c e.condition × IsIn (negated c) d.kf
 
--- the effect makes a predicate at objects true or false, or gives a place whose value was known an object. It surely fires, and what it makes so is known after; or it is of a predicate and surely doesn't fire
+-- the effect makes a predicate at objects true or false, or gives a place an object. It surely fires, and what it makes so is known after; or it is of a predicate and surely doesn't fire
 pub record IsDecided (before after : Five) (e : Effect) : Type 0 where
   pub made : Literal
   pub makes : Makes e.target made
   pub objects : IsOfObjects made ⊎ IsOfPlace made
-  pub known : (SurelyFires before e × IsIn made after.kf × HadValue before e.target) ⊎ (NeverFires before e × IsOfObjects made)
+  pub known : (SurelyFires before e × IsIn made after.kf) ⊎ (NeverFires before e × IsOfObjects made)
 
 -- an effect that surely fires makes the literal true or false
 pub record IsWritten (before : Five) (es : List Effect) (l : Literal) : Type 0 where

@@ -13,7 +13,7 @@ ghost use Rattle.pks_terms.specs.Settling.{History, State, At, Settles};
 ghost use Rattle.pks_terms.specs.Trees.{Tree, Derives, IsBestAt};
 ghost use Rattle.pks_terms.specs.Valid.{IsValid};
 ghost use Rattle.pks_terms.specs.Versions.{IsNow};
-ghost use Rattle.pks_laws_forget.specs.Examples.{tidy, untidy, here, house, go, tidying, airing, knowing, others_untidy};
+ghost use Rattle.pks_laws_forget.specs.Examples.{tidy, untidy, here, not_here, tidy_here, house, go, tidying, airing, knowing, others_untidy};
 ghost use Rattle.pks_laws_forget.specs.Testing.{hides_nothing};
 ghost use Rattle.pks_laws_forget.specs.Transparent.{IsTransparent, AreSetsAlong, with_first};
 
@@ -42,14 +42,14 @@ pub fn tested_steps_hide_nothing()
     ensures { (p : Problem) (before : Five) (i : Instance) (after : Five) → hides_nothing p before i after ≡ true → IsTransparent p before i after }
 {}
 
-/// To go from a known room to another hides nothing, and neither does to tidy a room.
+/// To go to another room hides nothing, whether it was known where one was or not, and neither does to tidy a room.
 pub fn going_and_tidying_hide_nothing()
-    ensures { (hides_nothing house (knowing (tidy 1 ∷ here 0 ∷ []) [] []) (go 2) (knowing (tidy 1 ∷ here 2 ∷ []) [] []) ≡ true) × (hides_nothing house (knowing (untidy 0 ∷ tidy 1 ∷ here 0 ∷ []) [] []) (tidying 0) (knowing (tidy 0 ∷ tidy 1 ∷ here 0 ∷ []) [] []) ≡ true) }
+    ensures { (hides_nothing house (knowing (tidy 1 ∷ here 0 ∷ []) [] []) (go 2) (knowing (tidy 1 ∷ here 2 ∷ []) [] []) ≡ true) × (hides_nothing house (knowing (tidy 1 ∷ not_here 0 ∷ []) [] []) (go 2) (knowing (tidy 1 ∷ here 2 ∷ []) [] []) ≡ true) × (hides_nothing house (knowing (untidy 0 ∷ tidy 1 ∷ here 0 ∷ []) [] []) (tidying 0) (knowing (tidy 0 ∷ tidy 1 ∷ here 0 ∷ []) [] []) ≡ true) }
 {}
 
-/// To go may hide something where it isn't known from where one goes, or where it isn't known afterwards where one is.
+/// To go may hide something where it was known that the room is tidy in which one was, or where it isn't known afterwards where one is.
 pub fn going_may_hide_something()
-    ensures { (hides_nothing house (knowing (tidy 1 ∷ []) [] []) (go 2) (knowing (tidy 1 ∷ here 2 ∷ []) [] []) ≡ false) × (hides_nothing house (knowing (tidy 1 ∷ here 0 ∷ []) [] []) (go 2) (knowing (tidy 1 ∷ []) [] []) ≡ false) }
+    ensures { (hides_nothing house (knowing (tidy 1 ∷ tidy_here ∷ []) [] []) (go 2) (knowing (tidy 1 ∷ here 2 ∷ []) [] []) ≡ false) × (hides_nothing house (knowing (tidy 1 ∷ here 0 ∷ []) [] []) (go 2) (knowing (tidy 1 ∷ []) [] []) ≡ false) }
 {}
 
 /// To air a room hides nothing where it is known whether it is tidy, and else it may.

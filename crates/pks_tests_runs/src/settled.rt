@@ -115,6 +115,17 @@ const LAMPS_PLAN: &str = "plan depth 8
 goal
 ";
 
+/// The same by a lamplighter, of whom it isn't known where he is at the start.
+const LAMPLIGHTER: &str = "(pks 1)
+(domain (types lamp) (objects (lamp a b c d e f g h)) (predicates (lit lamp)) (functions (at lamp))
+  (action light (params (?l lamp)) (effects (set (lit ?l)) (assign (at) ?l)) (knows (kf (lit ?l)) (kf (= (at) ?l)))))
+(problem
+  (init (kf (not (lit a))) (kf (not (lit b))) (kf (not (lit c))) (kf (not (lit d))) (kf (not (lit e)))
+    (kf (not (lit f))) (kf (not (lit g))) (kf (not (lit h))))
+  (goal (k (lit a)) (k (lit b)) (k (lit c)) (k (lit d)) (k (lit e))
+    (k (lit f)) (k (lit g)) (k (lit h))))
+";
+
 /// Eleven formulas to branch on, in any order, and a goal that none of them tells. It asks for no literal, so no bound is counted.
 const ELEVEN: &str = "(pks 1)
 (domain (predicates (p1) (p2) (p3) (p4) (p5) (p6) (p7) (p8) (p9) (p10) (p11) (g)))
@@ -145,7 +156,10 @@ fn what_the_past_may_tell_is_kept(rt: HostRuntime) -> Result<(), Fail> {
     all_so(rt.alloc(), KEPT)
 }
 
-const SAME_ORDERS: &[Answered] = &[Answered("plan 8", LAMPS, Done, LAMPS_PLAN)];
+const SAME_ORDERS: &[Answered] = &[
+    Answered("plan 8", LAMPS, Done, LAMPS_PLAN),
+    Answered("plan 8", LAMPLIGHTER, Done, LAMPS_PLAN),
+];
 
 #[test]
 fn orders_that_come_to_the_same(rt: HostRuntime) -> Result<(), Fail> {

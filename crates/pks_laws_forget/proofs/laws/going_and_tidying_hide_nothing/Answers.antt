@@ -5,4 +5,4 @@ use Rattle.pks_laws_forget.proofs.laws.going_and_tidying_hide_nothing.Goals as g
 
 pub returns : goal.returns
 unfolding literal literal_at literal_cmp literal_eq term_cmp term_eq
-returns c = (refl, refl)
+returns c = (refl, refl, refl)
