@@ -8,7 +8,7 @@ from .trees import Literal, Term
 from .worlds import Fact, World
 
 
-class NoWorld(Exception):
+class NoWorld(ValueError):
     """No world fits, or what is wanted of it isn't of the file."""
 
 
