@@ -27,10 +27,12 @@ class Walk:
     """How many steps could be done."""
     met: int = 0
     """How many goals were met."""
+    say_to: Callable[[str], object] = print
+    """Takes each line that is said."""
 
     def say(self, indent: str, line: str) -> None:
-        """Prints a line."""
-        print(indent + line)
+        """Says a line."""
+        self.say_to(indent + line)
 
     # The nodes
 
@@ -292,16 +294,16 @@ class Walk:
             if aim[0] not in OVER_TIME:
                 continue
             if question is None:
-                print(f'{written(aim)} was not asked: it is asked of a whole plan')
+                self.say('', f'{written(aim)} was not asked: it is asked of a whole plan')
                 continue
             try:
                 if self.asker.whole(question, aim):
-                    print(f'{written(aim)} is met')
+                    self.say('', f'{written(aim)} is met')
                 else:
-                    print(f'{written(aim)} IS NOT MET at one of the ends')
+                    self.say('', f'{written(aim)} IS NOT MET at one of the ends')
                     self.faults.append(f'{written(aim)} is not met')
             except TooMany as fault:
-                print(f'{written(aim)} was not asked: {fault}')
+                self.say('', f'{written(aim)} was not asked: {fault}')
 
 
 def words_in(text: str) -> List[str]:

@@ -137,7 +137,8 @@ def told_apart(file: File) -> Iterator[Change]:
                 adds = missing_adds(changed).get(action.name, ())
             except pkslib.PksError:
                 continue
-            fact = early if early in [target(e)[1] for e in action.effects if target(e)[0] == 'set'] else ('not', early)
+            is_set = ('set', early) in map(target, action.effects)
+            fact: Expression = early if is_set else ('not', early)
             yield Change(Rank.TOLD_APART, with_adds(changed, action.name, adds),
                          f'in `pre` of `{action.name}` add {written(query)}, and in its `knows` add', texts(adds),
                          f'`{written(fact)}` isn\'t known after `{action.name}`, since `{written(late)}` may be about '

@@ -81,11 +81,9 @@ def said_of(change: Change, outcome: Outcome, depth: int, is_said: bool) -> List
         return [f'The depth is too small by {at - depth}: with {at} in place of {depth} there is a plan.'] if at else []
     if outcome.depth is not None:
         return [f'{why}With this there is a plan of depth {outcome.depth}: {change.what}', *change.lines]
-    if outcome.ended or not why:
-        return [why] if change.always and why else []
-    if change.always and not change.what:
+    if change.always and why and (outcome.ended or not change.what):
         return [why]
-    if change.rank > Rank.TOLD or change.rank < Rank.DEPTH and not change.always:
+    if outcome.ended or not why or not (change.always or change.rank in (Rank.TOLD, Rank.GUARD)):
         return []
     return [f'{why}Whether there is a plan with this isn\'t known, the search didn\'t end: {change.what}',
             *change.lines]

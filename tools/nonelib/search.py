@@ -78,14 +78,27 @@ class Search:
         if len(self.file.goal) > 1:
             alone(self.file, self.depth, self.asking, seconds_for(Rank.START, 0, self.asking.seconds))
         self.ask_changes(found)
-        if not self.base.done() and not found.cures():
-            self.base.result()
-        if self.base.done():
-            found.base = self.base.result()
-            if found.base.depth is not None:
-                return None
+        try:
+            found.base = self.base.result(timeout=None if not found.cures() else self.asking.left() / 4)
+        except TimeoutError:
+            pass
+        if found.base.depth is not None:
+            return None
+        self.ask_deeper(found)
         self.ask_goals(found)
         return found
+
+    def ask_deeper(self, found: Found) -> None:
+        """Asks the file deeper, where it is known to have no plan of its depth and no likelier cause was found."""
+        best = min((change.rank for change in found.cures()), default=Rank.GOAL)
+        asked = any(change.rank == Rank.DEPTH for change in found.outcomes)
+        if found.base.is_none and not asked and best > Rank.DEPTH and self.depth < limits.DEPTH:
+            change = self.greater_depth()
+            self.collect(found, change, self.begin(change, 2))
+
+    def greater_depth(self) -> Change:
+        """The file itself to the greatest depth."""
+        return Change(Rank.DEPTH, self.file, 'ask for a greater depth')
 
     def ask_changes(self, found: Found) -> None:
         """Asks all changes, round by round; once there is a cure, only for better ones."""
@@ -107,9 +120,9 @@ class Search:
         left = [change for change in changes if change.rank < best and not self.is_settled(found, change)]
         tasks: List[Tuple[Change, 'Future[Outcome]']] = []
         while left and not self.is_over(found):
-            if number == self.deeper and self.base.done() and best > Rank.DEPTH:
+            if number == self.deeper and self.base.done() and best > Rank.DEPTH and self.depth < limits.DEPTH:
                 self.deeper += 1
-                left.insert(0, Change(Rank.DEPTH, self.file, 'ask for a greater depth'))
+                left.insert(0, self.greater_depth())
             tasks.append((left[0], self.begin(left.pop(0), number)))
             if len(tasks) > SIDE_BY_SIDE:
                 self.collect(found, *tasks.pop(0))

@@ -1,6 +1,6 @@
 """A domain and a problem, read and written."""
 
-from . import knows, layout, limits
+from . import knows, layout, limits, order
 from .actions import UNSAID, read_actions
 from .conditions import Queries, Scope
 from .declared import Declared, sections
@@ -24,6 +24,7 @@ class Translation:
         self.start = self.read_start()
         self.declared.fixed = Fixed(self.declared, sections(self.domain, ':action'), self.start)
         self.actions = read_actions(self.domain, self.declared)
+        order.arrange(self.declared, self.actions)
         self.goals = self.read_goal()
         self.declared.check_types(self.domain)
 
@@ -89,7 +90,7 @@ class Translation:
         actions = []
         for action, own in zip(self.actions, adds):
             kept, left_out = knows.chosen(own)
-            remarks = list(knows.remarks(action, own, left_out))
+            remarks = [*knows.remarks(action, own, left_out), *order.remarks(self.declared, action)]
             if self.minimizes and not action.did.cost:
                 remarks.append('It costs nothing in PDDL, and 1 here: no cost is less.')
             actions.append((action, self.cost(action), kept, remarks))

@@ -1,6 +1,6 @@
 """What an accepted file may lack, as far as a look at its text tells. Help, and no more."""
 
-from . import adds
+from . import adds, uncounted
 
 MANY = 50
 
@@ -114,7 +114,7 @@ def never_known(names):
 
 def remarks(names):
     """What to say of an accepted file; an empty list where nothing stands out."""
-    said = []
+    said = [each.said() for each in uncounted.uncounted(names.domain.expression())]
     for name, effect in untold(names):
         said.append(f'The action `{name}` has the effect `{effect.form.text()}`, and its `knows` '
                     f'says nothing of `{effect.subject()}`: the agent won\'t know of it. '

@@ -5,7 +5,7 @@ Of an equation the greater side stands first, and a function is greater the late
 """
 
 from dataclasses import dataclass
-from typing import Any, Iterator, List, Optional, Sequence, Tuple
+from typing import Any, Iterable, Iterator, List, Optional, Sequence, Tuple
 
 from pkslib import Expression, written
 
@@ -30,13 +30,16 @@ class Uncounted:
 
 def uncounted(domain: Expression) -> Iterator[Uncounted]:
     """The adds of a domain that never count."""
+    objects = [str(name) for entry in section(domain, 'objects') for name in entry[1:]]
+    functions = [str(entry[0]) for entry in section(domain, 'functions')]
     for action in parts(domain, 'action'):
+        order = Order(objects, [str(entry[0]) for entry in section(action, 'params')], functions)
         assigned = [target(effect) for effect in section(action, 'effects')]
         pairs = [done[1:] for done in assigned if done[0] == 'assign']
         for add in section(action, 'knows'):
             item = add[-1] if add[0] == 'if' else add
             if item[0] == 'kf' and item[1][0] == '=':
-                found = behind(item[1], pairs, Order(domain, action))
+                found = behind(item[1], pairs, order)
                 if found:
                     yield Uncounted(str(action[1]), add, *found)
 
@@ -44,10 +47,7 @@ def uncounted(domain: Expression) -> Iterator[Uncounted]:
 class Order:
     """The order of terms in an action: objects, then parameters, then places of functions, each as declared."""
 
-    def __init__(self, domain: Expression, action: Expression) -> None:
-        objects = [str(name) for entry in section(domain, 'objects') for name in entry[1:]]
-        params = [str(entry[0]) for entry in section(action, 'params')]
-        functions = [str(entry[0]) for entry in section(domain, 'functions')]
+    def __init__(self, objects: Iterable[str], params: Iterable[str], functions: Iterable[str]) -> None:
         self.numbers = [{name: n for n, name in enumerate(names)} for names in (objects, params, functions)]
 
     def key(self, term: Expression) -> Tuple[Any, ...]:

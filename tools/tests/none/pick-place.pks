@@ -1,0 +1,36 @@
+; Pick and place. The camera tells whether the part is in the bin in front of the robot. A grasp
+; succeeds only where the part isn't oily; the gripper sensor tells whether it is held. An oily part
+; is wiped.
+(pks 1)
+(domain
+  (types place part)
+  (objects (place home bin-a bin-b tray) (part gear))
+  (predicates (at place) (in part place) (held part) (oily part))
+  (action move (params (?from place) (?to place))
+    (pre (k (at ?from)) (k (not (= ?from ?to))))
+    (effects (unset (at ?from)) (set (at ?to)))
+    (knows (kf (not (at ?from))) (kf (at ?to))))
+  (action camera (params (?p part) (?x place))
+    (pre (k (at ?x)) (not-derived (kw (in ?p ?x))))
+    (senses (sense (in ?p ?x)))
+    (knows (kw (in ?p ?x))))
+  (action grasp (params (?p part) (?x place))
+    (pre (k (at ?x)) (k (in ?p ?x)) (k (not (held ?p))))
+    (effects
+      (when ((not (oily ?p))) (set (held ?p)))
+      (when ((not (oily ?p))) (unset (in ?p ?x)))))
+  (action grip-sensor (params (?p part))
+    (senses (sense (held ?p)))
+    (knows (kw (held ?p))))
+  (action wipe (params (?p part) (?x place))
+    (pre (k (oily ?p)) (k (at ?x)) (k (in ?p ?x)))
+    (effects (unset (oily ?p)))
+    (knows (kf (not (oily ?p)))))
+  (action put (params (?p part) (?x place))
+    (pre (k (held ?p)) (k (at ?x)))
+    (effects (unset (held ?p)) (set (in ?p ?x)))
+    (knows (kf (not (held ?p))) (kf (in ?p ?x)))))
+(problem
+  (init (kf (at home)) (kf (not (held gear)))
+    (kx (in gear bin-a) (in gear bin-b)))
+  (goal (k (in gear tray))))
