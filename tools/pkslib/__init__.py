@@ -38,12 +38,14 @@ Other printed texts (trees as above; Malformed where a text isn't one):
 
     read_run, read_recalled, read_explained, read_shared    Run, Recalled, Explained, Shared; read_printed takes all
     World(true, values)         a world: .value(term), .holds(literal), .lines()
+    fitting_world(file, wanted) a world that fits the start of a File; choices(file, wanted) tells what is open
 
 Files:
 
     Text(data)                  forms with places, also of a broken text: .forms .lists .open .extra
     Form                        a word or a list: .word .parts .parent .start .end .line .column
     read(data)                  the forms, or Malformed;  expressions(data) has words and tuples instead
+    File(data)                  what a file states: .types .objects .predicates .functions .actions .init .goal
     written(expression)         an expression as it is printed
     lost_parenthesis(text), gained_parenthesis(text)    by the indentation of the lines
 
@@ -57,6 +59,8 @@ Malformed is a ValueError with .line and .column.
 from . import limits
 from .dialogue import AskTest, AskValue, Dialogue, End, Question, Step, UnfitAnswer
 from .errors import Failed, NoPlan, NoProgram, PksError, Refused, TimedOut
+from .files import Action, File, Function, costs
+from .fitting import Choices, NoWorld, choices, fitting_world
 from .forms import (ALL_WORDS, NAME, PKS_WORDS, VARIABLE, Expression, Form, Malformed, Text, expressions, read,
                     written)
 from .indentation import gained_parenthesis, lost_parenthesis
@@ -66,17 +70,18 @@ from .program import Answer, ask, call, check, derive, find
 from .texts import (Branched, Cased, Do, Entry, Event, Explained, Instances, Moment, Printed, ProofLine, Recalled, Run,
                     Shared, Value, Whether, read_act, read_explained, read_printed, read_proof_line, read_recalled,
                     read_run, read_shared, tree_of)
-from .trees import (Act, Branch, Cases, Goal, Impossible, Leaf, Literal, Side, Term, Tree, Way, costs, printed,
+from .trees import (Act, Branch, Cases, Goal, Impossible, Leaf, Literal, Side, Term, Tree, Way, printed,
                     read_body, read_plan, sides, ways)
 from .worlds import Fact, World
 
 __all__ = [
-    'ALL_WORDS', 'Act', 'Answer', 'AskTest', 'AskValue', 'Branch', 'Branched', 'Cased', 'Cases', 'Code', 'Dialogue',
-    'Do', 'End', 'Entry', 'Event', 'Explained', 'Expression', 'Fact', 'Failed', 'Form', 'Goal', 'Impossible',
-    'Instances', 'Leaf', 'Literal', 'Malformed', 'Moment', 'NAME', 'NoPlan', 'NoProgram', 'PKS_WORDS', 'PksError',
-    'Printed', 'ProofLine', 'Question', 'Recalled', 'Refusal', 'Refused', 'Run', 'Shared', 'Side', 'Status', 'Step',
-    'Term', 'Text', 'TimedOut', 'Tree', 'UnfitAnswer', 'VARIABLE', 'Value', 'Way', 'Whether', 'World', 'ask', 'call',
-    'check', 'costs', 'derive', 'expressions', 'find', 'gained_parenthesis', 'limits', 'lost_parenthesis', 'plan',
+    'ALL_WORDS', 'Act', 'Action', 'Answer', 'AskTest', 'AskValue', 'Branch', 'Branched', 'Cased', 'Cases',
+    'Choices', 'Code', 'Dialogue', 'Do', 'End', 'Entry', 'Event', 'Explained', 'Expression', 'Fact', 'Failed',
+    'File', 'Form', 'Function', 'Goal', 'Impossible', 'Instances', 'Leaf', 'Literal', 'Malformed', 'Moment', 'NAME',
+    'NoPlan', 'NoProgram', 'NoWorld', 'PKS_WORDS', 'PksError', 'Printed', 'ProofLine', 'Question', 'Recalled',
+    'Refusal', 'Refused', 'Run', 'Shared', 'Side', 'Status', 'Step', 'Term', 'Text', 'TimedOut', 'Tree',
+    'UnfitAnswer', 'VARIABLE', 'Value', 'Way', 'Whether', 'World', 'ask', 'call', 'check', 'choices', 'costs',
+    'derive', 'expressions', 'find', 'fitting_world', 'gained_parenthesis', 'limits', 'lost_parenthesis', 'plan',
     'printed', 'read', 'read_act', 'read_body', 'read_explained', 'read_plan', 'read_printed', 'read_proof_line',
     'read_recalled', 'read_refusal', 'read_run', 'read_shared', 'sides', 'tree_of', 'ways', 'written',
 ]

@@ -9,6 +9,10 @@ from .errors import PksError, Refused
 from .forms import Malformed
 from .limits import DEPTH, Status
 
+class Fault(Exception):
+    """Ends a command with the status 1, and this sentence on standard error."""
+
+
 WORDS = 2
 """The status where a file can't be read, the words are wrong, or the program doesn't run."""
 
@@ -59,7 +63,7 @@ def say(text: str) -> None:
 def run(main: Callable[[], int]) -> NoReturn:
     """Ends with the status of `main`; a fault is told on standard error in one line.
 
-    A refused file ends with 3, a text that isn't what was expected with 1, everything else with 2.
+    A refused file ends with 3, a Fault and a text that isn't what was expected with 1, everything else with 2.
     """
     try:
         status = main()
@@ -71,7 +75,7 @@ def run(main: Callable[[], int]) -> NoReturn:
     except Refused as fault:
         say(f'{fault} (tools/why tells more)')
         status = int(Status.REFUSED)
-    except Malformed as fault:
+    except (Fault, Malformed) as fault:
         say(str(fault))
         status = 1
     except (PksError, OSError) as fault:

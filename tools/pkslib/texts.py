@@ -4,7 +4,7 @@ import re
 from dataclasses import dataclass
 from typing import List, Mapping, Optional, Sequence, Tuple, Union
 
-from .forms import Expression, Malformed, expressions
+from .forms import Expression, Malformed, expressions, written
 from .trees import Act, Branch, Cases, Goal, Impossible, Literal, Term, Tree, read_plan
 
 
@@ -166,6 +166,22 @@ def _event(line: str, number: int) -> Event:
     if word == 'all' and parts:
         return Instances(parts[0], parts[1:])
     raise Malformed(f'no line of a run: {line!r}', number)
+
+
+def _conjunction(literals: Sequence[Literal]) -> str:
+    return ' '.join(map(written, literals))
+
+
+def line_of(event: Event) -> str:
+    """An event as it is printed."""
+    if isinstance(event, Do):
+        return f'do {written((event.name, *event.arguments))}'
+    if isinstance(event, (Whether, Branched)):
+        word = 'whether' if isinstance(event, Whether) else 'branch'
+        return f'{word} {_conjunction(event.literals)} {"true" if event.holds else "false"}'
+    if isinstance(event, Instances):
+        return _conjunction(('all', event.pattern, *event.atoms))
+    return f'{"value" if isinstance(event, Value) else "case"} {written(event.term)} {event.value}'
 
 
 def read_run(text: str) -> Run:
