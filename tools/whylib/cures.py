@@ -64,10 +64,18 @@ class Outcome:
         many = len(shown) > 6
         head = f'Mended, line {shown[0]} is' if len(shown) == 1 else f'Mended, lines {", ".join(map(str, shown[:6]))} are'
         head += ' (and more)' if many else ''
+        if len(shown) == 1 and not text.line(shown[0]).strip():
+            head = f'Mended, line {shown[0]} is left out'
         lines = [line for number in shown[:6] for line in excerpt(text.line(number).strip('\r'), self.cure, text, number)]
+        if len(self.cure.edits) == 1 and self.cure.edits[0][2] in (')', '') and self.cure.places()[0][1] - self.cure.places()[0][0] < 2 \
+                and self.cure.edits[0][1] - self.cure.edits[0][0] < 2:
+            place = self.cure.places()[0][0]
+            line, column = text.place(place)
+            what = 'one `)` more' if self.cure.edits[0][2] else 'one `)` less'
+            head = f'Mended, with {what} at column {column}, line {line} is'
         ending = 'With it the file is accepted.' if self.is_accepted() else \
             f'With it the next fault is `{self.said.strip()}`.'
-        return [head + ':', *lines, ending]
+        return [head + ('.' if head.endswith('out') else ':'), *[line for line in lines if line.strip()], ending]
 
 
 def excerpt(line: str, cure: Cure, text: Text, number: int) -> List[str]:
@@ -122,6 +130,11 @@ class Patient:
     def both(self, one: Cure, other: Cure) -> Cure:
         """Two cures together."""
         return Cure(one.edits + other.edits)
+
+    def everywhere(self, word: str, other: str) -> Cure:
+        """Another word wherever this one stands."""
+        pattern = rf'(?<![A-Za-z0-9_?=-]){re.escape(word)}(?![A-Za-z0-9_?=-])'
+        return Cure([(m.start(), m.end(), other) for m in re.finditer(pattern, code_of(self.text))])
 
     # By code
 
@@ -236,6 +249,8 @@ class Patient:
             yield self.instead(form, f'(({" ".join(place)}) {value})')
         if form.head() == 'not' and role == 'fact':
             yield self.without(form)
+        if form.word and form.word[0].isdigit() and form.word != '1' and form.word != '2':
+            yield self.everywhere(form.word, 'n' + form.word)
         if form.word and role in ('fact', 'place', 'atom', 'literal', 'pattern'):
             yield self.instead(form, f'({form.word})')
         if form.head() == 'not' and form.parent is not None and form.parent.head() == 'set':
@@ -261,7 +276,10 @@ class Patient:
         kind, known = meaning.kind_of(self.names, form)
         for other in (next((name for name in known if name.lower() == form.word.lower()), None), near(form.word, known)):
             if other:
+                yield self.everywhere(form.word, other)
                 yield self.instead(form, other)
+        if form.word in grammar.QUERIES + grammar.ITEMS and len(form.parent.rest()) == 1:
+            yield self.instead(form.parent, form.parent.rest()[0].text())
         section = form.parent
         while section.parent is not None and section.parent.head() not in grammar.SECTIONS:
             section = section.parent
@@ -463,20 +481,26 @@ def plain(letter: str) -> str:
     return known.get(letter) or found or '?'
 
 
-def is_further(refusal: Refusal, said: str, cure: Cure, data: bytes) -> bool:
+def is_further(refusal: Refusal, was_at: int, said: str, cure: Cure, data: bytes) -> bool:
     """Whether with a cure the file is accepted, or the next fault is another one, outside of what was changed."""
     if said.startswith('accepted'):
         return True
     if not said.startswith('refused'):
         return False
-    found = read_refusal(said)
-    text = Text(data)
+    found, text = read_refusal(said), Text(data)
     at = text.at(found.line, found.column)
-    outside = all(not start <= at < max(end, start + 1) for start, end in cure.places())
-    before = found.code // 10 if found.code < 200 else 20
-    was = refusal.code // 10 if refusal.code < 200 else 20
-    return outside and before >= was and (found.code, at) != (refusal.code, text.at(refusal.line, refusal.column)
-                                                              if refusal.line <= len(text.starts) else -1)
+    shift = sum(len(new) - (end - start) for start, end, new in cure.edits if start <= at)
+    if found.code == refusal.code and at - shift == was_at:
+        return False
+    before, was = (code // 10 if code < Code.LONG_NAME else Code.LONG_NAME // 10 for code in (found.code, refusal.code))
+    return before >= was and all(not start <= at < end for start, end in map(lambda place: around(text, *place), cure.places()))
+
+
+def around(text: Text, start: int, end: int) -> Tuple[int, int]:
+    """The section around a change, in the text that is mended."""
+    form = next((form for form in reversed(text.lists) if form.start <= start and (form.end or 0) >= end
+                 and form.parent is not None and form.parent.head() in grammar.SECTIONS), None)
+    return (form.start, form.end or end) if form is not None and form.head() != 'action' else (start, max(end, start + 1))
 
 
 def found(text: Text, names: Names, refusal: Refusal, check: Callable[[bytes], str]) -> Optional[Outcome]:
@@ -490,6 +514,6 @@ def found(text: Text, names: Names, refusal: Refusal, check: Callable[[bytes], s
         said = check(data)
         if said.startswith('accepted'):
             return Outcome(cure, data, said)
-        if best is None and is_further(refusal, said, cure, data):
+        if best is None and is_further(refusal, text.at(refusal.line, refusal.column), said, cure, data):
             best = Outcome(cure, data, said)
     return best
