@@ -1,0 +1,4 @@
+pub mod Thinned
+pub mod Still
+pub mod Trees
+pub mod Tested

@@ -1,0 +1,34 @@
+//! The laws, each the clause of a function that does nothing.
+
+ghost use Rattle.std.specs.Prelude.{◌↔◌, ◌≡◌, true};
+ghost use Rattle.pks_terms.specs.Sets.{Each};
+ghost use Rattle.pks_terms.specs.Databases.{Five, AreSets};
+ghost use Rattle.pks_terms.specs.Actions.{Instance};
+ghost use Rattle.pks_terms.specs.Moments.{AreMomentsOf};
+ghost use Rattle.pks_terms.specs.Problems.{Problem};
+ghost use Rattle.pks_terms.specs.Settling.{History, At};
+ghost use Rattle.pks_terms.specs.Trees.{Tree, Derives};
+ghost use Rattle.pks_terms.specs.Valid.{IsValid};
+ghost use Rattle.pks_terms.specs.Versions.{IsNow};
+ghost use Rattle.pks_laws_forget.specs.Transparent.{AreSetsAlong};
+ghost use Rattle.pks_laws_looks.specs.Looks.{IsLook, AreWithout, is_look, without_looks};
+
+/// A history without some moments before looks is one of the problem, and its sets are in order.
+pub fn moments_stay_without_looks()
+    ensures { (p : Problem) (h g : History) → AreMomentsOf p h → AreSetsAlong h → AreWithout (IsLook p) h.start h.steps g.start g.steps → AreMomentsOf p g × AreSetsAlong g }
+{}
+
+/// Where each aim is one of the last moment, a history without some moments before looks has the same derived trees.
+pub fn looks_keep_trees()
+    ensures { (p : Problem) (h g : History) (t : Tree) → IsValid p → Each IsNow p.goal → AreMomentsOf p h → AreSetsAlong h → AreWithout (IsLook p) h.start h.steps g.start g.steps → (Derives p (At h) t ↔ Derives p (At g) t) }
+{}
+
+/// A step that passes the test is a look.
+pub fn tested_steps_are_looks()
+    ensures { (p : Problem) (before : Five) (i : Instance) (after : Five) → AreSets before → AreSets after → is_look p before i after ≡ true → IsLook p before i after }
+{}
+
+/// What is without the steps that pass the test is without some looks.
+pub fn tested_looks_are_left_out()
+    ensures { (p : Problem) (h : History) → AreSetsAlong h → AreWithout (IsLook p) h.start h.steps (without_looks p h).start (without_looks p h).steps }
+{}
