@@ -1,14 +1,14 @@
 """Questions along a way, and what the program answers."""
 
 import re
-from dataclasses import dataclass, field
-from typing import Callable, Dict, FrozenSet, List, Optional, Sequence, Tuple
+from dataclasses import dataclass, field, replace
+from typing import Callable, Dict, FrozenSet, List, Optional, Sequence, Set, Tuple, Union
 
 import pkslib
 from asklib.files import File, List_
-from pkslib import Act, Expression, limits
+from pkslib import Act, Branch, Cases, Expression, Side, limits
 
-from .staged import Asked, Names, Question, depth, staged
+from .staged import Asked, Fork, Names, Question, Step, depth, staged
 
 Way = Tuple[Callable[[Question], Question], ...]
 """The steps that were made: each puts itself before what follows."""
@@ -24,6 +24,8 @@ class State:
     """Which of the queries that were asked are answered."""
     impossible: bool = False
     """Whether no run comes there."""
+    otherwise: str = ''
+    """What the program tested on the way and the plan doesn't, where it went another way to the same end."""
 
 
 class Lost(Exception):
@@ -51,7 +53,7 @@ class Asker:
         most = room * (limits.EFFECTS - 1)
         state = self.once(way, wanted[:most])
         for at in range(most, len(wanted), most):
-            state = State(state.known, state.answered | self.once(way, wanted[at:at + most]).answered, state.impossible)
+            state = replace(state, answered=state.answered | self.once(way, wanted[at:at + most]).answered)
         return state
 
     def once(self, way: Way, queries: List_) -> State:
@@ -62,7 +64,7 @@ class Asker:
         printed = self.call('recall', question, ())
         if printed is None:
             raise Lost('the program does not go this way')
-        return self.read(printed, queries)
+        return self.read(printed, queries, tested(question))
 
     def whole(self, question: Question, aim: Expression) -> bool:
         """Whether an aim is met at each end of a whole plan."""
@@ -77,7 +79,7 @@ class Asker:
         except pkslib.NoPlan:
             return None
 
-    def read(self, printed: str, queries: List_) -> State:
+    def read(self, printed: str, queries: List_, meant: 'Set[FrozenSet[Expression]]') -> State:
         """The state that a recall tells of the leaf where was asked."""
         lines = printed.splitlines()
         first = lines.index('leaf 1')
@@ -88,7 +90,9 @@ class Asker:
             asks = [at for at, act in enumerate(acts) if self.names.is_question(act.name)]
             if asks:
                 here, end = moments[number][asks[0]], moments[number][-1]
-                return State(tuple(filter(self.is_news, here)), self.told(end, queries))
+                sides = [step.at for step in way.steps if isinstance(step, Side)]
+                others = [at.text() for at in sides if parts_of(at) not in meant]
+                return State(tuple(filter(self.is_news, here)), self.told(end, queries), otherwise=', '.join(others))
         return State(impossible=True)
 
     def is_news(self, text: str) -> bool:
@@ -102,6 +106,20 @@ class Asker:
         pattern = re.compile(rf'\({self.names.said} {self.names.kind}-(\d+)\)')
         found = (pattern.fullmatch(text) for text in end)
         return frozenset(queries[int(match[1])] for match in found if match)
+
+
+def tested(question: Question) -> Set[FrozenSet[Expression]]:
+    """What is tested in a question."""
+    if isinstance(question, Step):
+        return tested(question.next)
+    if isinstance(question, Fork):
+        return {frozenset(question.tested)}.union(*(tested(child) for _, child in question.sides))
+    return set()
+
+
+def parts_of(at: Union[Branch, Cases]) -> FrozenSet[Expression]:
+    """What a branch or cases test."""
+    return frozenset(at.literals if isinstance(at, Branch) else (at.term,))
 
 
 def read_moments(lines: Sequence[str]) -> Dict[int, List[List[str]]]:

@@ -24,9 +24,11 @@ class Step:
 
 @dataclass(frozen=True)
 class Fork:
-    """A branch or cases: for each side the queries that are answered there and not before, and what follows."""
+    """A branch or cases: what is tested, and for each side the queries that are answered there and not before."""
 
+    tested: List_
     sides: 'Tuple[Tuple[List_, Question], ...]'
+    """Queries with what follows, the side that is followed among them."""
 
 
 @dataclass(frozen=True)
@@ -79,7 +81,7 @@ def depth(question: Question) -> int:
 def branched(literals: List_, opened: List_, true: Question, false: Question) -> Question:
     """A branch on a conjunction of which these literals aren't known."""
     denied = ('k', negated(opened[0])) if len(opened) == 1 else ('not-derived', ('kw', *literals))
-    return Fork(((tuple(('k', literal) for literal in opened), true), ((denied,), false)))
+    return Fork(literals, ((tuple(('k', literal) for literal in opened), true), ((denied,), false)))
 
 
 def taken_apart(opened: List_, true: Question) -> Question:
@@ -92,7 +94,7 @@ def taken_apart(opened: List_, true: Question) -> Question:
 def chosen(term: Expression, kind: str, value: str, child: Question) -> Question:
     """Cases of a term of a type, of which one is followed."""
     other = Left((('?other', kind),), (('k', ('=', term, '?other')), ('k', ('not', ('=', '?other', value)))))
-    return Fork((((('k', ('=', term, value)),), child), ((), other)))
+    return Fork((term,), (((('k', ('=', term, value)),), child), ((), other)))
 
 
 class Names:

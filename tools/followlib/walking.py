@@ -73,6 +73,8 @@ class Walk:
             self.say(indent, f'    not asked: {fault}')
             self.faults.append(f'not asked: {fault}')
             return None
+        if state.otherwise:
+            self.say(indent, f'    (the program tests {state.otherwise} on this way, in place of what is written)')
         if not state.impossible:
             self.news(before, state, told, not way, indent)
         return state
@@ -269,7 +271,7 @@ class Walk:
                 self.say(indent, f'case {value}')
                 self.say(indent, '  (the plan has no such case, and this object is left)')
                 whole = False
-        return Fork(tuple(sides)) if whole else None
+        return Fork((tree.term,), tuple(sides)) if whole else None
 
     # Goals
 

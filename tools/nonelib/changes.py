@@ -102,14 +102,14 @@ def told(file: File, missing: Dict[str, List_]) -> Iterator[Change]:
                          untold(file, name, add))
         if len(adds) > 1:
             yield Change(Rank.TOLD_TOGETHER, with_adds(file, name, adds), f'in `knows` of `{name}` add', texts(adds),
-                         f'`{name}` has effects or senses that its `knows` doesn\'t tell; `derive` lists them.')
+                         f'`{name}` may tell more than its `knows` says; `derive` lists it.')
     if len(missing) > 1:
         every = file
         for name, adds in missing.items():
             every = with_adds(every, name, adds)
         lines = tuple(f'{written(add)} in `{name}`' for name, adds in missing.items() for add in adds)
         yield Change(Rank.TOLD_TOGETHER, every, 'in `knows` of the actions add', lines,
-                     'Several actions have effects or senses that `knows` doesn\'t tell; `derive` lists them.')
+                     'Several actions may tell more than their `knows` says; `derive` lists it.')
 
 
 def untold(file: File, name: str, add: Expression) -> str:
@@ -129,7 +129,7 @@ def told_apart(file: File) -> Iterator[Change]:
     for action in file.actions:
         for early, late in undone(action):
             pairs = [(a, b) for a, b in zip(early[1:], late[1:]) if a != b]
-            if not pairs:
+            if not pairs or any(differ(file, action, *pair) for pair in pairs):
                 continue
             query = ('k', ('not', ('=', *pairs[0])))
             changed = file.with_action(action.name, pre=action.pre + (query,))
@@ -143,6 +143,12 @@ def told_apart(file: File) -> Iterator[Change]:
                          f'in `pre` of `{action.name}` add {written(query)}, and in its `knows` add', texts(adds),
                          f'`{written(fact)}` isn\'t known after `{action.name}`, since `{written(late)}` may be about '
                          'the same: the last effect wins.')
+
+
+def differ(file: File, action: Action, one: Expression, other: Expression) -> bool:
+    """Whether two terms are different objects, or the precondition asks that they differ."""
+    asked = [('k', ('not', ('=', *pair))) for pair in ((one, other), (other, one))]
+    return one in file.kinds and other in file.kinds or any(query in action.pre for query in asked)
 
 
 def target(effect: Expression) -> List_:
@@ -279,9 +285,9 @@ def starts(file: File) -> Iterator[Change]:
 MISSING = {
     'kf': 'A fact is missing at the start.',
     'negative': 'A negative is missing at the start: what isn\'t written isn\'t false, it is unknown.',
-    'kw': 'Nothing tells whether it is so, so the plan can\'t branch on it: a sense that tells would do, too.',
-    'kv': 'Nothing tells the value: a sense that tells would do, too.',
-    'kx': 'Nothing says that one of these is true.',
+    'kw': 'It isn\'t known whether it is so where a plan would branch on it: a sense that tells would do, too.',
+    'kv': 'The value isn\'t known where it is needed: a sense that tells would do, too.',
+    'kx': 'It isn\'t known that one of these is true.',
     'lcw': 'Negatives are missing at the start: what isn\'t written isn\'t false, it is unknown. (Or `(kf (not ..))` '
            'for each.)',
 }

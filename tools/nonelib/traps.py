@@ -8,6 +8,7 @@ from asklib.files import OVER_TIME, Action, File, List_, atom_of, negated, words
 from pkslib import Expression, limits, written
 from whylib import uncounted
 
+from . import makers
 from .changes import Change, Rank, changed_heads, item_of, target, texts
 
 
@@ -55,7 +56,9 @@ def always_at_start(file: File) -> Iterator[Change]:
 
 def look_without_branch(file: File) -> Iterator[Change]:
     """`at-start` with `kw`: the query at the end, where no action changes what it speaks of."""
-    own = [(at, aim, query) for at, aim, query in aims(file, 'at-start') if query[0] == 'kw']
+    known = {item[1] for item in file.init if item[0] in ('kf', 'kw')}
+    own = [(at, aim, query) for at, aim, query in aims(file, 'at-start')
+           if query[0] == 'kw' and not {query[1], negated(query[1])} & known]
     if not own:
         return
     changed, still = file, []
@@ -103,11 +106,11 @@ def type_too_narrow(file: File) -> Iterator[Change]:
         if aim[0] not in ('k', 'kw'):
             continue
         atom = atom_of(aim[1])
-        for action in file.actions:
-            for told in action.knows:
-                item = item_of(told)
-                if item[0] in ('kf', 'kw') and atom_of(item[1])[0] == atom[0] != '=':
-                    yield from widened(file, action, atom_of(item[1]), atom)
+        tells = [(action, atom_of(item_of(add)[1])) for action in file.actions for add in action.knows
+                 if item_of(add)[0] in ('kf', 'kw') and atom_of(item_of(add)[1])[0] == atom[0] != '=']
+        if not any(makers.unified(file, action, told, atom) is not None for action, told in tells):
+            for action, told in tells:
+                yield from widened(file, action, told, atom)
 
 
 def widened(file: File, action: Action, told: List_, atom: List_) -> Iterator[Change]:
@@ -141,7 +144,8 @@ def cases_apart(file: File) -> Iterator[Change]:
     tells: List[Tuple[str, Expression, Expression]] = []
     for action in file.actions:
         for add in action.knows:
-            if add[0] == 'if' and len(add[1]) == 1 and add[1][0][0] == 'k' and add[2][0] == 'kf':
+            alone = [other for other in action.knows if item_of(other) == item_of(add)] == [add]
+            if alone and add[0] == 'if' and len(add[1]) == 1 and add[1][0][0] == 'k' and add[2][0] == 'kf':
                 tells.append((action.name, add[1][0][1], add[2][1]))
     for one, condition, literal in tells:
         for other, contrary, same in tells:
@@ -169,7 +173,7 @@ def fewer_values(file: File) -> Iterator[Change]:
         yield Change(Rank.FEWER_VALUES, file.with_init(*items),
                      'in `init` exclude all but sixteen (or let an action take the value as an argument)',
                      texts(items[:3]) + (('..',) if len(items) > 3 else ()),
-                     f'The value of `{name}` may be one of {len(objects)} objects, and a plan has cases only where '
+                     f'By its type the value of `{name}` is one of {len(objects)} objects, and a plan has cases only where '
                      f'{limits.CASES} are left at most.')
 
 
