@@ -19,44 +19,61 @@ The status is 0 where each dialogue ends as it should, and 1 else.
 import os
 import subprocess
 import sys
+from typing import Dict, List, Sequence, Tuple, Type, Union
 
 TOP = os.path.dirname(os.path.dirname(os.path.abspath(__file__)))
 sys.dont_write_bytecode = True
 sys.path.insert(0, os.path.join(TOP, 'tools'))
 
 import pkslib  # noqa: E402
-from pkslib import AskTest, Do, End, World, written  # noqa: E402
+from pkslib import AskTest, Dialogue, Do, End, Fact, Question, World, written  # noqa: E402
 
 
-class Lawn(World):
+class Robot(World):
+    """A robot and its world: the example that leads it, the worlds in which it is tried, and what it does in them."""
+
+    file: str
+    depth: int
+    worlds: Dict[str, Tuple[List[Fact], Dict[Fact, str]]]
+
+    def do(self, name: str, arguments: Sequence[str]) -> None:
+        """Does an action."""
+        raise NotImplementedError
+
+    def is_well(self) -> bool:
+        """Whether the world is at the end as it was wanted."""
+        raise NotImplementedError
+
+
+class Lawn(Robot):
     """The can holds poison or not; poured, poison kills the lawn."""
 
     file, depth = 'lawn', 3
     worlds = {'poison': ([('alive',), ('poison',)], {}), 'water': ([('alive',)], {})}
 
-    def do(self, name, arguments):
+    def do(self, name: str, arguments: Sequence[str]) -> None:
         if name == 'pour' and ('poison',) in self.true:
             self.true.discard(('alive',))
 
-    def is_well(self):
+    def is_well(self) -> bool:
         return True
 
 
-class Safe(World):
+class Safe(Robot):
     """The safe opens where its combination is dialled."""
 
     file, depth = 'safe', 2
     worlds = {c: ([], {('combo',): c}) for c in ('c1', 'c3', 'c5')}
 
-    def do(self, name, arguments):
+    def do(self, name: str, arguments: Sequence[str]) -> None:
         if name == 'dial' and arguments[0] == self.values[('combo',)]:
             self.true.add(('open',))
 
-    def is_well(self):
+    def is_well(self) -> bool:
         return ('open',) in self.true
 
 
-class House(World):
+class House(Robot):
     """The cup lies in some room but the kitchen; the robot walks, takes and puts."""
 
     file, depth = 'house', 5
@@ -65,7 +82,7 @@ class House(World):
                           ('loc', 'box'): 'study', ('loc', 'key'): 'hall'})
               for room in ('hall', 'study')}
 
-    def do(self, name, arguments):
+    def do(self, name: str, arguments: Sequence[str]) -> None:
         here = self.values[('here',)]
         if name == 'go':
             self.values[('here',)] = arguments[0]
@@ -75,40 +92,40 @@ class House(World):
             self.true.discard(('held', arguments[0]))
             self.values[('loc', arguments[0])] = here
 
-    def is_well(self):
+    def is_well(self) -> bool:
         return self.values[('loc', 'cup')] == 'kitchen' and ('held', 'cup') not in self.true
 
 
-ROBOTS = {'lawn': Lawn, 'safe': Safe, 'house': House}
+ROBOTS: Dict[str, Type[Robot]] = {'lawn': Lawn, 'safe': Safe, 'house': House}
 
 
-def dialogue_of(robot):
+def dialogue_of(robot: Type[Robot]) -> Dialogue:
     """A dialogue about the robot's file."""
     with open(os.path.join(TOP, 'examples', robot.file + '.pks'), 'rb') as file:
         return pkslib.Dialogue(file.read(), robot.depth)
 
 
-def answer(robot, question):
+def answer(robot: Robot, question: Question) -> Union[bool, str]:
     """What the robot answers: the truth of a test, or the value of a term."""
     if isinstance(question, AskTest):
         return all(robot.holds(literal) for literal in question.literals)
     return robot.value(question.term)
 
 
-def asked(question):
+def asked(question: Question) -> str:
     """A question as the program prints it."""
     if isinstance(question, AskTest):
         return 'test ' + ' '.join(map(written, question.literals))
     return 'value ' + written(question.term)
 
 
-def done(robot, act):
+def done(robot: Robot, act: Do) -> None:
     """Does an action in the robot's world."""
     print(f'  do {written((act.name, *act.arguments))}')
     robot.do(act.name, act.arguments)
 
 
-def lead(robot, dialogue):
+def lead(robot: Robot, dialogue: Dialogue) -> str:
     """Goes on with a dialogue to its end; how it ended."""
     for step in dialogue:
         if isinstance(step, Do):
@@ -123,26 +140,32 @@ def lead(robot, dialogue):
     return ''
 
 
-def is_as_it_should(robot, how):
+def is_as_it_should(robot: Robot, how: str) -> bool:
+    """Whether the dialogue and the world ended well."""
     well = how == 'goal' and robot.is_well()
     print('  as it should be' if well else '  NOT as it should be')
     return well
 
 
-def lead_in(kind, name):
+def lead_in(kind: Type[Robot], name: str) -> bool:
+    """Leads a robot in one of its worlds; whether it ended well."""
     print(f'{kind.file} in the world {name}')
     robot = kind(*kind.worlds[name])
     with dialogue_of(kind) as dialogue:
         return is_as_it_should(robot, lead(robot, dialogue))
 
 
-def mistypes():
+def mistypes() -> bool:
     """A robot whose answer isn't fit: it begins anew, and answers the same question again."""
     print('house in the world study, with a slip of the pen')
     robot = House(*House.worlds['study'])
     with dialogue_of(House) as dialogue:
-        done(robot, dialogue.next())
-        print(f'  {asked(dialogue.next())} -> stduy')
+        first = dialogue.next()
+        assert isinstance(first, Do)
+        done(robot, first)
+        question = dialogue.next()
+        assert isinstance(question, pkslib.AskValue)
+        print(f'  {asked(question)} -> stduy')
         dialogue.answer('stduy')
         try:
             dialogue.next()
@@ -152,7 +175,7 @@ def mistypes():
         return is_as_it_should(robot, lead(robot, dialogue))
 
 
-def fails():
+def fails() -> bool:
     """A robot that is switched off behind its second action, and goes on later."""
     print('house in the world study, switched off on the way')
     robot, did = House(*House.worlds['study']), 0
@@ -162,7 +185,7 @@ def fails():
             if isinstance(step, Do):
                 done(robot, step)
                 did += 1
-            else:
+            elif not isinstance(step, End):
                 dialogue.answer(answer(robot, step))
         written_down = list(dialogue.answers)
     print(f'  switched off, with {did} actions done and the answers {written_down} written down')
@@ -176,7 +199,7 @@ def fails():
 
 # Dialogues that can't go on
 
-def ends(what, kind, said):
+def ends(what: str, kind: Type[Robot], said: bytes) -> bool:
     """Whether a dialogue in which all answers are these bytes ends with a refusal."""
     with open(os.path.join(TOP, 'examples', kind.file + '.pks'), 'rb') as file:
         sent = file.read() + b'.\n' + said
@@ -185,10 +208,11 @@ def ends(what, kind, said):
     return got.status == pkslib.Status.REFUSED
 
 
-def ends_unread():
+def ends_unread() -> bool:
     """Whether a dialogue whose lines nobody takes ends with the status of a fault of writing."""
     called = subprocess.Popen([pkslib.find(), 'agent', str(Safe.depth)], stdin=subprocess.PIPE,
                               stdout=subprocess.PIPE)
+    assert called.stdin and called.stdout
     called.stdout.close()
     with open(os.path.join(TOP, 'examples', Safe.file + '.pks'), 'rb') as file:
         called.stdin.write(file.read() + b'.\n')
@@ -198,14 +222,16 @@ def ends_unread():
     return got == pkslib.Status.WRITE_FAULT
 
 
-def faults():
+def faults() -> bool:
+    """All ways in which a dialogue can't go on."""
     return all([ends('an answer that isn\'t fit', Lawn, b'maybe\n'),
                 ends('a missing answer', Lawn, b''),
                 ends('an answer that is too long', Safe, b'c' * 65 + b'\n'),
                 ends_unread()])
 
 
-def main(words):
+def main(words: List[str]) -> int:
+    """Does what the words ask for, and gives the status."""
     others = {'mistypes': mistypes, 'fails': fails, 'faults': faults}
     if words in (['-h'], ['--help']):
         print(__doc__)

@@ -1,39 +1,32 @@
 """What `explain` prints: a tree and the paths in it, and entries with their proofs."""
 
-from dataclasses import replace
+from typing import Iterable, List, Tuple
 
-from explainlib.problem import literal_at
-from pkslib import Act, Branch, Cases, Goal, read_explained, sides
+from explainlib.paths import Path
+from explainlib.problem import Literal, Problem, literal_at
+from explainlib.reasons import Line
+from pkslib import Act, Branch, Cases, Goal, ProofLine, Tree, read_explained, sides
 
+Owed = Tuple[Path, Literal]
+"""A literal that is owed at the end of a path."""
 
-class Path:
-    """Actions with their effects, and sides: (moment, kind, what is chosen on, side)."""
-
-    def __init__(self, effects=(), sides=()):
-        self.effects = effects
-        self.sides = sides
-
-    def moment(self):
-        return len(self.effects)
-
-    def acted(self, effects):
-        return Path(self.effects + (effects,), self.sides)
-
-    def taken(self, kind, on, side):
-        return Path(self.effects, self.sides + ((self.moment(), kind, on, side),))
+Entry = Tuple[Literal, List[Line]]
+"""A literal with its proof."""
 
 
 class Owing:
     """What a tree owes, listed in the order in which it is printed: paths with literals."""
 
-    def __init__(self, problem):
+    def __init__(self, problem: Problem) -> None:
         self.problem = problem
-        self.owed = []
+        self.owed: List[Owed] = []
 
-    def owes(self, path, literals):
+    def owes(self, path: Path, literals: Iterable[Literal]) -> None:
+        """The tree owes these literals at the end of a path."""
         self.owed += [(path, literal) for literal in literals]
 
-    def walk(self, tree, path):
+    def walk(self, tree: Tree, path: Path) -> None:
+        """Lists what a tree owes that stands at the end of a path."""
         p = self.problem
         if isinstance(tree, Goal):
             self.owes(path, p.goals)
@@ -51,7 +44,7 @@ class Owing:
                 self.walk(child, path.taken('cases', p.term(tree.term), p.term(side)))
 
 
-def read_text(problem, text):
+def read_text(problem: Problem, text: str) -> Tuple[List[Owed], List[Entry]]:
     """The owed literals with their paths, and the entries: literals with their proofs."""
     if not text.endswith('\n'):
         raise ValueError('no line feed at the end')
@@ -62,6 +55,6 @@ def read_text(problem, text):
                         for entry in said.entries]
 
 
-def of_problem(problem, line):
+def of_problem(problem: Problem, line: ProofLine) -> Line:
     """A line of a proof, its fact over the numbers of the problem."""
-    return replace(line, fact=problem.fact(line.fact))
+    return Line(line.moment, problem.fact(line.fact), line.reason, line.told, line.cites)

@@ -53,7 +53,9 @@ Words of the format: the module `limits` has each limit, `Status` and `Code`.
 
 Exceptions: PksError is the class of NoProgram, TimedOut, Refused (.line .column .code), UnfitAnswer (a Refused with
 .question and .answer), NoPlan and Failed (.status);
-Malformed is a ValueError with .line and .column.
+Malformed is a ValueError with .line and .column, and NoWorld one that tells why no world fits.
+
+The module `commands` has what the commands in `tools` have in common.
 """
 
 from . import limits

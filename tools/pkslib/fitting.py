@@ -8,7 +8,7 @@ from .trees import Literal, Term
 from .worlds import Fact, World
 
 
-class NoWorld(Exception):
+class NoWorld(ValueError):
     """No world fits, or what is wanted of it isn't of the file."""
 
 
@@ -35,24 +35,69 @@ Need = Union[Known, Group, Region]
 """Something that a world must be like."""
 
 
+def _need_term(file: File, term: Expression) -> None:
+    """NoWorld, with a sentence, where a term without parameters isn't one of the file."""
+    if isinstance(term, str):
+        if term not in file.objects:
+            raise NoWorld(f'`{term}` is no object of the file')
+        return
+    function = file.functions.get(str(term[0])) if term else None
+    if function is None or len(function.arguments) != len(term) - 1:
+        raise NoWorld(f'`{written(term)}` is no term of the file')
+    for part in term[1:]:
+        _need_term(file, part)
+
+
+def need_literal(file: File, literal: Expression) -> None:
+    """NoWorld, with a sentence, where a literal without parameters isn't one of the file."""
+    head = literal[0] if not isinstance(literal, str) and literal else ''
+    if head == 'not' and len(literal) == 2:
+        need_literal(file, literal[1])
+        return
+    terms = 2 if head == '=' else len(file.predicates.get(str(head), ())) if head in file.predicates else -1
+    if isinstance(literal, str) or len(literal) - 1 != terms:
+        raise NoWorld(f'`{written(literal)}` is no literal of the file')
+    for term in literal[1:]:
+        _need_term(file, term)
+
+
+def _need_pattern(file: File, pattern: Expression) -> None:
+    """NoWorld, with a sentence, where a pattern isn't one of the file."""
+    kinds = None if isinstance(pattern, str) or not pattern else file.predicates.get(str(pattern[0]))
+    if kinds is None or len(kinds) != len(pattern) - 1:
+        raise NoWorld(f'`{written(pattern)}` is no pattern of the file')
+    for slot in pattern[1:]:
+        if slot != '_':
+            _need_term(file, slot)
+
+
 def needs(file: File) -> List[Need]:
-    """What the start of a file asks of a world."""
-    literals = [item[1] for item in file.init if item[0] == 'kf']
-    found: List[Need] = [Known(literal) for literal in literals]
+    """What the start of a file asks of a world; NoWorld where it has something that isn't of the file."""
+    known, rest = [], []
     for item in file.init:
-        if item[0] == 'kx':
-            found.append(Group(tuple(item[1:])))
-        elif item[0] == 'lcw':
-            found.append(Region(item[1], tuple(atom for atom in literals if atom[0] == item[1][0])))
-    return found
+        head, parts = (item[0], item[1:]) if not isinstance(item, str) and item else ('', ())
+        if head in ('kf', 'kx') and parts:
+            for literal in parts:
+                need_literal(file, literal)
+        if head == 'kf' and len(parts) == 1:
+            known.append(parts[0])
+        elif head == 'kx' and parts:
+            rest.append(item)
+        elif head == 'lcw' and len(parts) == 1:
+            _need_pattern(file, parts[0])
+            rest.append(item)
+        elif head not in ('kw', 'kv'):
+            raise NoWorld(f'`{written(item)}` is no item of a start')
+    needed: List[Need] = [Known(literal) for literal in known]
+    for item in rest:
+        is_group = item[0] == 'kx'
+        listed = () if is_group else tuple(atom for atom in known if atom[0] == item[1][0])
+        needed.append(Group(tuple(item[1:])) if is_group else Region(item[1], listed))
+    return needed
 
 
 class _Open(Exception):
     """A place has no value yet."""
-
-    def __init__(self, place: Fact) -> None:
-        super().__init__(place)
-        self.place = place
 
 
 class _Clash(Exception):
@@ -87,7 +132,7 @@ class _Partial:
             return term
         place = self.place(term)
         if place not in self.values:
-            raise _Open(place)
+            raise _Open
         return self.values[place]
 
     def options(self, place: Fact) -> List[str]:
@@ -102,10 +147,32 @@ class _Partial:
             return None if inner is None else not inner
         try:
             if literal[0] == '=':
-                return self.value(literal[1]) == self.value(literal[2])
+                return self._are_equal(literal[1], literal[2])
             return self.truth.get(self.place(literal))
         except _Open:
             return None
+
+    def _sides(self, left: Term, right: Term) -> Tuple[List[str], List[Fact]]:
+        """The values of two terms as far as there are any, and the places that have none."""
+        known: List[str] = []
+        places: List[Fact] = []
+        for side in (left, right):
+            own = side if isinstance(side, str) else self.values.get(self.place(side))
+            if own is None:
+                places.append(self.place(side))
+            else:
+                known.append(own)
+        return known, places
+
+    def _are_equal(self, left: Term, right: Term) -> Optional[bool]:
+        """Whether two terms have one value; None where that is open."""
+        known, places = self._sides(left, right)
+        if not places:
+            return known[0] == known[1]
+        if len(places) == 2:
+            return True if places[0] == places[1] else None
+        options = self.options(places[0])
+        return None if known[0] in options and len(options) > 1 else known[0] in options
 
     # ---- putting
 
@@ -128,44 +195,42 @@ class _Partial:
 
     def _make_equal(self, left: Term, right: Term, wanted: bool) -> bool:
         """Gives the one side that is open the value of the other, or excludes it."""
-        known, place = None, None
-        for side in (left, right):
-            own = side if isinstance(side, str) else self.values.get(self.place(side))
-            if own is not None:
-                known = own
-            else:
-                place = self.place(side)
-        if known is None or place is None:
+        known, places = self._sides(left, right)
+        if len(known) != 1:
             return False
         if wanted:
-            self.give(place, known)
+            self.give(places[0], known[0])
             return True
-        self.excluded.setdefault(place, set()).add(known)
-        left_over = self.options(place)
-        if not left_over:
+        self.excluded.setdefault(places[0], set()).add(known[0])
+        options = self.options(places[0])
+        if not options:
             raise _Clash
-        if len(left_over) == 1:
-            self.give(place, left_over[0])
+        if len(options) == 1:
+            self.give(places[0], options[0])
         return True
 
     # ---- what is open
 
-    def open_place(self, terms: Sequence[Expression]) -> Optional[Fact]:
-        """The first place without a value that terms, or the terms of literals, stand on."""
-        for term in terms:
-            if isinstance(term, str):
-                continue
-            if term[0] == 'not':
-                found = self.open_place(term[1:])
-            elif term[0] == '=' or term[0] in self.file.predicates and term[0] not in self.file.functions:
-                found = self.open_place(term[1:])
-            else:
-                found = self.open_place(term[1:])
-                if found is None and self.place(term) not in self.values:
-                    found = self.place(term)
-            if found is not None:
-                return found
-        return None
+    def open_in_term(self, term: Term) -> Optional[Fact]:
+        """The first place without a value that a term stands on."""
+        if isinstance(term, str):
+            return None
+        found = self.open_in_terms(term[1:])
+        if found is None and self.place(term) not in self.values:
+            found = self.place(term)
+        return found
+
+    def open_in_terms(self, terms: Sequence[Term]) -> Optional[Fact]:
+        """The same of several terms."""
+        return next((place for place in map(self.open_in_term, terms) if place is not None), None)
+
+    def open_in_literal(self, literal: Literal) -> Optional[Fact]:
+        """The same of a literal."""
+        return self.open_in_literal(literal[1]) if literal[0] == 'not' else self.open_in_terms(literal[1:])
+
+    def open_in_literals(self, literals: Sequence[Literal]) -> Optional[Fact]:
+        """The same of several literals, a pattern being read as one."""
+        return next((place for place in map(self.open_in_literal, literals) if place is not None), None)
 
 
 class _Fitting:
@@ -184,7 +249,7 @@ class _Fitting:
                 yield from self.worlds(option, left)
             return
         for region in regions:
-            place = partial.open_place([region.pattern, *region.listed]) if self.is_open(partial, region) else None
+            place = self.open_place(partial, region)
             if place is not None:
                 for option in self.values(partial, place):
                     yield from self.worlds(option, left)
@@ -230,12 +295,13 @@ class _Fitting:
             raise _Clash
         return True
 
-    def is_open(self, partial: _Partial, region: Region) -> bool:
-        return partial.open_place([region.pattern, *region.listed]) is not None
+    @staticmethod
+    def open_place(partial: _Partial, region: Region) -> Optional[Fact]:
+        return partial.open_in_literals([region.pattern, *region.listed])
 
     def need_closed(self, partial: _Partial, region: Region) -> None:
         """_Clash where an atom is true that meets the pattern and isn't listed."""
-        if self.is_open(partial, region):
+        if self.open_place(partial, region) is not None:
             return
         listed = {partial.place(atom) for atom in region.listed}
         slots = [None if slot == '_' else partial.value(slot) for slot in region.pattern[1:]]
@@ -252,7 +318,7 @@ class _Fitting:
                 yield from self.made(partial, member)
             return
         literals = need.members if isinstance(need, Group) else (need.literal,) if isinstance(need, Known) else ()
-        place = partial.open_place(literals)
+        place = partial.open_in_literals(literals)
         if place is not None:
             yield from self.values(partial, place)
 
@@ -261,7 +327,7 @@ class _Fitting:
         option = partial.copy()
         try:
             if option.holds(literal) is None and not option.make(literal, True):
-                place = option.open_place([literal])
+                place = option.open_in_literal(literal)
                 for other in self.values(option, place) if place else ():
                     yield from self.made(other, literal)
             elif option.holds(literal):
@@ -277,28 +343,10 @@ class _Fitting:
             yield option
 
 
-def need_of_file(file: File, expression: Expression, is_term: bool = False) -> None:
-    """NoWorld, with a sentence, where a literal (or a term) without parameters isn't one of the file."""
-    if isinstance(expression, str):
-        if not is_term or expression not in file.objects:
-            raise NoWorld(f'`{expression}` is no {"object" if is_term else "literal"} of the file')
-        return
-    head = expression[0] if expression else ''
-    if not is_term and head in ('not', '=') and len(expression) == (2 if head == 'not' else 3):
-        for part in expression[1:]:
-            need_of_file(file, part, head == '=')
-        return
-    kinds = file.predicates if not is_term else {name: f.arguments for name, f in file.functions.items()}
-    if not isinstance(head, str) or head not in kinds or len(kinds[head]) != len(expression) - 1:
-        raise NoWorld(f'`{written(expression)}` is no {"term" if is_term else "literal"} of the file')
-    for part in expression[1:]:
-        need_of_file(file, part, True)
-
-
 def _asked(file: File, wanted: Sequence[Literal]) -> List[Need]:
     """What the start and these literals ask of a world; NoWorld where a literal isn't one of the file."""
     for literal in wanted:
-        need_of_file(file, literal)
+        need_literal(file, literal)
     return [Known(literal) for literal in wanted] + needs(file)
 
 
@@ -312,7 +360,12 @@ def fitting_world(file: File, wanted: Sequence[Literal] = ()) -> World:
     if found is None:
         said = ' and '.join(f'`{written(literal)}`' for literal in wanted)
         raise NoWorld(f'no world fits the start{" and " + said if said else ""}')
-    values = {place: found.values.get(place) or found.options(place)[0] for place in file.places()}
+    values = {}
+    for place in file.places():
+        options = found.options(place)
+        if not options:
+            raise NoWorld(f'no object may be the value of `{written(place)}`')
+        values[place] = found.values.get(place, options[0])
     return World((atom for atom, is_true in found.truth.items() if is_true), values)
 
 
