@@ -24,3 +24,4 @@
               (oneof (clear b2) (on b1 b2))
               (oneof (clear b3) (on b1 b3))))
   (:goal (and (on b2 b3))))
+; plans: 4

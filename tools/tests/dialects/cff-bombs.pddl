@@ -19,3 +19,4 @@
   (:objects b1 b2 - bomb t1 - toilet)
   (:init (and (unknown (armed b1)) (unknown (armed b2)) (oneof (armed b1) (armed b2))))
   (:goal (and (not (armed b1)) (not (armed b2)))))
+; plans: 3

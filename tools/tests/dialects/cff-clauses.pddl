@@ -10,3 +10,4 @@
   (:domain switches)
   (:init (and (unknown (works-1)) (unknown (works-2)) (or (works-1) (works-2))))
   (:goal (lit)))
+; plans: 3

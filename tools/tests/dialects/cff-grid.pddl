@@ -33,3 +33,4 @@
               (oneof (key-at k c1) (key-at k c2))
               (unknown (key-at k c1)) (unknown (key-at k c2))))
   (:goal (at-robot c3)))
+; plans: 6

@@ -28,3 +28,4 @@
               (unknown (obj-at p1 shop)) (unknown (obj-at p1 mall))
               (oneof (obj-at p1 shop) (obj-at p1 mall))))
   (:goal (and (obj-at p1 depot))))
+; plans: 7

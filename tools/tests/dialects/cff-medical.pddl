@@ -25,3 +25,4 @@
               (oneof (ill i1) (ill i2) (ill i3))
               (unknown (ill i1)) (unknown (ill i2)) (unknown (ill i3))))
   (:goal (and (not (dead)) (not (ill i1)) (not (ill i2)) (not (ill i3)))))
+; plans: 6

@@ -16,3 +16,5 @@
   (:domain omelette)
   (:init (and (empty-hand)))
   (:goal (in-bowl)))
+; says: an effect can't turn out by chance
+; says: a fact that is `unknown` in `:init`

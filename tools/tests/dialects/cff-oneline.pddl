@@ -10,3 +10,4 @@
 (define (problem safe-2) (:domain safe) (:objects c1 c2 - combo)
 (:init (and (unknown (right c1)) (unknown (right c2)) (oneof (right c1) (right c2))))
 (:goal (open)))
+; plans: 4

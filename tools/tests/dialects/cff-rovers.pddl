@@ -29,3 +29,4 @@
               (can-traverse rover0 w0 w2) (can-traverse rover0 w2 w0)
               (oneof (soil w1) (soil w2)) (unknown (soil w1)) (unknown (soil w2))))
   (:goal (communicated)))
+; plans: 7

@@ -27,3 +27,4 @@
               (unknown (file-in paper root)) (unknown (file-in paper usr)) (unknown (file-in paper tmp))
               (oneof (file-in paper root) (file-in paper usr) (file-in paper tmp))))
   (:goal (copied paper)))
+; plans: 8

@@ -35,3 +35,4 @@
     (oneof (color o1 red) (color o1 blue))
     (garbage-at g1 p1) (garbage-at g2 p1) (garbage-color g1 red) (garbage-color g2 blue)))
   (:goal (trashed o1)))
+; plans: 8

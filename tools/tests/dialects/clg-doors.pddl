@@ -23,3 +23,4 @@
     (at p1-2)
     (oneof (opened p2-1) (opened p2-2) (opened p2-3)))
   (:goal (at p3-2)))
+; plans: 10

@@ -17,3 +17,4 @@
   (:objects p1 p2 p3 p4 - package)
   (:init (oneof (bomb-in p1) (bomb-in p2) (bomb-in p3) (bomb-in p4)))
   (:goal (defused)))
+; plans: 7

@@ -22,3 +22,4 @@
   (:domain localize)
   (:init (oneof (at p1) (at p2) (at p3)))
   (:goal (done)))
+; plans: 7

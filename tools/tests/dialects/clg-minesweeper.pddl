@@ -15,3 +15,4 @@
   (:init (and (unknown (mine c2)) (unknown (mine c3)) (unknown (mine c4)) (unknown (near c1))
               (or (mine c2) (mine c3) (mine c4))))
   (:goal (opened c1)))
+; plans: 1

@@ -17,3 +17,5 @@
   (:objects left right - pos)
   (:init (oneof (and (robot left) (box left)) (and (robot right) (box right))))
   (:goal (moved)))
+; says: can't be a member here
+; says: Give it a predicate of its own, and name that

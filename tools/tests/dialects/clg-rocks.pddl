@@ -27,3 +27,4 @@
   (:init (and (at l1) (link l1 l2) (link l2 l1) (lies r1 l1) (lies r2 l2)
               (unknown (good r1)) (unknown (good r2))))
   (:goal (and (settled r1) (settled r2))))
+; plans: 7

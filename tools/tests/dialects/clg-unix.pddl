@@ -21,3 +21,4 @@
   (:objects root a b - dir)
   (:init (and (pwd root) (child root a) (child root b) (oneof (here root) (here a) (here b))))
   (:goal (moved)))
+; plans: 8

@@ -19,12 +19,15 @@
 
 (define (problem wumpus-4)
   (:domain wumpus)
-  (:objects a b c d e - pos)
+  (:objects a b c d e f x - pos)
   (:init
-    (adj a b) (adj b a) (adj b c) (adj c b) (adj b d) (adj d b) (adj c e) (adj d e)
+    (adj a b) (adj b a) (adj b c) (adj c b) (adj b d) (adj d b) (adj c e) (adj d e) (adj a x) (adj x a)
     (at a) (exit e)
-    (oneof (wumpus-at c) (wumpus-at d) (wumpus-at e))
+    (oneof (wumpus-at c) (wumpus-at d) (wumpus-at f))
     (or (not (stench b)) (wumpus-at c) (wumpus-at d))
     (or (stench b) (not (wumpus-at c)))
-    (or (stench b) (not (wumpus-at d))))
+    (or (stench b) (not (wumpus-at d)))
+    (or (not (stench x)) (wumpus-at c))
+    (or (stench x) (not (wumpus-at c))))
   (:goal (out)))
+; plans: 8

@@ -37,3 +37,5 @@
     (or (not (stench p2-1)) (wumpus-at p2-2))
     (or (stench p2-1) (not (wumpus-at p2-2))))
   (:goal (and (got-the-treasure) (alive))))
+; plans: 10
+; known: 10

@@ -17,3 +17,5 @@
   (:objects b - ball r1 - room)
   (:init (and (at-robby r1) (unknown (at b r1))))
   (:goal (carry b)))
+; says: by the indentation `(:action grip` lost a `)`
+; says: Write one more at the end of line

@@ -25,3 +25,4 @@
               (or (not (sign-points-left)) (heaven left))
               (or (sign-points-left) (not (heaven left)))))
   (:goal (happy)))
+; plans: 7

@@ -25,3 +25,4 @@
   (:objects plane - vehicle box - package rome oslo - airport)
   (:init (and (at plane rome) (oneof (at box rome) (at box oslo))))
   (:goal (at box rome)))
+; plans: 6

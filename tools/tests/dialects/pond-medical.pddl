@@ -24,3 +24,4 @@
               (or (not (high)) (ill flu))
               (or (high) (not (ill flu)))))
   (:goal (cured)))
+; plans: 5

@@ -14,3 +14,5 @@
   (:objects a b - cell)
   (:init (and (at a) (next a b)))
   (:goal (at b)))
+; says: an effect can't turn out by chance
+; says: a fact that is `unknown` in `:init`

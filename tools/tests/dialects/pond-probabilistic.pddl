@@ -10,3 +10,4 @@
   (:domain tiger)
   (:init (probabilistic 0.5 (tiger-left) 0.5 (tiger-right)))
   (:goal (free)))
+; plans: 3

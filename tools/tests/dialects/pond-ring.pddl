@@ -26,3 +26,4 @@
   (:init (and (at r1) (next r1 r2) (next r2 r1) (unknown (closed r1)) (unknown (closed r2))
               (unknown (locked r1)) (unknown (locked r2))))
   (:goal (and (locked r1) (locked r2))))
+; plans: 9

@@ -27,3 +27,4 @@
   (:init (and (at w1) (link w1 w2) (link w2 w1)
               (oneof (visible hill w1) (visible hill w2))))
   (:goal (have-image hill)))
+; plans: 5

@@ -10,3 +10,4 @@
   (:domain tiger)
   (:init (and (oneof (tiger-left) (tiger-right))))
   (:goal (and (free))))
+; plans: 3
