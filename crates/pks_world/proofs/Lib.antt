@@ -7,3 +7,4 @@ pub mod Effects
 pub mod Gathering
 pub mod Instances
 pub mod Arguments
+mod Telling

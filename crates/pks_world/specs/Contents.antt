@@ -25,6 +25,10 @@ atom_eq a b = is_eq (atom_cmp a b)
 abbrev pub is_listed : List PredAtom → Atom → Bool
 is_listed listed a = list_any (λ b. atom_eq a (atom_of b)) listed
 
+-- a place and the value that is kept for it
+abbrev pub kept_of : term.Term × ObjId → Term × ℕ
+kept_of x = (term_of x.0, x.1.0)
+
 -- the value that is kept for a place
 abbrev pub kept_at : List (term.Term × ObjId) → Term → Option ℕ
 kept_at kept t = option_map object_of (lookup (λ u. term_eq t (term_of u)) kept)

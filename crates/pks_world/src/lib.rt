@@ -6,6 +6,7 @@ mod few;
 mod first;
 mod grounding;
 mod observe;
+mod same;
 mod worlds;
 
 pub use few::Few;
