@@ -1,4 +1,4 @@
-"""The reader of printed texts other than plans: runs, what is recalled, explanations, and plans with equal parts once."""
+"""The reader of printed texts other than plans: runs, what is recalled, explanations, plans with equal parts once."""
 
 import re
 from dataclasses import dataclass
