@@ -2,7 +2,7 @@
 
 import re
 from dataclasses import dataclass, field, replace
-from typing import Callable, Dict, FrozenSet, List, Optional, Sequence, Set, Tuple, Union
+from typing import Callable, Dict, FrozenSet, List, Optional, Sequence, Tuple, Union
 
 import pkslib
 from asklib.files import File, List_
@@ -79,7 +79,7 @@ class Asker:
         except pkslib.NoPlan:
             return None
 
-    def read(self, printed: str, queries: List_, meant: 'Set[FrozenSet[Expression]]') -> State:
+    def read(self, printed: str, queries: List_, meant: FrozenSet[Expression]) -> State:
         """The state that a recall tells of the leaf where was asked."""
         lines = printed.splitlines()
         first = lines.index('leaf 1')
@@ -91,7 +91,7 @@ class Asker:
             if asks:
                 here, end = moments[number][asks[0]], moments[number][-1]
                 sides = [step.at for step in way.steps if isinstance(step, Side)]
-                others = [at.text() for at in sides if parts_of(at) not in meant]
+                others = [at.text() for at in sides if not parts_of(at) <= meant]
                 return State(tuple(filter(self.is_news, here)), self.told(end, queries), otherwise=', '.join(others))
         return State(impossible=True)
 
@@ -108,13 +108,13 @@ class Asker:
         return frozenset(queries[int(match[1])] for match in found if match)
 
 
-def tested(question: Question) -> Set[FrozenSet[Expression]]:
-    """What is tested in a question."""
+def tested(question: Question) -> FrozenSet[Expression]:
+    """The literals and terms that are tested in a question."""
     if isinstance(question, Step):
         return tested(question.next)
     if isinstance(question, Fork):
-        return {frozenset(question.tested)}.union(*(tested(child) for _, child in question.sides))
-    return set()
+        return frozenset(question.tested).union(*(tested(child) for _, child in question.sides))
+    return frozenset()
 
 
 def parts_of(at: Union[Branch, Cases]) -> FrozenSet[Expression]:

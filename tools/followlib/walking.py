@@ -73,7 +73,7 @@ class Walk:
             self.say(indent, f'    not asked: {fault}')
             self.faults.append(f'not asked: {fault}')
             return None
-        if state.otherwise:
+        if state.otherwise != before.otherwise:
             self.say(indent, f'    (the program tests {state.otherwise} on this way, in place of what is written)')
         if not state.impossible:
             self.news(before, state, told, not way, indent)
@@ -102,7 +102,8 @@ class Walk:
         """Prints a list of literals where there is one."""
         if texts:
             more = f' and {len(texts) - most} more' if most and len(texts) > most else ''
-            self.say(indent, f'    {name}: {" ".join(texts[:most])}{more}')
+            between = ', ' if name == 'known whether' else ' '
+            self.say(indent, f'    {name}: {between.join(texts[:most])}{more}')
 
     def fault(self, indent: str, step: str, what: str, lines: Sequence[str]) -> Optional[Question]:
         """Prints why a step can't be done, and gives that the plan can't be gone whole."""

@@ -36,7 +36,7 @@ class Asking:
 
     def __init__(self, seconds: float) -> None:
         self.begun = time.monotonic()
-        self.seconds = max(1.0, seconds - 2)
+        self.seconds = max(1.0, 0.92 * seconds - 1)
         self.answers: Dict[Tuple[str, int], Outcome] = {}
         self.pool = ThreadPoolExecutor(SIDE_BY_SIDE)
         self.stopped = False

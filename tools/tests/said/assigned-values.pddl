@@ -1,0 +1,15 @@
+(define (domain letters)
+  (:requirements :typing :fluents)
+  (:types letter room)
+  (:functions (place ?l - letter) - room (here) - room)
+  (:action drop :parameters (?l - letter) :effect (assign (place ?l) (here)))
+  (:action go :parameters (?r - room) :effect (assign (here) ?r)))
+(define (problem letters-1)
+  (:domain letters)
+  (:objects l - letter r1 r2 - room)
+  (:init (= (here) r1))
+  (:goal (= (place l) (here))))
+
+; writes: (functions (here room) (place letter room))
+; writes: (knows (kf (= (place ?l) (here)))
+; plans: 1
