@@ -5,6 +5,7 @@ says nothing: `knows-whether` and `knows-value` hold.
 """
 
 import itertools
+import re
 
 from pkslib import Act, Branch, Cases, Goal, read_plan
 
