@@ -89,6 +89,10 @@ class Sense:
     kind: str
     what: Any
 
+    def at(self, arguments: Sequence[Term]) -> 'Sense':
+        """The sense with the arguments put in."""
+        return Sense(self.kind, AT[self.kind](self.what, arguments))
+
 
 @dataclass(frozen=True)
 class Item:
@@ -106,8 +110,9 @@ class Add:
     item: Item
 
 
-AT: Dict[str, Any] = {'k': literal_at, 'kf': literal_at, 'kw': conjunction_at, 'kv': term_at, 'lcw': pattern_at}
-"""How arguments are put in, by the word of a query or an item."""
+AT: Dict[str, Any] = {'k': literal_at, 'kf': literal_at, 'kw': conjunction_at, 'kv': term_at, 'lcw': pattern_at,
+                      'sense': conjunction_at, 'sense-value': term_at, 'sense-all': pattern_at}
+"""How arguments are put in, by the word of a query, an item or a sense."""
 
 
 @dataclass(frozen=True)
