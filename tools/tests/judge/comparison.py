@@ -89,6 +89,42 @@ def first_without_case(problem: Problem) -> Optional[Tuple[Action, int]]:
 
 # ---- one file
 
+ATTEMPTS = 12
+"""How many files are made for one number at most."""
+
+
+@dataclass
+class Made:
+    """A file that was made: its text without adds, what `derive` prints of that, its text, and its planner."""
+
+    bare: str
+    derived: str
+    text: str
+    depth: int
+    problem: Problem
+    planner: Planner
+
+    def is_wanted(self, kind: int) -> bool:
+        """Whether it is of a kind: any; one whose goal isn't met at the start; a plan of two steps; and it parts."""
+        start = self.planner.start
+        if kind == 0:
+            return True
+        if start.history is None or first_without_case(self.problem) is not None:
+            return False
+        try:
+            trees = [self.planner.best(start, depth) for depth in ((0,) if kind == 1 else (0, 1, self.depth))]
+        except TooMuch:
+            return False
+        if kind == 1 or trees[0] or trees[1]:
+            return trees == [None]
+        return trees[2] is not None and (kind == 2 or parts(trees[2]))
+
+
+def parts(tree: Tree) -> bool:
+    """Whether a tree has a branch or cases."""
+    return len(tree.children) > 1 or any(map(parts, tree.children))
+
+
 class Comparison:
     """Compares files, and keeps those of which something differs in a folder of their own."""
 
@@ -121,17 +157,30 @@ class Comparison:
     def file(self, number: int) -> None:
         """Makes the file of a number, and compares all that is printed of it."""
         self.counts.files += 1
-        chance = random.Random(number)
-        maker = Maker(chance)
+        made = self.made(number)
+        name = f'file-{number}'
+        if made.planner.start.history is None:
+            self.is_clash(name, made.bare)
+        elif self.is_same(name, ['derive'], made.bare, made.derived):
+            self.with_adds(name, made)
+
+    def made(self, number: int) -> 'Made':
+        """The first file of a number's that is of the kind that is wanted, or the last that is tried."""
+        for attempt in range(ATTEMPTS):
+            made = self.attempt(number, attempt)
+            if made.is_wanted(number % 4):
+                break
+        return made
+
+    def attempt(self, number: int, attempt: int) -> 'Made':
+        """One file of a number's."""
+        maker = Maker(random.Random(f'{number}/{attempt}'))
         forms = maker.forms()
         bare = text_of(forms)
-        name = f'file-{number}'
-        problem = read_problem(bare)
-        expected = derive_text(problem)
-        if Planner(problem, self.limits.states).start.history is None:
-            self.is_clash(name, bare)
-        elif self.is_same(name, ['derive'], bare, expected):
-            self.with_adds(name, text_of(forms, self.adds(maker, forms, expected)), chance.choice([1, 2, 3, 3, 3, 4]))
+        derived = derive_text(read_problem(bare))
+        text = text_of(forms, self.adds(maker, forms, derived))
+        problem = read_problem(text)
+        return Made(bare, derived, text, maker.depth, problem, Planner(problem, self.limits.states))
 
     def adds(self, maker: Maker, forms: List[Expression], derived: str) -> Dict[str, List[Expression]]:
         """The adds of each action: those that are derived of it, and sometimes others."""
@@ -156,19 +205,18 @@ class Comparison:
         if not re.fullmatch(r'refused \d+:\d+ 270\n', printed):
             self.fault(name, text, f'`check` prints\n{printed}and by the rules the initial databases clash\n')
 
-    def with_adds(self, name: str, text: str, depth: int) -> None:
+    def with_adds(self, name: str, made: 'Made') -> None:
         """Compares what is printed of a file with its adds."""
-        problem = read_problem(text)
-        unjustified = first_without_case(problem)
-        if unjustified is not None:
-            self.counts.refused += 1
-            self.counts.texts += 1
-            tail = f' 260 action {unjustified[0].name} effect {unjustified[1]}\n'
-            printed = self.ask(['check'], text)
-            if not re.fullmatch(r'refused \d+:\d+' + re.escape(tail), printed):
-                self.fault(name, text, f'`check` prints\n{printed}and by the rules it is\nrefused LINE:COLUMN{tail}')
+        unjustified = first_without_case(made.problem)
+        if unjustified is None:
+            self.plans(name, made.text, made.planner, made.depth)
             return
-        self.plans(name, text, Planner(problem, self.limits.states), depth)
+        self.counts.refused += 1
+        self.counts.texts += 1
+        tail = f' 260 action {unjustified[0].name} effect {unjustified[1]}\n'
+        printed = self.ask(['check'], made.text)
+        if not re.fullmatch(r'refused \d+:\d+' + re.escape(tail), printed):
+            self.fault(name, made.text, f'`check` prints\n{printed}and by the rules it is\nrefused LINE:COLUMN{tail}')
 
     def plans(self, name: str, text: str, planner: Planner, depth: int) -> None:
         """Compares the plans to all depths up to this one, and what the last one recalls."""

@@ -110,6 +110,8 @@ class Maker:
         """Queries that an action may answer."""
         self.known: List[Expression] = []
         """Items that the start must have."""
+        self.depth = 0
+        """To what depth it is planned."""
 
     def may(self, share: float) -> bool:
         """Whether something is so that is so in this share of all."""
@@ -118,10 +120,10 @@ class Maker:
     # ---- terms and literals
 
     def term(self, kind: str, names: Parameters, height: int = 2) -> Expression:
-        """A term that fits the type, among these parameters."""
-        found: List[Any] = list(self.chance.sample(self.declared.objects_of(kind), 1))
-        found += [name for name, own in names if self.declared.fits(own, kind)] * 2
+        """A term that fits the type and is no higher, among these parameters."""
+        found: List[Any] = [self.chance.choice(self.declared.objects_of(kind))]
         if height > 0:
+            found += [name for name, own in names if self.declared.fits(own, kind)] * 2
             found += [name for name, (_, result) in self.declared.functions.items()
                       if self.declared.fits(result, kind)]
         taken = self.chance.choice(found)
@@ -133,7 +135,7 @@ class Maker:
 
     def some_place(self, names: Parameters) -> Expression:
         """Some function at some terms."""
-        return self.place(self.chance.choice(list(self.declared.functions)), names, self.chance.choice([1, 1, 1, 2]))
+        return self.place(self.chance.choice(list(self.declared.functions)), names, self.chance.choice([1, 2, 2]))
 
     def atom(self, names: Parameters) -> Expression:
         """An atom."""
@@ -296,7 +298,9 @@ class Maker:
 
     def forms(self) -> List[Expression]:
         """The forms of the file, without adds."""
+        self.depth = self.chance.choice([1, 2, 3, 3, 3])
         if self.may(0.3):
+            self.depth = 4
             actions = self.learning()
         else:
             actions = [self.action(n) for n in range(self.chance.choice([1, 2, 2, 3]))]
