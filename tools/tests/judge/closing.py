@@ -106,14 +106,15 @@ class Closer:
         return self._closed[five]
 
     def _close(self, five: Five) -> Optional[Database]:
-        known, lookup = five.kf, Lookup(self.signature, five.kf, five.lcw)
+        known = five.kf
         while True:
+            lookup = Lookup(self.signature, known, five.lcw)
+            if any(lookup.holds(negated(literal)) for literal in known):
+                return None  # where one of a round is denied on the way, closing clashes
             grown = closing_round(self.signature, five, known, lookup)
             if grown is known:
                 break
-            known, lookup = grown, Lookup(self.signature, grown, five.lcw)
-        if any(lookup.holds(negated(literal)) for literal in known):
-            return None
+            known = grown
         closed = tidied(five, known, lookup)
         if closed not in self._databases:
             self._databases[closed] = Database(self.signature, closed)

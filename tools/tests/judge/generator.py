@@ -244,6 +244,56 @@ class Maker:
                 *(('action', f'way{n}', ('pre', ('k', known)), ('effects', *self.sometimes(), ('set', aim)))
                   for n, known in enumerate([condition, opposite(condition)]))]
 
+    def false_atom(self) -> Expression:
+        """A ground atom that is false in the world, where one is found soon."""
+        found = [self.atom([]) for _ in range(4)]
+        return next((atom for atom in found if not self.declared.is_true(atom)), found[-1])
+
+    def reading(self) -> List[Expression]:
+        """An action that reads a value, and one that needs it."""
+        if not self.declared.functions:
+            return self.chain()
+        place, aim = self.some_place([]), self.false_atom()
+        kind = self.declared.functions[str(place[0])][1]
+        used: List[Expression] = [('when', (('=', '?x', place),), ('set', aim))]
+        if self.may(0.3):
+            other = self.some_place([('?x', kind)])
+            result = self.declared.functions[str(other[0])][1]
+            used = [('assign', other, self.term(result, [('?x', kind)])), *used]
+        if self.may(0.3):
+            used.append(self.effect([('?x', kind)]))
+        pre = [('pre', self.query([('?x', kind)]))] if self.may(0.2) else []
+        self.made.append(aim)
+        self.aims += [('k', aim)] * 4
+        return [('action', 'read', ('effects', *self.sometimes()), ('senses', ('sense-value', place))),
+                ('action', 'use', ('params', ('?x', kind)), *pre, ('effects', *used))]
+
+    def chain(self) -> List[Expression]:
+        """Actions of which each needs what the one before it makes so."""
+        links = [self.false_atom() for _ in range(self.chance.choice([2, 3, 3]))]
+        found: List[Expression] = []
+        for n, link in enumerate(links):
+            pre = [('pre', ('k', links[n - 1]))] if n else []
+            found.append(('action', f'link{n}', *pre, ('effects', *self.sometimes(), ('set', link), *self.sometimes())))
+        self.made += links
+        self.aims += [('k', links[-1])] * 4 + [('k', self.chance.choice(links))]
+        return found
+
+    def sweeping(self) -> List[Expression]:
+        """An action that clears a pattern, ones that fill it again, and an aim that some of it stays clear."""
+        head, kinds = self.chance.choice(list(self.declared.predicates.items()))
+        pattern = (head, *('_' if self.may(0.7) else self.term(kind, []) for kind in kinds))
+        atom = (head, *(self.term(kind, []) for kind in kinds))
+        filled = (head, *(self.term(kind, []) for kind in kinds))
+        self.aims += [('k', ('not', atom))] * 2 + [('k', self.false_atom())]
+        fill: Expression = ('set', filled)
+        if self.may(0.4):
+            fill = ('when', (self.literal([]),), fill)
+        aim = self.aims[-1][1]
+        return [('action', 'sweep', ('effects', *self.sometimes(), ('clear', pattern), *self.sometimes())),
+                ('action', 'fill', ('effects', fill, ('set', aim), *self.sometimes())),
+                ('action', 'go', ('pre', ('k', ('not', atom))), ('effects', ('set', aim), *self.sometimes()))]
+
     def sometimes(self) -> List[Expression]:
         """Sometimes an effect."""
         return [self.effect([])] if self.may(0.2) else []
@@ -299,14 +349,22 @@ class Maker:
     def forms(self) -> List[Expression]:
         """The forms of the file, without adds."""
         self.depth = self.chance.choice([1, 2, 3, 3, 3])
-        if self.may(0.3):
-            self.depth = 4
-            actions = self.learning()
-        else:
-            actions = [self.action(n) for n in range(self.chance.choice([1, 2, 2, 3]))]
+        actions = self.actions()
         aims = [self.aim() for _ in range(self.chance.choice([1, 1, 1, 2]))]
         return [('pks', str(self.version)), ('domain', *self.declared.forms(), *actions),
                 ('problem', ('init', *self.init()), ('goal', *aims))]
+
+    def actions(self) -> List[Expression]:
+        """The actions, of one of a few kinds."""
+        kind = self.chance.random()
+        if kind < 0.2:
+            self.depth = 4
+            return self.learning()
+        if kind < 0.55:
+            self.depth = 3
+            found = self.chance.choice([self.reading, self.chain, self.sweeping])()
+            return found + [self.action(0)] * self.may(0.4)
+        return [self.action(n) for n in range(self.chance.choice([1, 2, 2, 3]))]
 
     def other_adds(self, action: Expression) -> Iterator[Expression]:
         """Adds that don't follow from the text as it stands, some of which have a case."""
