@@ -2,91 +2,78 @@
 """A robot that is led through a plan by its own answers.
 
     examples/robot.py lawn | safe | house [WORLD]
-    examples/robot.py faults
+    examples/robot.py mistypes | fails | faults
 
-It starts `./pks agent D` (or the program that the environment variable PKS
-names), gives it the example's file and the line `.`, keeps a simulated world,
-does in it what it is told to do, answers each question from it, and prints
-each line of the dialogue. Without WORLD each of the example's worlds is tried.
+It leads a pkslib.Dialogue with the example's file, keeps a simulated world, does in it what it is
+told to do, answers each question from it, and prints each line of the dialogue. Without WORLD each
+of the example's worlds is tried.
 
-`faults` shows how a dialogue ends that can't go on: an answer that isn't fit,
-one that is missing, one that is too long, and a pipe that is closed.
+`mistypes` answers once with a word that isn't fit, and goes on from the same question. `fails` is
+switched off within the plan; switched on again it has the answers that it wrote down, begins anew
+with them, and does only what it hadn't done. `faults` shows how a dialogue ends that can't go on.
 
+The program is found as by all tools: the variable PKS, the built one of this checkout, the PATH.
 The status is 0 where each dialogue ends as it should, and 1 else.
 """
 
 import os
 import subprocess
 import sys
+from typing import Dict, List, Sequence, Tuple, Type, Union
 
 TOP = os.path.dirname(os.path.dirname(os.path.abspath(__file__)))
-PKS = os.environ.get('PKS', os.path.join(TOP, 'pks'))
+sys.dont_write_bytecode = True
+sys.path.insert(0, os.path.join(TOP, 'tools'))
+
+import pkslib  # noqa: E402
+from pkslib import AskTest, Dialogue, Do, End, Fact, Question, World, written  # noqa: E402
 
 
-def words(text):
-    """The words of a text in parentheses, as lists."""
-    tokens = text.replace('(', ' ( ').replace(')', ' ) ').split()
-    stack = [[]]
-    for token in tokens:
-        if token == '(':
-            stack.append([])
-        elif token == ')':
-            done = stack.pop()
-            stack[-1].append(done)
-        else:
-            stack[-1].append(token)
-    return stack[0]
+class Robot(World):
+    """A robot and its world: the example that leads it, the worlds in which it is tried, and what it does in them."""
+
+    file: str
+    depth: int
+    worlds: Dict[str, Tuple[List[Fact], Dict[Fact, str]]]
+
+    def do(self, name: str, arguments: Sequence[str]) -> None:
+        """Does an action."""
+        raise NotImplementedError
+
+    def is_well(self) -> bool:
+        """Whether the world is at the end as it was wanted."""
+        raise NotImplementedError
 
 
-class World:
-    """The atoms that are true, and the value of each place."""
-
-    def __init__(self, true=(), values=()):
-        self.true = set(true)
-        self.values = dict(values)
-
-    def value(self, term):
-        if isinstance(term, str):
-            return term
-        return self.values[(term[0],) + tuple(self.value(t) for t in term[1:])]
-
-    def holds(self, literal):
-        if literal[0] == 'not':
-            return not self.holds(literal[1])
-        if literal[0] == '=':
-            return self.value(literal[1]) == self.value(literal[2])
-        return (literal[0],) + tuple(self.value(t) for t in literal[1:]) in self.true
-
-
-class Lawn(World):
+class Lawn(Robot):
     """The can holds poison or not; poured, poison kills the lawn."""
 
     file, depth = 'lawn', 3
     worlds = {'poison': ([('alive',), ('poison',)], {}), 'water': ([('alive',)], {})}
 
-    def do(self, name, args):
+    def do(self, name: str, arguments: Sequence[str]) -> None:
         if name == 'pour' and ('poison',) in self.true:
             self.true.discard(('alive',))
 
-    def is_well(self):
+    def is_well(self) -> bool:
         return True
 
 
-class Safe(World):
+class Safe(Robot):
     """The safe opens where its combination is dialled."""
 
     file, depth = 'safe', 2
     worlds = {c: ([], {('combo',): c}) for c in ('c1', 'c3', 'c5')}
 
-    def do(self, name, args):
-        if name == 'dial' and args[0] == self.values[('combo',)]:
+    def do(self, name: str, arguments: Sequence[str]) -> None:
+        if name == 'dial' and arguments[0] == self.values[('combo',)]:
             self.true.add(('open',))
 
-    def is_well(self):
+    def is_well(self) -> bool:
         return ('open',) in self.true
 
 
-class House(World):
+class House(Robot):
     """The cup lies in some room but the kitchen; the robot walks, takes and puts."""
 
     file, depth = 'house', 5
@@ -95,111 +82,171 @@ class House(World):
                           ('loc', 'box'): 'study', ('loc', 'key'): 'hall'})
               for room in ('hall', 'study')}
 
-    def do(self, name, args):
+    def do(self, name: str, arguments: Sequence[str]) -> None:
         here = self.values[('here',)]
         if name == 'go':
-            self.values[('here',)] = args[0]
-        elif name == 'take' and self.values[('loc', args[0])] == here:
-            self.true.add(('held', args[0]))
-        elif name == 'put' and ('held', args[0]) in self.true:
-            self.true.discard(('held', args[0]))
-            self.values[('loc', args[0])] = here
+            self.values[('here',)] = arguments[0]
+        elif name == 'take' and self.values[('loc', arguments[0])] == here:
+            self.true.add(('held', arguments[0]))
+        elif name == 'put' and ('held', arguments[0]) in self.true:
+            self.true.discard(('held', arguments[0]))
+            self.values[('loc', arguments[0])] = here
 
-    def is_well(self):
+    def is_well(self) -> bool:
         return self.values[('loc', 'cup')] == 'kitchen' and ('held', 'cup') not in self.true
 
 
-ROBOTS = {'lawn': Lawn, 'safe': Safe, 'house': House}
+ROBOTS: Dict[str, Type[Robot]] = {'lawn': Lawn, 'safe': Safe, 'house': House}
 
 
-def start(robot):
-    """The program, with the file and the line that ends it given."""
-    called = subprocess.Popen([PKS, 'agent', str(robot.depth)], stdin=subprocess.PIPE,
-                              stdout=subprocess.PIPE)
+def dialogue_of(robot: Type[Robot]) -> Dialogue:
+    """A dialogue about the robot's file."""
     with open(os.path.join(TOP, 'examples', robot.file + '.pks'), 'rb') as file:
-        called.stdin.write(file.read() + b'.\n')
-    called.stdin.flush()
-    return called
+        return pkslib.Dialogue(file.read(), robot.depth)
 
 
-def answer(robot, line):
-    """What the robot answers to a question, or None where the line isn't one."""
-    if line.startswith('test '):
-        return 'true' if all(robot.holds(l) for l in words(line[5:])) else 'false'
-    if line.startswith('value '):
-        return robot.value(words(line[6:])[0])
-    return None
+def answer(robot: Robot, question: Question) -> Union[bool, str]:
+    """What the robot answers: the truth of a test, or the value of a term."""
+    if isinstance(question, AskTest):
+        return all(robot.holds(literal) for literal in question.literals)
+    return robot.value(question.term)
 
 
-def lead(robot):
-    """The dialogue of one world: its last line, and the status."""
-    called = start(robot)
-    last = ''
-    for line in called.stdout:
-        last = line.decode('ascii').rstrip('\n')
-        said = answer(robot, last)
-        if said is not None:
-            print(f'  {last} -> {said}')
-            called.stdin.write(said.encode('ascii') + b'\n')
-            called.stdin.flush()
-            continue
-        print(f'  {last}')
-        if last.startswith('do '):
-            name, *args = words(last[3:])[0]
-            robot.do(name, args)
-    called.stdin.close()
-    return last, called.wait()
+def asked(question: Question) -> str:
+    """A question as the program prints it."""
+    if isinstance(question, AskTest):
+        return 'test ' + ' '.join(map(written, question.literals))
+    return 'value ' + written(question.term)
 
 
-def lead_in(kind, name):
-    print(f'{kind.file} in the world {name}')
-    true, values = kind.worlds[name]
-    robot = kind(true, values)
-    last, status = lead(robot)
-    well = last == 'goal' and status == 0 and robot.is_well()
-    print(f'  status {status}: {"as it should be" if well else "NOT as it should be"}')
+def done(robot: Robot, act: Do) -> None:
+    """Does an action in the robot's world."""
+    print(f'  do {written((act.name, *act.arguments))}')
+    robot.do(act.name, act.arguments)
+
+
+def lead(robot: Robot, dialogue: Dialogue) -> str:
+    """Goes on with a dialogue to its end; how it ended."""
+    for step in dialogue:
+        if isinstance(step, Do):
+            done(robot, step)
+        elif isinstance(step, End):
+            print(f'  {step.how}')
+            return step.how
+        else:
+            said = answer(robot, step)
+            print(f'  {asked(step)} -> {str(said).lower() if isinstance(said, bool) else said}')
+            dialogue.answer(said)
+    return ''
+
+
+def is_as_it_should(robot: Robot, how: str) -> bool:
+    """Whether the dialogue and the world ended well."""
+    well = how == 'goal' and robot.is_well()
+    print('  as it should be' if well else '  NOT as it should be')
     return well
 
 
-def ends(what, kind, said, status):
-    """Whether a dialogue in which all answers are these bytes ends with the status."""
-    called = start(kind())
-    called.stdin.write(said)
-    called.stdin.close()
-    text = called.stdout.read().decode('ascii')
-    got = called.wait()
-    print(f'{what}: {text.splitlines()[-1]}, status {got}')
-    return got == status
+def lead_in(kind: Type[Robot], name: str) -> bool:
+    """Leads a robot in one of its worlds; whether it ended well."""
+    print(f'{kind.file} in the world {name}')
+    robot = kind(*kind.worlds[name])
+    with dialogue_of(kind) as dialogue:
+        return is_as_it_should(robot, lead(robot, dialogue))
 
 
-def ends_unread():
+def mistypes() -> bool:
+    """A robot whose answer isn't fit: it begins anew, and answers the same question again."""
+    print('house in the world study, with a slip of the pen')
+    robot = House(*House.worlds['study'])
+    with dialogue_of(House) as dialogue:
+        first = dialogue.next()
+        assert isinstance(first, Do)
+        done(robot, first)
+        question = dialogue.next()
+        assert isinstance(question, pkslib.AskValue)
+        print(f'  {asked(question)} -> stduy')
+        dialogue.answer('stduy')
+        try:
+            dialogue.next()
+        except pkslib.UnfitAnswer as fault:
+            print(f'  {fault}')
+        dialogue.resume()
+        return is_as_it_should(robot, lead(robot, dialogue))
+
+
+def fails() -> bool:
+    """A robot that is switched off behind its second action, and goes on later."""
+    print('house in the world study, switched off on the way')
+    robot, did = House(*House.worlds['study']), 0
+    with dialogue_of(House) as dialogue:
+        while did < 2:
+            step = dialogue.next()
+            if isinstance(step, Do):
+                done(robot, step)
+                did += 1
+            elif not isinstance(step, End):
+                dialogue.answer(answer(robot, step))
+        written_down = list(dialogue.answers)
+    print(f'  switched off, with {did} actions done and the answers {written_down} written down')
+    with dialogue_of(House) as dialogue:
+        told = dialogue.resume(written_down)
+        print(f'  switched on: {len(told)} actions are told again, and the last {len(told) - did} are to be done')
+        for act in told[did:]:
+            done(robot, act)
+        return is_as_it_should(robot, lead(robot, dialogue))
+
+
+# Dialogues that can't go on
+
+def ends(what: str, kind: Type[Robot], said: bytes) -> bool:
+    """Whether a dialogue in which all answers are these bytes ends with a refusal."""
+    with open(os.path.join(TOP, 'examples', kind.file + '.pks'), 'rb') as file:
+        sent = file.read() + b'.\n' + said
+    got = pkslib.call(['agent', str(kind.depth)], sent)
+    print(f'{what}: {got.text.splitlines()[-1]}, status {got.status}')
+    return got.status == pkslib.Status.REFUSED
+
+
+def ends_unread() -> bool:
     """Whether a dialogue whose lines nobody takes ends with the status of a fault of writing."""
-    called = subprocess.Popen([PKS, 'agent', str(Safe.depth)], stdin=subprocess.PIPE,
+    called = subprocess.Popen([pkslib.find(), 'agent', str(Safe.depth)], stdin=subprocess.PIPE,
                               stdout=subprocess.PIPE)
+    assert called.stdin and called.stdout
     called.stdout.close()
     with open(os.path.join(TOP, 'examples', Safe.file + '.pks'), 'rb') as file:
         called.stdin.write(file.read() + b'.\n')
     called.stdin.close()
     got = called.wait()
     print(f'a closed pipe: status {got}')
-    return got == 5
+    return got == pkslib.Status.WRITE_FAULT
 
 
-def faults():
-    return all([ends('an answer that isn\'t fit', Lawn, b'maybe\n', 3),
-                ends('a missing answer', Lawn, b'', 3),
-                ends('an answer that is too long', Safe, b'c' * 65 + b'\n', 3),
+def faults() -> bool:
+    """All ways in which a dialogue can't go on."""
+    return all([ends('an answer that isn\'t fit', Lawn, b'maybe\n'),
+                ends('a missing answer', Lawn, b''),
+                ends('an answer that is too long', Safe, b'c' * 65 + b'\n'),
                 ends_unread()])
 
 
-def main(named):
-    if named == ['faults']:
-        return 0 if faults() else 1
-    if not named or named[0] not in ROBOTS:
+def main(words: List[str]) -> int:
+    """Does what the words ask for, and gives the status."""
+    others = {'mistypes': mistypes, 'fails': fails, 'faults': faults}
+    if words in (['-h'], ['--help']):
         print(__doc__)
+        return 0
+    try:
+        if len(words) == 1 and words[0] in others:
+            return 0 if others[words[0]]() else 1
+        if words and words[0] in ROBOTS:
+            kind = ROBOTS[words[0]]
+            return 0 if all([lead_in(kind, name) for name in words[1:] or kind.worlds]) else 1
+    except pkslib.PksError as fault:
+        sys.stderr.write(f'robot.py: {fault}\n')
         return 1
-    kind = ROBOTS[named[0]]
-    return 0 if all([lead_in(kind, name) for name in named[1:] or kind.worlds]) else 1
+    sys.stderr.write(__doc__)
+    return 1
 
 
 if __name__ == '__main__':

@@ -1,50 +1,32 @@
 """What `explain` prints: a tree and the paths in it, and entries with their proofs."""
 
-import re
+from typing import Iterable, List, Tuple
 
-from explainlib.problem import forms, literal_at
-from pkslib import Act, Branch, Cases, Goal, read_plan, sides
+from explainlib.paths import Path
+from explainlib.problem import Literal, Problem, literal_at
+from explainlib.reasons import Line
+from pkslib import Act, Branch, Cases, Goal, ProofLine, Tree, read_explained, sides
 
+Owed = Tuple[Path, Literal]
+"""A literal that is owed at the end of a path."""
 
-class Line:
-    """A line of a proof."""
-
-    def __init__(self, moment, fact, reason, number, cites):
-        self.moment = moment
-        self.fact = fact
-        self.reason = reason
-        self.number = number
-        self.cites = cites
-
-
-class Path:
-    """Actions with their effects, and sides: (moment, kind, what is chosen on, side)."""
-
-    def __init__(self, effects=(), sides=()):
-        self.effects = effects
-        self.sides = sides
-
-    def moment(self):
-        return len(self.effects)
-
-    def acted(self, effects):
-        return Path(self.effects + (effects,), self.sides)
-
-    def taken(self, kind, on, side):
-        return Path(self.effects, self.sides + ((self.moment(), kind, on, side),))
+Entry = Tuple[Literal, List[Line]]
+"""A literal with its proof."""
 
 
 class Owing:
     """What a tree owes, listed in the order in which it is printed: paths with literals."""
 
-    def __init__(self, problem):
+    def __init__(self, problem: Problem) -> None:
         self.problem = problem
-        self.owed = []
+        self.owed: List[Owed] = []
 
-    def owes(self, path, literals):
+    def owes(self, path: Path, literals: Iterable[Literal]) -> None:
+        """The tree owes these literals at the end of a path."""
         self.owed += [(path, literal) for literal in literals]
 
-    def walk(self, tree, path):
+    def walk(self, tree: Tree, path: Path) -> None:
+        """Lists what a tree owes that stands at the end of a path."""
         p = self.problem
         if isinstance(tree, Goal):
             self.owes(path, p.goals)
@@ -62,29 +44,17 @@ class Owing:
                 self.walk(child, path.taken('cases', p.term(tree.term), p.term(side)))
 
 
-def read_line(problem, number, line):
-    """A line of a proof, which must have this number and be spelled as it is printed."""
-    named = re.fullmatch(r'(\d+) moment (\d+) (\(.*\)) ([a-z]+)( \d+)?( by((?: \d+)+))?', line)
-    if not named or int(named[1]) != number:
-        raise ValueError(f'no line {number} of a proof: {line!r}')
-    cites = [int(c) for c in (named[7] or '').split()]
-    told = int(named[5]) if named[5] else None
-    return Line(int(named[2]), problem.fact(forms(named[3])[0]), named[4], told, cites)
-
-
-def read_text(problem, text):
+def read_text(problem: Problem, text: str) -> Tuple[List[Owed], List[Entry]]:
     """The owed literals with their paths, and the entries: literals with their proofs."""
-    lines = text.split('\n')
-    if lines.pop() != '':
+    if not text.endswith('\n'):
         raise ValueError('no line feed at the end')
-    first = next((n for n, line in enumerate(lines) if line.startswith('known ')), len(lines))
+    said = read_explained(text)
     owing = Owing(problem)
-    owing.walk(read_plan('\n'.join(lines[:first])), Path())
-    entries = []
-    for line in lines[first:]:
-        if line.startswith('known '):
-            entries.append((problem.literal(forms(line[len('known '):])[0]), []))
-        else:
-            proof = entries[-1][1]
-            proof.append(read_line(problem, len(proof) + 1, line))
-    return owing.owed, entries
+    owing.walk(said.tree, Path())
+    return owing.owed, [(problem.literal(entry.literal), [of_problem(problem, line) for line in entry.proof])
+                        for entry in said.entries]
+
+
+def of_problem(problem: Problem, line: ProofLine) -> Line:
+    """A line of a proof, its fact over the numbers of the problem."""
+    return Line(line.moment, problem.fact(line.fact), line.reason, line.told, line.cites)

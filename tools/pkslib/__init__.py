@@ -27,35 +27,63 @@ Plans:
     read_plan(text, prices)     the tree of a printed plan;  printed(tree) is its text again
     costs(text)                 the cost of each action of a file
 
+Dialogues, which lead `agent` over a pipe (the class tells how; a robot stands in examples/robot.py):
+
+    Dialogue(text, depth)       its steps are Do(name, arguments), AskValue(term), AskTest(literals), End(how)
+    .next() .answer(said)       the next step; an answer to the last question: a name, or True or False
+    .answers .resume(answers)   what was answered; begins anew and gives these answers again
+    .close()                    ends the program; so does the end of a `with`
+
+Other printed texts (trees as above; Malformed where a text isn't one):
+
+    read_run, read_recalled, read_explained, read_shared    Run, Recalled, Explained, Shared; read_printed takes all
+    World(true, values)         a world: .value(term), .holds(literal), .lines()
+    fitting_world(file, wanted) a world that fits the start of a File; choices(file, wanted) tells what is open
+
 Files:
 
     Text(data)                  forms with places, also of a broken text: .forms .lists .open .extra
     Form                        a word or a list: .word .parts .parent .start .end .line .column
     read(data)                  the forms, or Malformed;  expressions(data) has words and tuples instead
+    File(data)                  what a file states: .types .objects .predicates .functions .actions .init .goal
     written(expression)         an expression as it is printed
     lost_parenthesis(text), gained_parenthesis(text)    by the indentation of the lines
 
 Words of the format: the module `limits` has each limit, `Status` and `Code`.
 
-Exceptions: PksError is the class of NoProgram, TimedOut, Refused (.line .column .code), NoPlan and Failed (.status);
-Malformed is a ValueError with .line and .column.
+Exceptions: PksError is the class of NoProgram, TimedOut, Refused (.line .column .code), UnfitAnswer (a Refused with
+.question and .answer), NoPlan and Failed (.status);
+Malformed is a ValueError with .line and .column, and NoWorld one that tells why no world fits.
+
+The module `commands` has what the commands in `tools` have in common.
 """
 
 from . import limits
+from .dialogue import AskTest, AskValue, Dialogue, End, Question, Step, UnfitAnswer
 from .errors import Failed, NoPlan, NoProgram, PksError, Refused, TimedOut
+from .files import Action, File, Function, costs
+from .fitting import Choices, NoWorld, choices, fitting_world
 from .forms import (ALL_WORDS, NAME, PKS_WORDS, VARIABLE, Expression, Form, Malformed, Text, expressions, read,
                     written)
 from .indentation import gained_parenthesis, lost_parenthesis
 from .limits import Code, Refusal, Status, read_refusal
 from .planning import plan
 from .program import Answer, ask, call, check, derive, find
-from .trees import (Act, Branch, Cases, Goal, Impossible, Leaf, Literal, Side, Term, Tree, Way, costs, printed,
+from .texts import (Branched, Cased, Do, Entry, Event, Explained, Instances, Moment, Printed, ProofLine, Recalled, Run,
+                    Shared, Value, Whether, read_act, read_explained, read_printed, read_proof_line, read_recalled,
+                    read_run, read_shared, tree_of)
+from .trees import (Act, Branch, Cases, Goal, Impossible, Leaf, Literal, Side, Term, Tree, Way, printed,
                     read_body, read_plan, sides, ways)
+from .worlds import Fact, World
 
 __all__ = [
-    'ALL_WORDS', 'Act', 'Answer', 'Branch', 'Cases', 'Code', 'Expression', 'Failed', 'Form', 'Goal', 'Impossible',
-    'Leaf', 'Literal', 'Malformed', 'NAME', 'NoPlan', 'NoProgram', 'PKS_WORDS', 'PksError', 'Refusal', 'Refused',
-    'Side', 'Status', 'Term', 'Text', 'TimedOut', 'Tree', 'VARIABLE', 'Way', 'ask', 'call', 'check', 'costs', 'derive',
-    'expressions', 'find', 'gained_parenthesis', 'limits', 'lost_parenthesis', 'plan', 'printed', 'read', 'read_body',
-    'read_plan', 'read_refusal', 'sides', 'ways', 'written',
+    'ALL_WORDS', 'Act', 'Action', 'Answer', 'AskTest', 'AskValue', 'Branch', 'Branched', 'Cased', 'Cases',
+    'Choices', 'Code', 'Dialogue', 'Do', 'End', 'Entry', 'Event', 'Explained', 'Expression', 'Fact', 'Failed',
+    'File', 'Form', 'Function', 'Goal', 'Impossible', 'Instances', 'Leaf', 'Literal', 'Malformed', 'Moment', 'NAME',
+    'NoPlan', 'NoProgram', 'NoWorld', 'PKS_WORDS', 'PksError', 'Printed', 'ProofLine', 'Question', 'Recalled',
+    'Refusal', 'Refused', 'Run', 'Shared', 'Side', 'Status', 'Step', 'Term', 'Text', 'TimedOut', 'Tree',
+    'UnfitAnswer', 'VARIABLE', 'Value', 'Way', 'Whether', 'World', 'ask', 'call', 'check', 'choices', 'costs',
+    'derive', 'expressions', 'find', 'fitting_world', 'gained_parenthesis', 'limits', 'lost_parenthesis', 'plan',
+    'printed', 'read', 'read_act', 'read_body', 'read_explained', 'read_plan', 'read_printed', 'read_proof_line',
+    'read_recalled', 'read_refusal', 'read_run', 'read_shared', 'sides', 'tree_of', 'ways', 'written',
 ]

@@ -195,7 +195,7 @@ class Text:
         return form.column if self._stands_alone(form.start) else None
 
     def need_balance(self) -> None:
-        """Malformed where a parenthesis closes nothing, a list isn't closed, or lists are nested deeper than NESTING."""
+        """Malformed where a parenthesis closes nothing, a list isn't closed, or one is nested deeper than NESTING."""
         if self.extra:
             raise Malformed('this `)` closes nothing', *self.place(self.extra[0]))
         if self.open:

@@ -4,7 +4,8 @@ from typing import Optional, Union
 
 from . import program as calling
 from .errors import NoPlan
-from .trees import Tree, costs, read_plan
+from .files import costs
+from .trees import Tree, read_plan
 
 
 def plan(text: Union[bytes, str], depth: int, seconds: Optional[float] = None,

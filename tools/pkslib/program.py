@@ -29,15 +29,15 @@ def _runs(path: str) -> bool:
     return os.path.isfile(path) and os.access(path, os.X_OK)
 
 
-def _named(name: str) -> str:
-    """The program that the variable PKS names: a path, or a command on the PATH."""
+def _named(name: str, who: str) -> str:
+    """The program that somebody names: a path, or a command on the PATH."""
     found = name if os.sep in name else shutil.which(name) or name
     behind = _behind(os.path.abspath(found))
     if _runs(behind):
         return behind
     if behind != os.path.abspath(found):
-        raise NoProgram(f'the variable PKS names {name}, which has not built its program yet: {behind} is not there')
-    raise NoProgram(f'the variable PKS names {name}, and no program is there')
+        raise NoProgram(f'{who} {name}, which has not built its program yet: {behind} is not there')
+    raise NoProgram(f'{who} {name}, and no program is there')
 
 
 def find(given: Optional[str] = None) -> str:
@@ -47,9 +47,10 @@ def find(given: Optional[str] = None) -> str:
     tools, which is the built program of their checkout, or `pks` in their own folder; else `pks` on the PATH.
     Where one of these is the script of a checkout, the program that this script has built is meant.
     """
-    named = given or os.environ.get('PKS')
-    if named:
-        return _named(named)
+    if given:
+        return _named(given, 'the program that was given is')
+    if os.environ.get('PKS'):
+        return _named(os.environ['PKS'], 'the variable PKS names')
     beside = [os.path.join(os.path.dirname(FOLDER), BUILT), os.path.join(FOLDER, 'pks')]
     on_path = shutil.which('pks')
     for path in beside + ([_behind(on_path)] if on_path else []):

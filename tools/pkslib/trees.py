@@ -2,9 +2,9 @@
 
 from dataclasses import dataclass, field
 from functools import cached_property
-from typing import Dict, Iterator, List, Mapping, Optional, Sequence, Tuple, Union
+from typing import Iterator, List, Mapping, Optional, Sequence, Tuple, Union
 
-from .forms import Expression, Form, Malformed, Text, expressions, written
+from .forms import Expression, Malformed, expressions, written
 from .limits import DEPTH
 
 Term = Expression
@@ -186,22 +186,6 @@ def ways(tree: Tree) -> Iterator[Way]:
             stack.append((at.next, steps + (at,)))
         else:
             stack += [(child, steps + (Side(at, taken),)) for taken, child in reversed(sides(at))]
-
-
-def costs(text: Union[bytes, str]) -> Dict[str, int]:
-    """The cost of each action of a file, 1 where it names none."""
-    found = {}
-    for part in (part for form in Text(text).forms if form.head() == 'domain' for part in form.rest()):
-        if part.head() == 'action' and len(part.parts) > 1 and part.parts[1].word:
-            found[part.parts[1].word] = _cost_of(part)
-    return found
-
-
-def _cost_of(action: Form) -> int:
-    for part in action.parts[2:]:
-        if part.head() == 'cost' and len(part.parts) == 2 and (part.parts[1].word or '').isdigit():
-            return int(part.parts[1].word or '')
-    return 1
 
 
 # Reading

@@ -1,11 +1,12 @@
 """PDDL's own meaning: a plan of the planner is run in every world that a problem allows.
 
-This shares the reading of parentheses with tools/from-pddl, and nothing else. Of what is known it
+This shares the reading of parentheses and of printed plans with the tools, and nothing else. Of what is known it
 says nothing: `knows-whether` and `knows-value` hold.
 """
 
 import itertools
-import re
+
+from pkslib import Act, Branch, Cases, Goal, read_plan
 
 
 class Wrong(Exception):
@@ -133,64 +134,25 @@ class Model:
 
     def run(self, plan, world):
         """Follows a plan to the goal."""
-        for head, *rest in plan:
-            if head == 'do':
-                world = self.done(rest[0], world)
-            elif head == 'goal':
-                if not self.holds(self.goal, world, {}):
-                    raise Wrong('the plan ends where the goal does not hold')
-                return
-            elif head == 'impossible':
-                raise Wrong('a world comes to a side that is called impossible')
-            elif head == 'branch':
-                test = all(self.holds(p, world, {}) for p in rest[0])
-                return self.run(rest[1] if test else rest[2], world)
-            else:
-                return self.run(rest[1][self.value(rest[0], world, {})], world)
-
-
-# Plans as they are printed
-
-def terms(text):
-    """The terms of a line, as nested tuples."""
-    stack = [[]]
-    for token in re.findall(r'[()]|[^\s()]+', text):
-        if token == '(':
-            stack.append([])
-        elif token == ')':
-            stack[-2].append(tuple(stack.pop()))
+        while isinstance(plan, Act):
+            world = self.done((plan.name, *plan.arguments), world)
+            plan = plan.next
+        if isinstance(plan, Goal):
+            if not self.holds(self.goal, world, {}):
+                raise Wrong('the plan ends where the goal does not hold')
+        elif isinstance(plan, Branch):
+            test = all(self.holds(p, world, {}) for p in plan.literals)
+            self.run(plan.true if test else plan.false, world)
+        elif isinstance(plan, Cases):
+            self.run(dict(plan.sides)[self.value(plan.term, world, {})], world)
         else:
-            stack[-1].append(token)
-    return tuple(stack[0])
-
-
-def tree(lines):
-    """The steps of a plan whose lines are given; they are taken off the list."""
-    steps = []
-    while lines:
-        line = lines.pop(0).strip()
-        word = line.split()[0]
-        if word in ('goal', 'impossible'):
-            return steps + [(word,)]
-        if word == 'branch':
-            lines.pop(0)
-            yes = tree(lines)
-            lines.pop(0)
-            return steps + [('branch', terms(line)[1:], yes, tree(lines))]
-        if word == 'cases':
-            sides = {}
-            while lines and lines[0].split()[0] == 'case':
-                name = lines.pop(0).split()[1]
-                sides[name] = tree(lines)
-            return steps + [('cases', terms(line)[1], sides)]
-        steps.append(('do', terms(line)[0]))
-    return steps
+            raise Wrong('a world comes to a side that is called impossible')
 
 
 def check(domain, problem, text):
     """Runs a printed plan in every world; gives how many there are."""
     model = Model(plain(domain), plain(problem))
-    plan = tree(text.splitlines()[1:])
+    plan = read_plan(text)
     worlds = list(model.worlds())
     for world in worlds:
         model.run(plan, world)
