@@ -1,19 +1,21 @@
 """Questions to the program: whether a changed file has a plan. Two at a time, within a time that is given."""
 
+import subprocess
 import time
 from concurrent.futures import Future, ThreadPoolExecutor
 from dataclasses import dataclass, replace
-from typing import Dict, Optional, Tuple
+from typing import Dict, Optional, Set, Tuple
 
-import pkslib
 from asklib.files import File
+from pkslib import Status
+from pkslib.program import begin
 
 SIDE_BY_SIDE = 2
 
 
 @dataclass(frozen=True)
 class Outcome:
-    """What came of a question: a plan of some depth, none, a refusal, or no end in so many seconds."""
+    """What came of a question in so many `seconds`: a plan of some depth, none, a refusal, or no end."""
 
     depth: Optional[int] = None
     ended: bool = True
@@ -39,8 +41,8 @@ class Asking:
         self.seconds = max(1.0, 0.92 * seconds - 1)
         self.answers: Dict[Tuple[str, int], Outcome] = {}
         self.pool = ThreadPoolExecutor(SIDE_BY_SIDE)
+        self.running: 'Set[subprocess.Popen[bytes]]' = set()
         self.stopped = False
-        self.calls = 0
 
     def left(self) -> float:
         """The seconds that are left."""
@@ -63,21 +65,26 @@ class Asking:
         return outcome
 
     def call(self, text: str, depth: int, seconds: float) -> Outcome:
-        """The program's answer."""
-        self.calls += 1
+        """The program's answer; of a question that is stopped or that fails, that it isn't ended."""
         begun = time.monotonic()
+        child = begin(['plan', str(depth)], stdin=subprocess.PIPE, stdout=subprocess.PIPE)
+        self.running.add(child)
         try:
-            printed = pkslib.ask(['plan', str(depth)], text, seconds)
-            found: Optional[int] = int(printed.split('\n')[0].split()[2])
-        except pkslib.NoPlan:
-            found = None
-        except pkslib.Refused:
-            return Outcome(refused=True)
-        except pkslib.TimedOut:
-            return Outcome(ended=False, seconds=seconds)
-        return Outcome(found, seconds=time.monotonic() - begun)
+            printed, _ = child.communicate(text.encode('ascii'), timeout=seconds)
+        except subprocess.TimeoutExpired:
+            child.kill()
+            child.communicate()
+        finally:
+            self.running.discard(child)
+        if child.returncode == Status.DONE:
+            return Outcome(int(printed.split(b'\n')[0].split()[2]), seconds=time.monotonic() - begun)
+        if child.returncode in (Status.NO_PLAN, Status.REFUSED):
+            return Outcome(refused=child.returncode == Status.REFUSED, seconds=time.monotonic() - begun)
+        return Outcome(ended=False, seconds=seconds)
 
     def stop(self) -> None:
-        """Asks no more; what is asked just now still ends in its time."""
+        """Asks no more, and stops what is asked just now."""
         self.stopped = True
-        self.pool.shutdown(wait=False, cancel_futures=True)
+        for child in list(self.running):
+            child.kill()
+        self.pool.shutdown()

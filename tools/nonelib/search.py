@@ -25,6 +25,9 @@ def seconds_for(rank: Rank, number: int, whole: float) -> float:
     return max(0.4, slices[number] * whole / WHOLE)
 
 
+LONGER = 8
+"""So many times as long as for its own depth a file is asked for a greater one."""
+
 MOST_FOUND = 8
 """So many changes with a plan are enough."""
 
@@ -89,12 +92,16 @@ class Search:
         return found
 
     def ask_deeper(self, found: Found) -> None:
-        """Asks the file deeper, where it is known to have no plan of its depth and no likelier cause was found."""
+        """Asks the file deeper, where it is known to have no plan of its depth and no likelier cause was found.
+
+        The time is some times as long as the file itself took.
+        """
         best = min((change.rank for change in found.cures()), default=Rank.GOAL)
-        asked = any(change.rank == Rank.DEPTH for change in found.outcomes)
-        if found.base.is_none and not asked and best > Rank.DEPTH and self.depth < limits.DEPTH:
-            change = self.greater_depth()
-            self.collect(found, change, self.begin(change, 2))
+        asked = [outcome for change, outcome in found.outcomes.items() if change.rank == Rank.DEPTH]
+        if found.base.is_none and best > Rank.DEPTH and self.depth < limits.DEPTH \
+                and not any(outcome.ended for outcome in asked):
+            seconds = max(seconds_for(Rank.DEPTH, 0, self.asking.seconds), LONGER * found.base.seconds)
+            found.outcomes[self.greater_depth()] = self.asking.ask(self.file, limits.DEPTH, seconds)
 
     def greater_depth(self) -> Change:
         """The file itself to the greatest depth."""
