@@ -2,3 +2,4 @@ pub mod Thinned
 pub mod Still
 pub mod Trees
 pub mod Tested
+pub mod Worlds

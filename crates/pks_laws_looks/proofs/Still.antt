@@ -62,7 +62,7 @@ module _ (p : Problem) (inhabited : HasValues p.signature) where
       let k = subst (λ es. IsIn l (lasting p.signature es d ++ flat_map (fired p.signature es d) (with_later es))) e j in
       ⊎_elim (λ h. (in_filtered (λ l. not (spoils p.signature d [] l)) d.kf l h).0) (λ h. absurd h) (in_appended (lasting p.signature [] d) [] l k)
 
-  given_back : (i : Instance) → effects_of p i ≡ [] → (d x : Five) → Within x.kf (backward p i d x)
+  pub given_back : (i : Instance) → effects_of p i ≡ [] → (d x : Five) → Within x.kf (backward p i d x)
   given_back i e d x l j =
       subst (λ es. IsIn l (lasted p.signature es d x ++ (flat_map (must_have_fired p.signature es d x) (with_others es) ++ flat_map (cannot_have_fired p.signature es d x) (with_later es)))) (sym e)
       (in_left (lasted p.signature [] d x) [] l (in_filter (λ l. not (spoils p.signature d [] (negated l))) x.kf l j (not_from_false _ (nothing_spoiled d (negated l)))))
@@ -90,10 +90,10 @@ module _ (p : Problem) (inhabited : HasValues p.signature) where
     pub groups : f.kx ≡ g.kx
     pub regions : f.lcw ≡ g.lcw
 
-  like_itself : (f : Five) → AreLike f f
+  pub like_itself : (f : Five) → AreLike f f
   like_itself f = record { into = λ l i. i; back = λ l i. i; groups = refl; regions = refl }
 
-  like_through : (f g h : Five) → AreLike f g → AreLike g h → AreLike f h
+  pub like_through : (f g h : Five) → AreLike f g → AreLike g h → AreLike f h
   like_through f g h a b = record { into = λ l i. b.into l (a.into l i); back = λ l i. a.back l (b.back l i); groups = a.groups ∙ b.groups; regions = a.regions ∙ b.regions }
 
   -- the two moments of such a step, in a closed family over it
@@ -121,7 +121,7 @@ module _ (p : Problem) (inhabited : HasValues p.signature) where
       }
 
   -- what comes back from the like moment
-  back_alike : (f : Five) (i : Instance) (z r : Five) → IsSaturated p.signature f → first_clash p.signature f ≡ None → IsSaturated p.signature z → first_clash p.signature z ≡ None → AreLike z r → Within (backward p i f r) (backward p i f z)
+  pub back_alike : (f : Five) (i : Instance) (z r : Five) → IsSaturated p.signature f → first_clash p.signature f ≡ None → IsSaturated p.signature z → first_clash p.signature z ≡ None → AreLike z r → Within (backward p i f r) (backward p i f z)
   back_alike f i z r sat fine sat' fine' a =
       backward_within p f inhabited sat fine f (λ l j. j) refl refl r z (holds_grows p.signature z inhabited sat' fine' r a.back (sym a.groups) (sym a.regions)) a.back i
 

@@ -1,5 +1,5 @@
 -- Families over a history and over the one without some moments: one is made of the other by leaving moments out, or by telling them twice.
-use Rattle.std.proofs.Common.{◌≡◌, ◌++◌, Bool, true, false, List, [], ◌∷◌, map, refl, sym, ap, inl, inr, true≢false}
+use Rattle.std.proofs.Common.{◌≡◌, ◌≤◌, ◌++◌, Bool, true, false, List, [], ◌∷◌, map, length, arith, refl, sym, ap, inl, inr, true≢false}
 use Rattle.pks_terms.specs.Sets.{Each}
 use Rattle.pks_terms.specs.Databases.{Five}
 use Rattle.pks_terms.specs.Actions.{Instance}
@@ -120,6 +120,18 @@ module _ (Goes : Five → Instance → Five → Type 0) where
   pub one_goes : (d : Five) (x : Instance × Five) (xs : Steps) (e : Five) (ys : Steps) → Goes d x.0 x.1 → AreWithout Goes x.1 xs e ys → AreWithout Goes d (x ∷ xs) e ys
   one_goes d x xs e [] g k = (g, k)
   one_goes d x xs e (y ∷ ys) g k = inl (g, k)
+
+  -- none need be left out, and no moment is added
+  pub without_none : (d : Five) (xs : Steps) → AreWithout Goes d xs d xs
+  without_none d [] = refl
+  without_none d (x ∷ xs) = inr (refl, refl, without_none x.1 xs)
+
+  pub without_short : (d : Five) (xs : Steps) (e : Five) (ys : Steps) → AreWithout Goes d xs e ys → length ys ≤ length xs
+  without_short d [] e [] k = omega arith
+  without_short d [] e (y ∷ ys) k = absurd k
+  without_short d (x ∷ xs) e [] k = omega arith
+  without_short d (x ∷ xs) e (y ∷ ys) (inl k) = let r = without_short x.1 xs e (y ∷ ys) k.1 in omega (arith, r)
+  without_short d (x ∷ xs) e (y ∷ ys) (inr k) = let r = without_short x.1 xs y.1 ys k.2 in omega (arith, r)
 
   pub without_last : (d : Five) (xs : Steps) (e : Five) (ys : Steps) → AreWithout Goes d xs e ys → last_of d xs ≡ last_of e ys
   without_last d [] e [] k = k

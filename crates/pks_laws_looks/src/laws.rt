@@ -1,6 +1,9 @@
 //! The laws, each the clause of a function that does nothing.
 
 ghost use Rattle.std.specs.Prelude.{◌↔◌, ◌≡◌, true};
+ghost use Rattle.pks_terms.specs.Worlds.{World};
+ghost use Rattle.pks_terms.specs.Knowledge.{after_actions, ground_actions};
+ghost use Rattle.pks_terms.specs.Remembering.{deeds_of, Both};
 ghost use Rattle.pks_terms.specs.Sets.{Each};
 ghost use Rattle.pks_terms.specs.Databases.{Five, AreSets};
 ghost use Rattle.pks_terms.specs.Actions.{Instance};
@@ -31,4 +34,9 @@ pub fn tested_steps_are_looks()
 /// What is without the steps that pass the test is without some looks.
 pub fn tested_looks_are_left_out()
     ensures { (p : Problem) (h : History) → AreSetsAlong h → AreWithout (IsLook p) h.start h.steps (without_looks p h).start (without_looks p h).steps }
+{}
+
+/// What a history is true of, it is true of without some moments before looks, and its steps lead to the same world.
+pub fn looks_keep_worlds()
+    ensures { (p : Problem) (h g : History) (w w' : World) → AreWithout (IsLook p) h.start h.steps g.start g.steps → Both p w w' h → Both p w w' g × (after_actions p w (ground_actions p w (deeds_of h.steps)) ≡ after_actions p w (ground_actions p w (deeds_of g.steps))) }
 {}
