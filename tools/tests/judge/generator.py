@@ -1,7 +1,7 @@
 """Small problems that are made at random."""
 
 import random
-from typing import Any, Dict, Iterator, List, Optional, Sequence, Set, Tuple
+from typing import Any, Dict, Iterator, List, Optional, Sequence, Tuple
 
 from pkslib import Expression, written
 
@@ -274,7 +274,8 @@ class Maker:
         found: List[Expression] = []
         for n, link in enumerate(links):
             pre = [('pre', ('k', links[n - 1]))] if n else []
-            found.append(('action', f'link{n}', *pre, ('effects', *self.sometimes(), ('set', link), *self.sometimes())))
+            effects = [*self.sometimes(), ('set', link), *self.sometimes()]
+            found.append(('action', f'link{n}', *pre, ('effects', *effects)))
         self.made += links
         self.aims += [('k', links[-1])] * 4 + [('k', self.chance.choice(links))]
         return found
@@ -325,7 +326,8 @@ class Maker:
         for _ in range(self.chance.choice([0, 0, 0, 1])):
             items += self.region()
         if self.may(0.25):
-            literals = [self.chance.choice(self.asked + [self.literal([])]) for _ in range(self.chance.choice([1, 1, 2]))]
+            some = [*self.asked, self.literal([])]
+            literals = [self.chance.choice(some) for _ in range(self.chance.choice([1, 1, 2]))]
             items.append(('kw', *literals))
         if self.declared.functions and self.may(0.3):
             items.append(('kv', self.some_place([])))
@@ -405,8 +407,3 @@ def text_of(forms: Sequence[Expression], adds: Optional[Dict[str, List[Expressio
         parts.append((*part, ('knows', *own[:ADDS])) if own else part)
     lines = '\n  '.join(map(written, parts[1:]))
     return '\n'.join([written(version), f'({parts[0]}\n  {lines})', *map(written, rest)]) + '\n'
-
-
-def named(forms: Sequence[Expression]) -> Set[str]:
-    """The names of the actions."""
-    return {str(part[1]) for part in forms[1] if part[0] == 'action'}

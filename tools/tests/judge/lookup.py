@@ -116,7 +116,7 @@ class Lookup:
 
 
 class Database:
-    """Closed databases: what they hold, and what holds in them. Each is made once, so two are equal where they are one."""
+    """Closed databases, and what holds in them. Each is made once, so two are equal where they are one."""
 
     def __init__(self, signature: Signature, five: Five) -> None:
         self.five = five
