@@ -74,7 +74,8 @@ class Declared:
 
     def forms(self) -> Iterator[Expression]:
         """The sections of the domain."""
-        yield ('types', *(kind if parent is None else (kind, parent) for kind, parent in self.parents.items()))
+        kinds: List[Expression] = [kind if parent is None else (kind, parent) for kind, parent in self.parents.items()]
+        yield ('types', *kinds)
         yield ('objects', *((kind, *things) for kind, things in self.objects.items()))
         yield ('predicates', *((name, *kinds) for name, kinds in self.predicates.items()))
         if self.functions:
@@ -338,8 +339,8 @@ class Maker:
 
     def aim(self) -> Expression:
         """An aim: what an action makes so or tells, or what a condition asks for."""
-        found: List[Expression] = [('k', literal) for literal in self.made] * 2
-        found += self.aims * 2
+        found: List[Expression] = self.aims * 2
+        found += [('k', literal) for literal in self.made] * 2
         found += [('kw', literal) for literal in self.asked]
         aim = self.chance.choice(found) if found and self.may(0.9) else ('k', self.literal([]))
         if self.version == 2 and self.may(0.2):
@@ -370,8 +371,8 @@ class Maker:
 
     def other_adds(self, action: Expression) -> Iterator[Expression]:
         """Adds that don't follow from the text as it stands, some of which have a case."""
-        own = {part[0]: part[1:] for part in action[2:]}
-        names = [(str(name), str(kind)) for name, kind in own.get('params', ())]
+        own: Dict[Any, Any] = {part[0]: part[1:] for part in action[2:]}
+        names: List[Tuple[str, str]] = list(own.get('params', ()))
         for sense in own.get('senses', ()):
             if sense[0] == 'sense-all':
                 for _ in range(2):
