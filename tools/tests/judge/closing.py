@@ -40,7 +40,7 @@ def literal_steps(values: Dict[Term, List[Term]], literal: Literal) -> Iterator[
     for n, term in enumerate(terms):
         for step in term_steps(values, term):
             changed = terms[:n] + (step,) + terms[n + 1:]
-            yield equation(*changed, sign) if kind == EQUATION else (kind, head, changed, sign)
+            yield equation(changed[0], changed[1], sign) if kind == EQUATION else (kind, head, changed, sign)
 
 
 def by_value(known: FrozenSet[Literal]) -> Iterator[Literal]:

@@ -1,7 +1,7 @@
 """Small problems that are made at random."""
 
 import random
-from typing import Any, Dict, Iterator, List, Optional, Sequence, Set, Tuple
+from typing import Any, Dict, Iterator, List, Optional, Sequence, Tuple
 
 from pkslib import Expression, written
 
@@ -74,7 +74,8 @@ class Declared:
 
     def forms(self) -> Iterator[Expression]:
         """The sections of the domain."""
-        yield ('types', *(kind if parent is None else (kind, parent) for kind, parent in self.parents.items()))
+        kinds: List[Expression] = [kind if parent is None else (kind, parent) for kind, parent in self.parents.items()]
+        yield ('types', *kinds)
         yield ('objects', *((kind, *things) for kind, things in self.objects.items()))
         yield ('predicates', *((name, *kinds) for name, kinds in self.predicates.items()))
         if self.functions:
@@ -274,7 +275,8 @@ class Maker:
         found: List[Expression] = []
         for n, link in enumerate(links):
             pre = [('pre', ('k', links[n - 1]))] if n else []
-            found.append(('action', f'link{n}', *pre, ('effects', *self.sometimes(), ('set', link), *self.sometimes())))
+            effects = [*self.sometimes(), ('set', link), *self.sometimes()]
+            found.append(('action', f'link{n}', *pre, ('effects', *effects)))
         self.made += links
         self.aims += [('k', links[-1])] * 4 + [('k', self.chance.choice(links))]
         return found
@@ -325,7 +327,8 @@ class Maker:
         for _ in range(self.chance.choice([0, 0, 0, 1])):
             items += self.region()
         if self.may(0.25):
-            literals = [self.chance.choice(self.asked + [self.literal([])]) for _ in range(self.chance.choice([1, 1, 2]))]
+            some = [*self.asked, self.literal([])]
+            literals = [self.chance.choice(some) for _ in range(self.chance.choice([1, 1, 2]))]
             items.append(('kw', *literals))
         if self.declared.functions and self.may(0.3):
             items.append(('kv', self.some_place([])))
@@ -336,8 +339,8 @@ class Maker:
 
     def aim(self) -> Expression:
         """An aim: what an action makes so or tells, or what a condition asks for."""
-        found: List[Expression] = [('k', literal) for literal in self.made] * 2
-        found += self.aims * 2
+        found: List[Expression] = self.aims * 2
+        found += [('k', literal) for literal in self.made] * 2
         found += [('kw', literal) for literal in self.asked]
         aim = self.chance.choice(found) if found and self.may(0.9) else ('k', self.literal([]))
         if self.version == 2 and self.may(0.2):
@@ -368,8 +371,8 @@ class Maker:
 
     def other_adds(self, action: Expression) -> Iterator[Expression]:
         """Adds that don't follow from the text as it stands, some of which have a case."""
-        own = {part[0]: part[1:] for part in action[2:]}
-        names = [(str(name), str(kind)) for name, kind in own.get('params', ())]
+        own: Dict[Any, Any] = {part[0]: part[1:] for part in action[2:]}
+        names: List[Tuple[str, str]] = list(own.get('params', ()))
         for sense in own.get('senses', ()):
             if sense[0] == 'sense-all':
                 for _ in range(2):
@@ -405,8 +408,3 @@ def text_of(forms: Sequence[Expression], adds: Optional[Dict[str, List[Expressio
         parts.append((*part, ('knows', *own[:ADDS])) if own else part)
     lines = '\n  '.join(map(written, parts[1:]))
     return '\n'.join([written(version), f'({parts[0]}\n  {lines})', *map(written, rest)]) + '\n'
-
-
-def named(forms: Sequence[Expression]) -> Set[str]:
-    """The names of the actions."""
-    return {str(part[1]) for part in forms[1] if part[0] == 'action'}

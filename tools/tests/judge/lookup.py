@@ -24,7 +24,8 @@ def initial(problem: Problem) -> Five:
         found[item.kind].add(item.what)
     atoms = sorted((head, terms) for kind, head, terms, sign in found['kf'] if kind != EQUATION and not sign)
     regions = {(pattern, tuple(atom for atom in atoms if atom[0] == pattern[0])) for pattern in found['lcw']}
-    return Five(*(frozenset(found[kind]) for kind in ('kf', 'kw', 'kv', 'kx')), frozenset(regions))
+    return Five(frozenset(found['kf']), frozenset(found['kw']), frozenset(found['kv']), frozenset(found['kx']),
+                frozenset(regions))
 
 
 class Lookup:
@@ -116,7 +117,7 @@ class Lookup:
 
 
 class Database:
-    """Closed databases: what they hold, and what holds in them. Each is made once, so two are equal where they are one."""
+    """Closed databases, and what holds in them. Each is made once, so two are equal where they are one."""
 
     def __init__(self, signature: Signature, five: Five) -> None:
         self.five = five

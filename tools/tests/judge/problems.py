@@ -1,12 +1,11 @@
 """What a file states: the signature, the actions, the start and the aims (RULES 2, FORMAT 2); and how it is spelled."""
 
 from dataclasses import dataclass, field
-from functools import lru_cache
 from typing import Any, Dict, List, Optional, Sequence, Tuple, Union
 
 from pkslib import Expression, expressions
 
-from .terms import (APPLICATION, EQUATION, OBJECT, PARAMETER, WILD, Atom, Conjunction, Literal, Pattern, Term,
+from .terms import (APPLICATION, EQUATION, OBJECT, PARAMETER, WILD, Conjunction, Literal, Pattern, Term,
                     application, conjunction, conjunction_at, equation, literal_at, literal_of, negated, pattern_at,
                     term_at)
 
@@ -19,16 +18,18 @@ class Signature:
     objects: Tuple[int, ...]
     predicates: Tuple[Tuple[int, ...], ...]
     functions: Tuple[Tuple[Tuple[int, ...], int], ...]
+    _objects_of: Dict[int, Tuple[Term, ...]] = field(default_factory=dict, compare=False, repr=False)
 
     def fits(self, kind: int, wanted: int) -> bool:
         """Whether a type is another one, or its parent fits that."""
         parent = self.parents[kind]
         return kind == wanted or (parent is not None and self.fits(parent, wanted))
 
-    @lru_cache(maxsize=None)
     def objects_of(self, kind: int) -> Tuple[Term, ...]:
         """The objects whose own type fits the type, in order."""
-        return tuple((OBJECT, n) for n, own in enumerate(self.objects) if self.fits(own, kind))
+        if kind not in self._objects_of:
+            self._objects_of[kind] = tuple((OBJECT, n) for n, own in enumerate(self.objects) if self.fits(own, kind))
+        return self._objects_of[kind]
 
     def type_of(self, term: Term) -> int:
         """The own type of an object, the result type of an application."""

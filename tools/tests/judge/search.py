@@ -48,7 +48,7 @@ class Planner:
         self._states: Dict[History, State] = {}
         self._clash = State(None)
         base = self.closer.close(initial(problem))
-        self.start = self._state(base and History((base,), ()))
+        self.start = self._state(None if base is None else History((base,), ()))
 
     def _state(self, history: Optional[History]) -> State:
         if history is None:
@@ -77,7 +77,7 @@ class Planner:
     def _children(self, state: State, choice: Choice) -> Iterator[State]:
         assert state.history is not None
         if choice.kind == 'act':
-            yield self._after(state.history, choice.what)
+            yield self._after(state.history, (choice.what[0], choice.what[1]))
         elif choice.kind == 'branch':
             for truth in (True, False):
                 yield self._settled(state.history, assume_truth(

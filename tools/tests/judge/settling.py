@@ -10,7 +10,7 @@ from .closing import Closer, term_steps, values_of
 from .interference import Interference
 from .lookup import Database
 from .progression import Instance
-from .terms import EQUATION, Literal, Term, application, equation, negated
+from .terms import Literal, Term, application, equation, negated
 
 Act = Callable[[Database, Instance], Interference]
 """An instance read in the databases before it."""

@@ -7,7 +7,8 @@ import pkslib
 
 from .lookup import initial
 from .problems import Action, Effect, Problem, Query
-from .terms import APPLICATION, EQUATION, OBJECT, WILD, Atom, Conjunction, Literal, Pattern, Term, application
+from .terms import (APPLICATION, EQUATION, OBJECT, WILD, Atom, Conjunction, Literal, Pattern, Term, application,
+                    of_objects)
 
 
 class World:
@@ -86,32 +87,32 @@ def is_compatible(problem: Problem, world: World) -> bool:
             and all(is_met(world, *region) for region in five.lcw))
 
 
-def fixed_by_start(problem: Problem) -> Tuple[Dict[Atom, bool], Dict[Term, Term]]:
-    """What known literals over objects say of atoms and places."""
-    truths: Dict[Atom, bool] = {}
-    values: Dict[Term, Term] = {}
-    for kind, head, terms, sign in initial(problem).kf:
-        flat = all(argument[0] == OBJECT for term in terms for argument in (term[2] if term[0] == 2 else (term,)))
-        if not flat:
-            continue
-        if kind == EQUATION and not sign and terms[0][0] == APPLICATION and terms[1][0] == OBJECT:
-            values[terms[0]] = terms[1]
-        elif kind != EQUATION and all(term[0] == OBJECT for term in terms):
-            truths[head, terms] = not sign
-    return truths, values
+def is_flat(literal: Literal) -> bool:
+    """Whether it is a predicate at objects, or says that an application to objects has an object as its value."""
+    kind, _, terms, sign = literal
+    if kind == EQUATION:
+        return not sign and of_objects(terms[0]) and terms[1][0] == OBJECT
+    return all(term[0] == OBJECT for term in terms)
+
+
+def fixed_by_start(problem: Problem) -> Dict[Any, Any]:
+    """The truth of atoms, and the values of places, that known literals fix."""
+    flat = filter(is_flat, initial(problem).kf)
+    return dict((terms[0], terms[1]) if kind == EQUATION else ((head, terms), not sign)
+                for kind, head, terms, sign in flat)
 
 
 def compatible_worlds(problem: Problem, limit: int) -> Optional[List[World]]:
     """All compatible worlds, or None where more than so many would have to be tried."""
     signature = problem.signature
-    truths, values = fixed_by_start(problem)
+    fixed = fixed_by_start(problem)
     atoms = [(head, things) for head, kinds in enumerate(signature.predicates)
              for things in product(*map(signature.objects_of, kinds))]
     places = [(application(head, things), signature.objects_of(result))
               for head, (kinds, result) in enumerate(signature.functions)
               for things in product(*map(signature.objects_of, kinds))]
-    choices: List[Sequence[Any]] = [[truths[atom]] if atom in truths else [False, True] for atom in atoms]
-    choices += [[values[place]] if place in values else things for place, things in places]
+    choices: List[Sequence[Any]] = [[fixed[atom]] if atom in fixed else [False, True] for atom in atoms]
+    choices += [[fixed[place]] if place in fixed else things for place, things in places]
     count = 1
     for options in choices:
         count *= len(options)
