@@ -1,10 +1,16 @@
 #!/bin/sh
-# Runs the planner: words, standard input, standard output and the status go through untouched.
-# Where the program isn't built, or a source is newer, this proves and builds it first.
-# `pks try WORDS` proves nothing: it compiles the sources and runs them as they stand.
+# Runs the planner: words, standard input, standard output and the status go through untouched; what this adds goes to standard error.
+# In a checkout, where the program isn't built or a source is newer, this proves and builds it first; where it is installed, it stands
+# beside the tools. `pks try WORDS` proves nothing: it compiles the sources and runs them as they stand.
+# `pks help [WORD]` and `pks version` run nothing at all.
 top=$(dirname "$(readlink -f "$0")")
 crate=$top/crates/pks
 program=$crate/out/pks
+me=./pks
+if [ -x "$top/tools/pks" ]; then
+    program=$top/tools/pks
+    me=pks
+fi
 
 say() {
     echo "pks: $1" >&2
@@ -12,6 +18,7 @@ say() {
 
 is_stale() {
     [ -x "$program" ] || return 0
+    [ "$me" = pks ] && return 1
     newer=$(find "$top/crates.txt" "$top/crates" -name out -prune -o \
         \( -name '*.rt' -o -name '*.antt' -o -name crates.txt \) -newer "$program" -print -quit)
     [ -n "$newer" ]
@@ -24,9 +31,106 @@ need_rt() {
     exit 127
 }
 
+# Help
+
+manual=$top/docs/manual.txt
+
+overview() {
+    awk '/^= NAME/ { getline; sub(/ - /, ": "); print } /^= SYNOPSIS/ { print ""; getline; print; getline; print; print "" }
+        /^== / { word = substr($0, 4); getline; printf "  %-12s %s\n", word, $0 }' "$manual"
+    echo
+    echo "'$me help WORD' tells more of one; '$me help status', 'help tools' and 'help environment' of these."
+}
+
+help() {
+    [ $# -eq 0 ] && { overview; exit 0; }
+    told=$(awk -v wanted="$1" '
+        /^=/ { name = tolower($2); shown = name == tolower(wanted); if (shown) { $1 = ""; print substr($0, 2); next } }
+        shown { print }' "$manual")
+    [ -n "$told" ] && { echo "$told"; exit 0; }
+    say "there is no help on '$1'."
+    overview >&2
+    exit 2
+}
+
+version() {
+    number=$(sed -n 's/^## \([0-9][0-9.]*\).*/\1/p' "$top/CHANGELOG.md" | head -1)
+    if [ -f "$top/INSTALLED" ]; then
+        echo "pks $number, $(cat "$top/INSTALLED")"
+        exit 0
+    fi
+    commit=$(git -C "$top" rev-parse --short HEAD 2>/dev/null) && commit="commit $commit" || commit="no commit known"
+    [ -z "$(git -C "$top" status --porcelain -uno 2>/dev/null)" ] || commit="$commit with changes"
+    state="proved"
+    is_stale && state="not proved: a source is newer than the program, and the next call proves it"
+    [ -x "$program" ] || state="not proved: the first call proves and builds the program"
+    echo "pks $number, $commit, $state"
+    exit 0
+}
+
+# What is wrong with the words, in a sentence; nothing where they seem to be right. The program itself decides.
+
+is_number() {
+    case $1 in '' | *[!0-9]* | 0?*) return 1 ;; esac
+    [ "${#1}" -le 4 ]
+}
+
+fault_of_number() {
+    word=$1 name=$2 least=$3 most=$4
+    shift 4
+    if [ $# -eq 0 ] && [ "$word" = bench ]; then
+        echo "'bench' wants a $name from $least to $most behind it: $me bench 4"
+    elif [ $# -eq 0 ]; then
+        echo "'$word' wants a $name from $least to $most behind it: $me $word 4 < FILE"
+    elif [ $# -gt 1 ]; then
+        fault_of_rest "$word $1" "$2"
+    elif ! is_number "$1"; then
+        if [ -e "$1" ]; then
+            echo "a file is read from standard input, and '$word' wants a $name: $me $word 4 < $1"
+        else
+            echo "'$1' is no $name: it is from $least to $most, in digits, without a sign or a leading zero."
+        fi
+    elif [ "$1" -lt "$least" ] || [ "$1" -gt "$most" ]; then
+        echo "the $name is from $least to $most, and $1 isn't."
+    fi
+}
+
+fault_of_rest() {
+    if [ -e "$2" ]; then
+        echo "the file is read from standard input: $me $1 < $2"
+    else
+        echo "'$2' is a word too many: behind '$1' none stands, and the file is read from standard input."
+    fi
+}
+
+fault_of_words() {
+    case " $* " in *" -- "*) return ;; esac
+    case $1 in
+        plan | exec | recall | agent | explain | shared) word=$1; shift; fault_of_number "$word" depth 0 16 "$@" ;;
+        bench) shift; fault_of_number bench "number of objects" 1 64 "$@" ;;
+        check | derive) [ $# -eq 1 ] || fault_of_rest "$1" "$2" ;;
+        '') echo "a word must say what to do; '$me help' lists them." ;;
+        --help | -h) echo "'$me help' tells what the words do, and '$me help plan' more of one." ;;
+        --version | -V | -v) echo "'$me version' tells the version." ;;
+        -*) echo "there are no options, and so no '$1'; '$me help' lists the words." ;;
+        *) fault_of_mode "$1" ;;
+    esac
+}
+
+fault_of_mode() {
+    if [ -e "$1" ]; then
+        echo "a file is read from standard input, behind a word that says what to do: $me check < $1"
+        return
+    fi
+    for known in check plan exec bench recall agent explain derive shared; do
+        case $known in "$(printf %.2s "$1")"*) echo "there is no word '$1'; is '$known' meant?"; return ;; esac
+    done
+    echo "there is no word '$1'; '$me help' lists them."
+}
+
 tell_of_input() {
     case $1 in
-        check | plan | exec | recall | explain | derive | shared) [ -t 0 ] && say "the file is read from standard input: ./pks $* < FILE" ;;
+        check | plan | exec | recall | explain | derive | shared) [ -t 0 ] && say "the file is read from standard input: $me $* < FILE" ;;
         agent) [ -t 0 ] && say "the file is read from standard input, up to a line that is a full stop alone, and behind it the answers." ;;
     esac
 }
@@ -51,18 +155,65 @@ try_unproved() {
         *"run=ended status="*) ;;
         *) echo "$said" >&2 ;;
     esac
+    end "$status" "$@"
+}
+
+# Runs the program as a child, which ends when this is told to. (A child behind `&` has no standard input unless it is given one.)
+run() {
+    if [ -e /dev/fd/0 ]; then
+        exec 3<&0
+        "$program" "$@" <&3 3<&- &
+        exec 3<&-
+    else
+        "$program" "$@" <&- &
+    fi
+    child=$!
+    caught=
+    trap 'caught=130; kill -TERM "$child" 2>/dev/null' INT
+    trap 'caught=143; kill -TERM "$child" 2>/dev/null' HUP TERM
+    wait "$child"
+    status=$?
+    while kill -0 "$child" 2>/dev/null; do
+        wait "$child"
+        status=$?
+    done
+    [ -z "$caught" ] || exit "$caught"
+    end "$status" "$@"
+}
+
+end() {
+    status=$1
+    shift
+    case $status in
+        2)
+            fault=$(fault_of_words "$@")
+            say "${fault:-the words ask for no job, and $me help lists those that do.}"
+            ;;
+        4) say "standard input could not be read (status 4): is it a file, and not a folder?" ;;
+        5) say "standard output could not be written (status 5), so a part of the text may be missing: is the disk full, or did the reader end?" ;;
+        6) say "memory was wanting (status 6), and nothing was written: a smaller depth or fewer objects want less." ;;
+        7) say "the environment did not give the program its words (status 7)." ;;
+        137) say "the program was killed (signal 9): perhaps memory was wanting." ;;
+    esac
     exit "$status"
 }
 
+case $1 in
+    help) shift; help "$@" ;;
+    version) version ;;
+esac
 if [ "$1" = try ]; then
+    [ "$me" = pks ] && { say "this program is installed, and there are no sources to try."; exit 2; }
     shift
     need_rt
-    tell_of_input "$@"
+    [ -n "$(fault_of_words "$@")" ] || tell_of_input "$@"
     try_unproved "$@"
 fi
+fault=$(fault_of_words "$@")
 if is_stale; then
+    [ -z "$fault" ] || { say "$fault"; exit 2; }
     need_rt
     build
 fi
-tell_of_input "$@"
-exec "$program" "$@"
+[ -n "$fault" ] || tell_of_input "$@"
+run "$@"

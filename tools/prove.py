@@ -43,12 +43,45 @@ SECONDS = {
 }
 SECONDS_OF_OTHERS = 30
 
+# From how many processor seconds of work on the time that is left is told by it.
+EARLY = 300
+
 # Seconds for those crates to begin that begin with another.
 MOMENT = 0.2
 
 
 def say(text):
     print(f"pks: {text}", file=sys.stderr, flush=True)
+
+
+class Progress:
+    """How many crates are done, and about how long the others will take: one line, in its place on a terminal."""
+
+    def __init__(self, names, processors):
+        self.left = {name: seconds(name) for name in names}
+        self.number, self.work = len(self.left), 0
+        self.rate, self.start = processors, time.monotonic()
+
+    def minutes(self):
+        """The minutes that are left, by what the work so far took; at first by the number of processors."""
+        passed = time.monotonic() - self.start
+        rate = self.work / passed if self.work >= EARLY and passed > 0 else self.rate
+        return max(1, round(sum(self.left.values()) / max(rate, 0.1) / 60))
+
+    def done(self, name, is_proved=True):
+        """Counts a crate that was proved now, or was before."""
+        work = self.left.pop(name, 0)
+        self.work += work if is_proved else 0
+
+    def show(self, ends=False):
+        many = self.minutes()
+        left = f", about {many} minute{'s' if many > 1 else ''}" if self.left else ""
+        text = f"pks: {self.number - len(self.left)} of {self.number}{left}"
+        is_terminal = sys.stderr.isatty()
+        sys.stderr.write(f"\r\033[K{text}" if is_terminal else f"{text}\n")
+        if is_terminal and (ends or not self.left):
+            sys.stderr.write("\n")
+        sys.stderr.flush()
 
 
 def load_rt():
@@ -97,10 +130,11 @@ class Lanes:
 
     def __init__(self, rt):
         self.rt, self.real, self.turn = rt, rt.in_lanes, threading.Lock()
-        self.begun, self.done, self.number = 0, 0, 0
+        self.begun, self.done, self.progress = 0, 0, Progress([], 1)
 
     def run(self, tasks):
-        self.number = sum(what == "proof" for _, what in tasks)
+        self.progress = Progress([name for name, what in tasks if what == "proof"], self.rt.processors())
+        self.progress.show()
         work = lambda key: seconds(key[0]) if key[1] == "proof" else 0
         return self.real({key: (waits, work(key), *rest) for key, (waits, _, *rest) in tasks.items()})
 
@@ -114,21 +148,23 @@ class Lanes:
         return ["--jobs", str(max(jobs, 1 + idle) if 2 * self.rt.need(crate) < self.rt.free() else jobs)]
 
     def prove(self, crate, flags, call):
-        """Proves the crate by this call, and says so before and after; returns the call's status."""
+        """Proves the crate by this call, and tells how many are done; returns the call's status."""
         with self.turn:
             self.begun += 1
-            say(f"proving {crate.name}, {self.begun} of {self.number}")
         status = call(self.flags_of(crate, flags))
-        if not status:
-            with self.turn:
+        with self.turn:
+            if not status:
                 self.done += 1
-                say(f"proved {crate.name}, {self.done} of {self.number}")
+                self.progress.done(crate.name)
+            self.progress.show(ends=bool(status))
         return status
 
-    def skip(self):
+    def skip(self, crate):
         """Counts a crate that was proved before."""
         with self.turn:
             self.begun, self.done = self.begun + 1, self.done + 1
+            self.progress.done(crate.name, is_proved=False)
+            self.progress.show()
 
 
 def build_program(rt, room, name):
@@ -145,7 +181,7 @@ def build_program(rt, room, name):
     def giving(kept, crate, tests, key):
         is_given = give(kept, crate, tests, key)
         if is_given:
-            lanes.skip()
+            lanes.skip(crate)
         return is_given
 
     def running(crate, tests, ending=""):

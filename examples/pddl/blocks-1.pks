@@ -33,7 +33,7 @@
     (kf (on-table a))
     (kf (clear b))
     ; All else is false.
-    (lcw (on a _)) (kf (not (on b b)))
+    (kf (not (on a a))) (kf (not (on a b))) (kf (not (on b b)))
     (kx (on b a) (on-table b))
     (kx (on b a) (clear a)))
   (goal (k (on a b))))

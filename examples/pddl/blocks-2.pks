@@ -33,7 +33,8 @@
     (kf (on-table a)) (kf (on-table b))
     (kf (clear c))
     ; All else is false.
-    (lcw (on a _)) (lcw (on b _)) (kf (not (on c c))) (kf (not (on-table c)))
+    (kf (not (on a a))) (kf (not (on a b))) (kf (not (on a c))) (kf (not (on b a)))
+    (kf (not (on b b))) (kf (not (on b c))) (kf (not (on c c))) (kf (not (on-table c)))
     (kx (on c a) (on c b))
     (kx (on c a) (clear a))
     (kx (on c b) (clear b)))

@@ -25,7 +25,8 @@
     (kf (joins d1 hall court)) (kf (joins d2 hall court)) (kf (joins e1 court garden))
     (kf (joins e2 court garden))
     ; All else is false.
-    (lcw (at _)) (lcw (joins _ hall _)) (lcw (joins _ court _)) (lcw (joins _ garden _))
+    (lcw (joins _ hall _)) (lcw (joins _ court _)) (lcw (joins _ garden _)) (kf (not (at court)))
+    (kf (not (at garden)))
     (kx (open d1) (open d2))
     (kx (open e1) (open e2)))
   (goal (k (at garden))))

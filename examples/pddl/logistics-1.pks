@@ -39,6 +39,7 @@
   (init
     (kf (at t shop-a))
     ; All else is false.
-    (lcw (at _ _)) (kf (not (lies box depot))) (kf (not (in box t)))
+    (kf (not (at t depot))) (kf (not (at t shop-b))) (kf (not (lies box depot)))
+    (kf (not (in box t)))
     (kx (lies box shop-a) (lies box shop-b)))
   (goal (k (lies box depot))))

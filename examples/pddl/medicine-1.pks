@@ -31,6 +31,7 @@
   (init
     (kf (tells flu blue)) (kf (tells pox white))
     ; All else is false.
-    (lcw (tells _ _)) (lcw (stain _)) (kf (not (stained))) (kf (not (dead)))
+    (lcw (tells _ _)) (kf (not (stained))) (kf (not (stain white))) (kf (not (stain blue)))
+    (kf (not (dead)))
     (kx (ill flu) (ill pox)))
   (goal (k (not (ill flu))) (k (not (ill pox))) (k (not (dead)))))

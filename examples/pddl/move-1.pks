@@ -25,5 +25,5 @@
   (init
     (kf (at hall))
     ; All else is false.
-    (lcw (swept _)) (kf (not (at garden))))
+    (kf (not (at garden))) (kf (not (swept hall))) (kf (not (swept garden))))
   (goal (k (swept hall))))

@@ -36,6 +36,7 @@
     (kf (current home))
     (kf (sub docs home)) (kf (sub old docs))
     ; All else is false.
-    (lcw (sub _ _)) (lcw (current _)) (kf (not (in paper-tex home)))
+    (lcw (sub _ _)) (kf (not (current docs))) (kf (not (current old)))
+    (kf (not (in paper-tex home)))
     (kx (in paper-tex docs) (in paper-tex old)))
   (goal (k (in paper-tex home)) (k (current home))))

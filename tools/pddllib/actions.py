@@ -1,11 +1,15 @@
 """The actions of a domain."""
 
+import itertools
+import math
+
 from . import limits
 from .conditions import Queries, Scope
 from .effects import Effects
 from .text import Refusal
 
 OBSERVATIONS = (':observe', ':sense', ':observation', ':sensed')
+MOST_ACTIONS = 8
 PARTS = (':parameters', ':precondition', ':effect') + OBSERVATIONS
 UNSAID = {
     ':derived': ('derived predicates can\'t be said',
@@ -26,12 +30,13 @@ SECTIONS = (':requirements', ':types', ':constants', ':predicates', ':functions'
 class Action:
     """An action, in the words of the planner's format."""
 
-    def __init__(self, form, declared):
-        self.form, self.comments = form, form.comments
+    def __init__(self, form, declared, name, picks=()):
+        """`picks` says which alternative is taken of each condition that has several."""
+        self.form, self.comments, self.remarks = form, form.comments, []
+        self.name = name
         parts = self.parts_of(form)
-        self.name = declared.names.declare('action', form.parts[1])
         self.parameters, scope = self.read_parameters(parts.get(':parameters'), declared)
-        self.queries = Queries('precondition')
+        self.queries = Queries('precondition', picks)
         if ':precondition' in parts:
             self.queries.read(parts[':precondition'], scope)
         self.parameters.update(self.queries.parameters)
@@ -84,6 +89,24 @@ class Action:
                 'Take fewer objects, or split it into two actions.')
 
 
+def written_out(form, declared):
+    """An action, or one for each choice of an alternative where its precondition has an `or`."""
+    Action.parts_of(form)
+    name = declared.names.declare('action', form.parts[1])
+    action = Action(form, declared, name)
+    counts = action.queries.counts
+    if not counts:
+        return [action]
+    number = math.prod(counts)
+    limits.at_most(MOST_ACTIONS, number, form, 'an action may be written as at most {} actions',
+                   'Keep a fact for what its precondition asks.')
+    found = []
+    for at, picks in enumerate(itertools.product(*(range(count) for count in counts)), 1):
+        found.append(Action(form, declared, declared.names.extra('action', f'{name}-{at}'), picks))
+        found[-1].remarks.append(f'Its precondition in PDDL has an `or`: this is {at} of {number} actions, one for each way.')
+    return found
+
+
 def read_actions(domain, declared):
     found = []
     for form in domain.rest()[1:]:
@@ -97,7 +120,7 @@ def read_actions(domain, declared):
             if len(form.parts) > 1 and declared.names.find('action', form.parts[1].word):
                 raise Refusal(form.parts[1], f'the action `{form.parts[1].raw}` stands twice',
                               'Give one of the two another name.')
-            found.append(Action(form, declared))
+            found += written_out(form, declared)
     limits.at_most(limits.ACTIONS, len(found), found[-1].form if found else None,
                    'there are at most {} actions', 'Leave out those that nothing needs.')
     return found

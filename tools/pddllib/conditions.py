@@ -247,8 +247,10 @@ def quantified(form):
 class Queries:
     """What a precondition or a goal asks, each as the planner's format has it."""
 
-    def __init__(self, what):
-        self.what = what
+    def __init__(self, what, picks=()):
+        """Of conditions with several alternatives those that `picks` names are taken, of others the first."""
+        self.what, self.picks = what, picks
+        self.counts = []
         self.texts = []
         self.literals = []
         self.parameters = {}
@@ -287,18 +289,19 @@ class Queries:
         found = alternatives(form, scope)
         if not found:
             raise Refusal(form, f'`{form.shown()}` is never true', 'Take it out.')
-        if len(found) > 1:
-            self.refuse_disjunction(form, len(found))
-        for literal in found[0]:
+        for literal in found[self.picked(form, len(found))]:
             self.literals.append(literal)
             self.add(f'(k {literal})')
 
-    def refuse_disjunction(self, form, number):
+    def picked(self, form, number):
+        """Which of so many alternatives is taken; a goal can have only one."""
+        if number == 1:
+            return 0
         if self.what == 'goal':
             raise Refusal(form, f'a goal can\'t ask for one of {number} alternatives',
                           'Add an action for each, which sets a fact, and ask for that fact.')
-        raise Refusal(form, f'a precondition can\'t ask for one of {number} alternatives',
-                      'Write an action for each.')
+        self.counts.append(number)
+        return self.picks[len(self.counts) - 1] if len(self.counts) <= len(self.picks) else 0
 
     def add(self, text):
         if text not in self.texts:

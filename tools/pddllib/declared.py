@@ -12,7 +12,7 @@ REQUIREMENTS = """:strips :typing :negative-preconditions :disjunctive-precondit
 :adl :fluents :object-fluents :numeric-fluents :action-costs :constants :contingent :sensing
 :partial-observability :non-deterministic :open-world :unknown :derived-predicates
 :durative-actions :duration-inequalities :continuous-effects :timed-initial-literals :preferences
-:constraints""".split()
+:constraints :probabilistic-effects :mdp :rewards""".split()
 OBJECT = 'object'
 
 

@@ -11,6 +11,23 @@ def changed(form):
     return {head}
 
 
+def set_by(form):
+    """The predicates that an effect, as PDDL writes it, may make true."""
+    head = form.head()
+    if head == 'not':
+        return set()
+    if head == 'and':
+        return {word for part in form.rest() for word in set_by(part)}
+    return set_by(form.parts[-1]) if head in ('when', 'forall') else {head}
+
+
+def growing(declared, actions):
+    """The predicates of which an action may make facts true."""
+    words = {word for action in actions for key, part in zip(action.parts, action.rest())
+             if key.word == ':effect' for word in set_by(part)}
+    return {declared.names.find('predicate', word) for word in words}
+
+
 class Fixed:
     """What is known for ever."""
 

@@ -3,40 +3,25 @@
 The planner itself derives that from the action's text, in its mode `derive`.
 """
 
-import os
-import subprocess
-import sys
+from typing import Iterator, List, NamedTuple, Optional, Tuple
+
+import pkslib
+from pkslib import Status
 
 from . import limits
-
-TOP = os.path.dirname(os.path.dirname(os.path.dirname(os.path.abspath(__file__))))
-
-
-class NoProgram(Exception):
-    """The planner doesn't run, or doesn't do what is asked."""
-
-
-def program():
-    return os.environ.get('PKS') or os.path.join(TOP, 'pks')
+from .conditions import Literal, term_text
 
 
 def answer(words, text):
-    """What the planner prints on this file."""
-    try:
-        done = subprocess.run([program()] + words, input=text.encode('ascii'),
-                              stdout=subprocess.PIPE)
-    except OSError as fault:
-        raise NoProgram(f'{program()} does not run: {fault}') from fault
-    said = done.stdout.decode('ascii')
-    if done.returncode == 2:
-        raise NoProgram(f'{program()} has no mode `{words[0]}`')
-    if done.returncode not in (0, 1, 3):
-        raise NoProgram(f'{program()} ended with status {done.returncode}')
-    return said
+    """What the planner prints on this file; pkslib.PksError where it doesn't run or has no such mode."""
+    said = pkslib.call(words, text)
+    if said.status not in (Status.DONE, Status.NO_PLAN, Status.REFUSED):
+        raise pkslib.Failed(' '.join(words), said.status)
+    return said.text
 
 
 def derived(text):
-    """The adds of each action of a file, in the order of the actions."""
+    """What `derive` says of a file that is refused, or None and the adds of each action in their order."""
     said = answer(['derive'], text)
     if said.startswith('refused'):
         return said, []
@@ -59,33 +44,120 @@ def chosen(adds):
     return kept[:limits.ADDS], kept[limits.ADDS:] + left_out
 
 
+class Untold(NamedTuple):
+    """An effect that isn't known afterwards: what would tell it, the effect that may undo it, and what excludes that."""
+
+    what: str
+    add: str
+    later: str
+    guard: Optional[str]
+    pair: Optional[Tuple[str, str]]
+
+    def sentence(self):
+        """What isn't known, and why."""
+        return f'{self.what} isn\'t known afterwards: {self.later} may be about the same.'
+
+
+def told_by(effect):
+    """What an effect makes so, and the add that would tell it."""
+    literal = effect.literal()
+    if literal is not None:
+        return str(literal), f'(kf {literal})'
+    if effect.head == 'assign':
+        equation = f'(= {" ".join(term_text(part) for part in effect.target)})'
+        return equation, f'(kf {equation})'
+    return f'that no {term_text(effect.target[0])} is true', f'(lcw {term_text(effect.target[0])})'
+
+
+def undoes(later, effect):
+    """Whether a later effect may be about the same thing as an earlier one, to another end."""
+    if later.target[0][0] != effect.target[0][0]:
+        return False
+    makes_true = {'set': True, 'unset': False, 'clear': False}
+    if 'assign' in (effect.head, later.head):
+        return effect.head == later.head and effect.target[1] != later.target[1]
+    return makes_true[effect.head] != makes_true[later.head]
+
+
 def untold(action, adds):
     """What the agent doesn't know to be so after an effect, each with what may undo it."""
-    told = [add for add in adds if '(kf ' in add]
     for place, effect in enumerate(action.effects):
-        literal = effect.literal()
-        if literal is None or any(f'(kf {literal})' in add for add in told):
+        what, add = told_by(effect)
+        if any(add in own for own in adds):
             continue
-        for later in action.effects[place + 1:]:
-            other = later.literal()
-            if other and other.name == literal.name and other.positive != literal.positive:
-                yield literal, other
-                break
+        later = next((other for other in action.effects[place + 1:] if undoes(other, effect)), None)
+        if later is not None:
+            pair = remedy(effect, later)
+            guard = f'(k (not (= {pair[0]} {pair[1]})))' if pair else None
+            yield Untold(what, add, term_text(later.target[0]), guard, pair)
 
 
-def remedy(literal, other):
-    """The precondition by which two facts are told apart, or None."""
-    pairs = [(a, b) for a, b in zip(literal.args, other.args) if a != b]
-    if not pairs or not all(isinstance(part, str) for pair in pairs for part in pair):
+def remedy(effect, later):
+    """The arguments by whose difference two effects are told apart, or None."""
+    pairs = [(a, b) for a, b in zip(effect.target[0][1:], later.target[0][1:]) if a != b]
+    if not pairs or not all(isinstance(part, str) and part != '_' for pair in pairs for part in pair):
         return None
-    return '(k (not (= %s %s)))' % pairs[0]
+    return pairs[0]
+
+
+# Whether PDDL does anything where two arguments are the same
+
+def renamed(term, pair):
+    """A term in which the second of a pair stands for the first too."""
+    if isinstance(term, tuple):
+        return tuple(renamed(part, pair) for part in term)
+    return pair[1] if term == pair[0] else term
+
+
+def does_nothing(action, pair):
+    """Whether an action changes and teaches nothing where two of its arguments are the same."""
+    same = lambda literal: Literal(literal.positive, literal.name, renamed(literal.args, pair))
+    given = {same(literal) for literal in action.queries.literals}
+    if action.senses or any(effect.head in ('assign', 'clear') for effect in action.effects):
+        return False
+    done = [(effect.conditions, same(effect.literal())) for effect in action.effects]
+    always = {literal for conditions, literal in done if not conditions}
+    return all(literal in given if literal.positive else literal.negated() in always or literal in given
+               for _, literal in done)
+
+
+def can_not_be(action, pair, fixed):
+    """Whether a precondition that no action changes is false wherever two arguments are the same."""
+    for literal in action.queries.literals:
+        args = renamed(literal.args, pair)
+        if literal.positive and literal.name in fixed.predicates and pair[1] in args and args != literal.args:
+            meets = lambda atom: atom.name == literal.name and len({a for a, b in zip(atom.args, args) if b == pair[1]}) == 1
+            if not any(meets(atom) for atom in list(fixed.start.facts) + list(fixed.start.unknown)):
+                return True
+    return False
+
+
+def guards(action, adds, fixed):
+    """The preconditions by which more is known afterwards, and by which nothing is lost."""
+    found = []
+    for one in untold(action, adds):
+        if one.guard and one.pair and (does_nothing(action, one.pair) or can_not_be(action, one.pair, fixed)):
+            found.append(one.guard)
+    return list(dict.fromkeys(found))
 
 
 def remarks(action, adds, left_out):
     """Comments on what the agent will not know."""
-    for literal, other in untold(action, adds):
-        cure = remedy(literal, other)
-        line = f'{literal} isn\'t known afterwards: {other} may be about the same.'
-        yield line + (f' With {cure} in pre it is.' if cure else '')
+    for one in untold(action, adds):
+        yield one.sentence() + (f' With {one.guard} in pre it is.' if one.guard else '')
     for add in left_out:
         yield f'More than {limits.ADDS} adds, so this is left out: {add}'
+
+
+def warnings(action, adds, fixed):
+    """A line for each effect that won't be known, with what to write."""
+    place = f'{action.form.source.path}:{action.form.line}:{action.form.column}'
+    for one in untold(action, adds):
+        line = f"{place}: {one.what} won't be known after {action.name}: {one.later} may be about the same."
+        if one.guard:
+            free = one.guard in guards(action, adds, fixed)
+            line += f' Write {one.guard} in pre, and {one.add} in knows'
+            line += '; --known does, since nothing is lost by it.' if free else '; it excludes what PDDL allows.'
+        else:
+            line += f' Write the effects in another order, or as two actions, and {one.add} in knows.'
+        yield line

@@ -13,11 +13,16 @@ from .conditions import (NUMBER, Literal, Scope, application, atom, equation, li
 from .text import Refusal
 
 
+MOST_NEGATIVES = 24
+"""From how many facts on the negatives of a predicate that grows are told as a region."""
+
+
 class Start:
     """The items of `init`, each list in the order in which it is written."""
 
-    def __init__(self, declared):
-        self.declared = declared
+    def __init__(self, declared, growing):
+        """`growing` are the predicates of which an action makes facts true."""
+        self.declared, self.growing = declared, growing
         self.scope = Scope(declared)
         self.facts, self.values, self.negatives = [], [], []
         self.regions, self.groups, self.helpers = [], [], []
@@ -38,6 +43,8 @@ class Start:
             self.add_group(form, [self.literal(part) for part in form.rest()])
         elif head == 'or':
             self.add_clause(form)
+        elif head == 'probabilistic':
+            self.add_chances(form)
         elif is_timed(form):
             raise Refusal(form, 'a fact at a later time can\'t be said', 'Take it out.')
         elif form.parts and not is_cost(form):
@@ -52,7 +59,8 @@ class Start:
         """A literal that `oneof`, `or` or `unknown` names."""
         if form.head() in ('and', 'or', 'oneof', 'imply', 'forall', 'exists'):
             raise Refusal(form, f'`{form.shown()}` can\'t be a member here: members are facts and '
-                          'their negations', 'Give it a predicate of its own, and name that.')
+                          'their negations', 'Give it a predicate of its own, and name that; that it is so exactly where its '
+                          'parts are is said by `(or (not (own)) (p))` for each part `(p)`, and `(or (own) (not (p)) ..)`.')
         inner = only(form) if form.head() == 'not' else form
         if self.declared.names.find('function', inner.head() or inner.word):
             return application(inner, self.scope)[0]
@@ -80,6 +88,21 @@ class Start:
             self.leave_open(member)
         self.groups.append((members, None))
 
+    def add_chances(self, form):
+        """Chances that make one certainty are a group: a plan is for all that may be so."""
+        parts = form.rest()
+        chances = [float(part.word) if NUMBER.fullmatch(part.word or '') else None for part in parts[::2]]
+        if None in chances or len(parts) % 2:
+            raise Refusal(form, 'chances stand before what they are of', 'Write `(probabilistic 0.5 (p) 0.5 (q))`.')
+        members = [part for chance, part in zip(chances, parts[1::2]) if chance > 0]
+        if len(members) == 1 and chances[0] < 1:
+            self.leave_open(self.literal(members[0]))
+        elif abs(sum(chances) - 1) > 1e-6:
+            raise Refusal(form, 'the chances don\'t make 1, so it may be that none of these is so',
+                          'Write `(unknown ..)` for each, or name what else may be so.')
+        else:
+            self.add_group(form, [self.literal(part) for part in members])
+
     def add_clause(self, form):
         members = [self.literal(part) for part in form.rest()]
         if not members or any(not isinstance(m, Literal) for m in members):
@@ -106,12 +129,14 @@ class Start:
     def settle_clauses(self):
         """Writes each `or` as a group, alone or with those that say that no two are true."""
         pairs = {frozenset(members) for _, members in self.clauses if len(members) == 2}
+        exclusive = {frozenset((a.negated(), b.negated())) for group, _ in self.groups
+                     for a, b in itertools.combinations(group, 2)}
         used = set()
         for form, members in self.clauses:
             excluded = {frozenset((a.negated(), b.negated()))
                         for a, b in itertools.combinations(members, 2)}
-            if frozenset(members) not in used and excluded and excluded <= pairs:
-                used |= excluded | {frozenset(members)}
+            if frozenset(members) not in used and excluded and excluded <= pairs | exclusive:
+                used |= (excluded & pairs) | {frozenset(members)}
                 self.add_group(form, list(members))
         for form, members in self.clauses:
             if frozenset(members) not in used:
@@ -122,17 +147,31 @@ class Start:
         if len(members) == 1:
             self.facts.append(members[0])
         elif len(members) > 2:
-            raise Refusal(form, 'that one of three or more is true can\'t be said, but that '
-                          'exactly one is', 'Write `(oneof ..)`, if that is so.')
+            self.settle_long_clause(form, members)
         else:
-            both = self.declared.names.extra('predicate', f'both-{len(self.helpers) + 1}')
-            self.declared.predicates[both] = []
-            self.helpers.append(both)
-            limits.at_most(limits.PREDICATES, len(self.declared.predicates), form,
-                           'there are at most {} predicates, with one for each `or`',
-                           'Leave out those that nothing uses.')
-            said = f'{form.shown().lower()}; ({both}) is true where both are'
-            self.groups.append(([m.negated() for m in members] + [Literal(True, both, ())], said))
+            both = self.helper(form, 'both')
+            said = f'{form.shown().lower()}; {both} is true where both are'
+            self.groups.append(([m.negated() for m in members] + [both], said))
+
+    def settle_long_clause(self, form, members):
+        """Exactly one of those that are true counts: the first member itself, or what stands for another one."""
+        limits.at_most(limits.GROUP, len(members), form, 'an `or` has at most {} members', 'Take fewer objects.')
+        counting = [(self.helper(form, 'counts'), member, self.helper(form, 'beside')) for member in members[1:]]
+        said = f'{form.shown().lower()}: of those that are true exactly one counts'
+        self.groups.append(([members[0]] + [counts for counts, _, _ in counting], said))
+        for counts, member, beside in counting:
+            said = f'{member} counts where {counts} is true, and {beside} where it is true and another one counts'
+            self.groups.append(([member.negated(), counts, beside], said))
+
+    def helper(self, form, name):
+        """A new fact, which stands for nothing in PDDL."""
+        found = self.declared.names.extra('predicate', f'{name}-{len(self.helpers) + 1}')
+        self.declared.predicates[found] = []
+        self.helpers.append(found)
+        limits.at_most(limits.PREDICATES, len(self.declared.predicates), form,
+                       'there are at most {} predicates, with some for each `or`',
+                       'Leave out those that nothing uses, or write `(oneof ..)` where exactly one is true.')
+        return Literal(True, found, ())
 
     # The closed world
 
@@ -161,7 +200,9 @@ class Start:
         if left == 0:
             return []
         free = [i for i, value in enumerate(fixed) if value is None]
-        if not open_here and left > 1 and len(free) <= limits.WILDCARDS:
+        # (an action that adds to a closed world keeps the past open, which makes a search long)
+        is_region = name not in self.growing or left > MOST_NEGATIVES
+        if not open_here and left > 1 and is_region and len(free) <= limits.WILDCARDS:
             return [(name,) + tuple(value or '_' for value in fixed)]
         if not free:
             return [Literal(False, name, tuple(fixed))]

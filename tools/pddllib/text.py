@@ -1,6 +1,8 @@
 """PDDL as lists of words, each with its place in its file."""
 
-from pkslib import ALL_WORDS, Text
+from typing import List, Optional
+
+from pkslib import ALL_WORDS, Text, gained_parenthesis, lost_parenthesis
 
 
 class Refusal(Exception):
@@ -69,12 +71,41 @@ class Form:
 def forms(source):
     """The forms of a file."""
     read = Text(source.text, ALL_WORDS)
+    if read.extra or read.open:
+        refuse_parentheses(source, read)
+    return [of_source(source, form) for form in read.forms]
+
+
+def refuse_parentheses(source, read):
+    """Refuses a text whose parentheses don't match, with the place by the indentation where that tells one."""
+    lost, gained = lost_parenthesis(read), gained_parenthesis(read)
+    if lost and (not gained or lost[1] <= gained[1]):
+        outer, line, _ = lost
+        line = line_before(source, line)
+        raise Refusal(of_source(source, outer), f'by the indentation `{opening(outer)}` lost a `)`',
+                      f'Write one more at the end of line {line}: `{source.lines[line - 1].strip()})`.')
+    if gained:
+        outer, _ = gained
+        line = read.place(outer.end - 1)[0]
+        raise Refusal(Form(source, *read.place(outer.end - 1)), f'by the indentation this `)` closes `{opening(outer)}` too early',
+                      f'Take it away at the end of line {line}.')
     if read.extra:
         raise Refusal(Form(source, *read.place(read.extra[0])), 'this `)` closes nothing',
                       'Take it away, or look for a list above that was closed too early.')
-    if read.open:
-        raise Refusal(of_source(source, read.open[-1]), 'this list isn\'t closed', 'Add the `)` that is missing.')
-    return [of_source(source, form) for form in read.forms]
+    raise Refusal(of_source(source, read.open[-1]), 'this list isn\'t closed', 'Add the `)` that is missing.')
+
+
+def opening(form):
+    """The first words of a list."""
+    return '(' + ' '.join(part.word for part in form.parts[:2] if part.word)
+
+
+def line_before(source, line):
+    """The last line before this one that has more than a comment."""
+    line -= 1
+    while line > 1 and not source.lines[line - 1].split(';')[0].strip():
+        line -= 1
+    return line
 
 
 def of_source(source, read):
@@ -84,15 +115,33 @@ def of_source(source, read):
     return form
 
 
-def definition(source, kind):
-    """The sections of the `(define (KIND NAME) ..)` of a file."""
-    found = forms(source)
-    for form in found:
-        if form.head() == 'define' and len(form.parts) > 1 and form.parts[1].head() == kind:
-            return form
-    place = found[0] if found else Form(source, 1, 1)
-    raise Refusal(place, f'there is no `(define ({kind} NAME) ..)` in this file',
-                  f'The {kind} is wanted here: `tools/from-pddl DOMAIN PROBLEM`.')
+def definitions(source, kind):
+    """All `(define (KIND NAME) ..)` of a file."""
+    return [form for form in forms(source)
+            if form.head() == 'define' and len(form.parts) > 1 and form.parts[1].head() == kind]
+
+
+def name_of(definition):
+    """The name of a domain or a problem, in small letters, or None."""
+    parts = definition.parts[1].parts
+    return parts[1].word if len(parts) > 1 else None
+
+
+def definition(sources, kind, name=None):
+    """The domain of the first file that has one, or the problem of the last one; of several the one of this name."""
+    for source in sources if kind == 'domain' else reversed(sources):
+        found = definitions(source, kind)
+        if name is not None:
+            found = [form for form in found if name_of(form) == name.lower()]
+        if len(found) > 1 and kind == 'problem':
+            names = ', '.join(str(name_of(form)) for form in found)
+            raise Refusal(found[1], f'there are {len(found)} problems in this file: {names}',
+                          'Say which is meant: `tools/from-pddl --problem NAME ..`.')
+        if found:
+            return found[0]
+    which = kind if name is None else f'{kind} {name}'
+    raise Refusal(Form(sources[-1], 1, 1), f'there is no `(define ({which if name else kind + " NAME"}) ..)` in what was read',
+                  f'The {kind} is wanted too: `tools/from-pddl DOMAIN PROBLEM`, or a file that has both.')
 
 
 def typed(parts):

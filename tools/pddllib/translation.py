@@ -4,7 +4,7 @@ from . import knows, layout, limits, order
 from .actions import UNSAID, read_actions
 from .conditions import Queries, Scope
 from .declared import Declared, sections
-from .fixed import Fixed
+from .fixed import Fixed, growing
 from .start import Start
 from .text import Refusal, definition
 
@@ -14,10 +14,12 @@ SECTIONS = (':domain', ':requirements', ':objects', ':init', ':goal', ':metric')
 class Translation:
     """What a domain and a problem say, in the words of the planner's format."""
 
-    def __init__(self, domain_source, problem_source):
-        self.sources = domain_source, problem_source
-        self.domain = definition(domain_source, 'domain')
-        self.problem = definition(problem_source, 'problem')
+    def __init__(self, sources, name=None, is_known=False):
+        """Of the files the first domain and the last problem, or the one of this name; `is_known` adds guards."""
+        self.is_known, self.warnings = is_known, []
+        self.domain = definition(sources, 'domain')
+        self.problem = definition(sources, 'problem', name)
+        self.sources = self.domain.source, self.problem.source
         self.check_sections()
         self.declared = Declared(self.domain, self.problem)
         self.minimizes = self.read_metric()
@@ -47,7 +49,7 @@ class Translation:
         return False
 
     def read_start(self):
-        start = Start(self.declared)
+        start = Start(self.declared, growing(self.declared, sections(self.domain, ':action')))
         for section in sections(self.problem, ':init'):
             for form in section.rest():
                 start.read(form)
@@ -77,8 +79,8 @@ class Translation:
     def heading(self):
         domain, problem = self.sources
         said = problem.first_comment()
-        said.append(f'Written by tools/from-pddl from {domain.path} and {problem.path}, '
-                    'to be read and changed.')
+        paths = dict.fromkeys([domain.path, problem.path])
+        said.append(f'Written by tools/from-pddl from {" and ".join(paths)}, to be read and changed.')
         table = self.declared.names.table()
         return said + (['Names that were changed:'] + table if table else [])
 
@@ -90,7 +92,7 @@ class Translation:
         actions = []
         for action, own in zip(self.actions, adds):
             kept, left_out = knows.chosen(own)
-            remarks = [*knows.remarks(action, own, left_out), *order.remarks(self.declared, action)]
+            remarks = [*action.remarks, *knows.remarks(action, own, left_out), *order.remarks(self.declared, action)]
             if self.minimizes and not action.did.cost:
                 remarks.append('It costs nothing in PDDL, and 1 here: no cost is less.')
             actions.append((action, self.cost(action), kept, remarks))
@@ -100,15 +102,35 @@ class Translation:
     def written(self):
         bare = self.with_adds([[] for _ in self.actions])
         self.check_size(bare)
-        refused, adds = knows.derived(bare)
-        if refused:
-            self.refuse(refused)
+        adds = self.derived(bare)
+        if self.is_known and self.guard(adds):
+            adds = self.derived(self.with_adds([[] for _ in self.actions]))
+        self.warnings = [line for action, own in zip(self.actions, adds)
+                         for line in knows.warnings(action, own, self.declared.fixed)]
         text = self.with_adds(adds)
         self.check_size(text)
         said = knows.answer(['check'], text)
         if said.startswith('refused'):
             self.refuse(said)
         return text
+
+    def derived(self, bare):
+        """The adds of each action of a file without adds."""
+        refused, adds = knows.derived(bare)
+        if refused:
+            self.refuse(refused)
+        return adds
+
+    def guard(self, adds):
+        """Adds to the preconditions what excludes equal arguments, where nothing is lost by it; whether there is any."""
+        found = False
+        for action, own in zip(self.actions, adds):
+            for text in knows.guards(action, own, self.declared.fixed):
+                if len(action.queries.texts) < limits.PRECONDITIONS and text not in action.queries.texts:
+                    action.queries.add(text)
+                    action.remarks.append(f'{text} was added by --known: in PDDL nothing is done where they are the same.')
+                    found = True
+        return found
 
     def check_size(self, text):
         limits.at_most(limits.BYTES, len(text), self.problem, 'a file has at most {:,} bytes',

@@ -5,6 +5,7 @@ says nothing: `knows-whether` and `knows-value` hold.
 """
 
 import itertools
+import re
 
 from pkslib import Act, Branch, Cases, Goal, read_plan
 
@@ -63,6 +64,7 @@ class Model:
         """All worlds of the start: true facts, and values as facts `(= place value)`."""
         start = [p for part in self.under(':init')
                  for p in (part[1:] if part[0] == 'and' else [part])]
+        start = [('oneof',) + p[2::2] if p[0] == 'probabilistic' else p for p in start]
         sure = {p for p in start if p[0] not in ('unknown', 'oneof', 'or', 'not')}
         loose = [p for p in start if p[0] in ('oneof', 'or')]
         open_facts = sorted({p[1] for p in start if p[0] == 'unknown'} |
@@ -124,7 +126,9 @@ class Model:
         return (set().union(*(gone for gone, _ in inner)), set().union(*(new for _, new in inner)))
 
     def done(self, step, world):
-        action = self.actions[step[0]]
+        # (an action whose precondition has an `or` is written as several, whose names have a number behind)
+        name = step[0] if step[0] in self.actions else re.sub(r'-\d+$', '', step[0])
+        action = self.actions[name]
         names = [name for name, _ in typed(action.get(':parameters', ()))]
         given = dict(zip(names, (self.value(t, world, {}) for t in step[1:])))
         if not self.holds(action.get(':precondition', ()), world, given):

@@ -1,5 +1,21 @@
 """Explains 260: the case that an add comes nearest to, and what undoes it."""
 
+from dataclasses import dataclass
+from typing import Dict, Iterator, List, Optional
+
+from pkslib import Form
+
+from .names import Names
+
+
+@dataclass
+class Change:
+    """A form and what stands in its place, or a part more for a section of the action."""
+
+    form: Form
+    text: str
+    section: Optional[str] = None
+
 
 def queries(names, add, action):
     """The given queries: those of the add's `if` and of `pre`, without negated ones."""
@@ -127,8 +143,96 @@ def makes(effect, literal):
     return effect.verb == 'set' and effect.target[0].text() == literal.text()
 
 
+def cures(names, add):
+    """Changes of the action by which the add may have a case, the likeliest first."""
+    action = names.action_of(add)
+    item = add.parts[-1] if add.head() == 'if' else add
+    given, found = queries(names, add, action), effects(names, action)
+    rules = {'kf': fact_cures, 'kw': whether_cures, 'kv': value_cures}
+    return rules[item.head()](names, action, add, given, found) if item.head() in rules else iter(())
+
+
+def asking(add, asked):
+    """An add under further queries."""
+    item = add.parts[-1] if add.head() == 'if' else add
+    own = [q.text() for q in add.parts[1].parts] if add.head() == 'if' else []
+    return Change(add, f'(if ({" ".join(own + [q for q in asked if q not in own])}) {item.text()})')
+
+
+def fact_cures(names, action, add, given, found):
+    item = add.parts[-1] if add.head() == 'if' else add
+    literal = item.rest()[0]
+    plain = literal.rest()[0] if literal.head() == 'not' else literal
+    for sense in names.section(action, 'senses'):
+        if sense.head() == 'sense' and len(sense.rest()) == 1 and sense.rest()[0].text() in (literal.text(), plain.text()):
+            yield Change(item, f'(kw {sense.rest()[0].text()})')
+        if sense.head() == 'sense-all' and sense.rest()[0].head() == plain.head():
+            yield Change(item, f'(kw {plain.text()})')
+    for i, effect in [(i, e) for i, e in enumerate(found) if makes(e, literal)]:
+        asked = [f'(k {c.text()})' for c in effect.conditions if not is_given(c, given)]
+        if asked:
+            yield asking(add, asked)
+        for late in found[i + 1:]:
+            query = difference(effect, late) if may_undo(names, effect, late, given) else None
+            if query:
+                yield Change(add, query, 'pre')
+
+
+def whether_cures(names, action, add, given, found):
+    item = add.parts[-1] if add.head() == 'if' else add
+    literals = item.rest()
+    texts = [l.text() for l in literals]
+    for sense in names.section(action, 'senses'):
+        if sense.head() == 'sense' and set(texts) & {l.text() for l in sense.rest()}:
+            yield Change(item, '(kw ' + ' '.join(l.text() for l in sense.rest()) + ')')
+        if sense.head() == 'sense-value' and len(literals) == 1 and literals[0].head() == '=':
+            yield Change(item, f'(kv {sense.rest()[0].text()})')
+    if len(literals) == 1:
+        atom = literals[0].rest()[0] if literals[0].head() == 'not' else literals[0]
+        for effect in found:
+            if effect.verb not in ('set', 'unset') or effect.target[0].text() != atom.text():
+                continue
+            if effect.conditions:
+                asked = [f'(kw {l.text()})' for l in effect.conditions + [atom] if not is_either_way(l, given)]
+                yield Change(add, ' '.join(dict.fromkeys(asked)), 'pre')
+            else:
+                yield Change(item, f'(kf {atom.text() if effect.verb == "set" else f"(not {atom.text()})"})')
+    if not any(e.target[0].head() in {l.head() for l in literals} for e in found):
+        yield Change(add, f'(sense {" ".join(texts)})', 'senses')
+
+
+def value_cures(names, action, add, given, found):
+    item = add.parts[-1] if add.head() == 'if' else add
+    term = item.rest()[0]
+    for effect in found:
+        if effect.verb == 'assign' and effect.target[0].text() == term.text() and not effect.conditions:
+            yield asking(add, [f'(kv {effect.target[1].text()})'])
+    if not any(e.verb == 'assign' and e.subject() == term.head() for e in found):
+        yield Change(add, f'(sense-value {term.text()})', 'senses')
+
+
+def is_toggle(found, literal):
+    """Whether two effects turn the same atom over, each where it was the other way."""
+    atom = literal.rest()[0] if literal.head() == 'not' else literal
+    own = [e for e in found if e.verb in ('set', 'unset') and e.target[0].text() == atom.text() and e.conditions]
+    return {e.verb for e in own} == {'set', 'unset'}
+
+
+def toggled(names, action, literal):
+    """What is said of an action that turns a fact over."""
+    atom = literal.rest()[0] if literal.head() == 'not' else literal
+    name = action.parts[1].text()
+    return ['The action turns a fact over: of its two effects the later one may undo the earlier, so neither can be told. '
+            'Make two actions of it, each of which does one thing:',
+            f'    (action {name}-on .. (pre (k (not {atom.text()})) ..) (effects (set {atom.text()})) (knows (kf {atom.text()})))',
+            f'    (action {name}-off .. (pre (k {atom.text()}) ..) (effects (unset {atom.text()})) '
+            f'(knows (kf (not {atom.text()}))))']
+
+
 def fact(names, action, item, given, found):
     literal = item.rest()[0]
+    if is_toggle(found, literal):
+        return toggled(names, action, literal)
     fitting = [(i, e) for i, e in enumerate(found) if makes(e, literal)]
     asks = [' '.join(f'(k {c.text()})' for c in e.conditions if not is_given(c, given))
             for _, e in fitting]
@@ -144,6 +248,8 @@ def fact(names, action, item, given, found):
             if may_undo(names, e, late, given):
                 return undone(e, late)
     senses = names.section(action, 'senses')
+    if any(s.head() == 'sense' and literal.text() in [l.text() for l in s.rest()] for s in senses):
+        return [f'What is sensed may come out either way, so it is told by `kw`, not by `kf`: `(kw {literal.text()})`.']
     case = 'J2' if literal.head() == '=' else 'J1'
     said = [f'A `kf` wants an effect that makes it so ({case}): `{wanted(literal)}`. The action\'s '
             f'effects: {", ".join("`" + e.form.text() + "`" for e in found) or "none"}.']
@@ -172,6 +278,8 @@ def whether(names, action, item, given, found):
         atom = single.rest()[0] if single.head() == 'not' else single
     effect = [e for e in found if atom is not None and e.verb in ('set', 'unset')
               and e.target[0].text() == atom.text()]
+    if single is not None and is_toggle(found, single):
+        return toggled(names, action, single)
     if effect and not senses:
         return whether_after(names, item, atom, given, found, effect[0])
     own = ' '.join(p.text() for p in literals)

@@ -13,6 +13,8 @@ ITEMS = ['kf', 'kw', 'kv', 'lcw']
 TARGETS = ['set', 'unset', 'clear', 'assign']
 AIMS = ['at-start', 'always', 'once']
 SENSES = ['sense', 'sense-value', 'sense-all']
+HEADS = QUERIES + ITEMS + TARGETS + AIMS + SENSES + ['when', 'if', 'kx', 'not-derived'] + [
+    head for section in SECTIONS.values() for head in section] + list(SECTIONS)
 
 EXAMPLES = {
     'query': '`(k LITERAL)`, `(kw LITERAL ..)`, `(kv TERM)`, or one of these in `(not-derived ..)`',

@@ -1,35 +1,66 @@
 """Explains the codes of meaning, 200 to 211, and those of the world, 301 to 311."""
 
+from pkslib import Code, limits
+
 from . import grammar
 from .names import count, is_term, listed, near
 from .shape import FOREIGN
 
 LIMITS = {
-    'types': (16, 'types', 'leave out those that no object needs'),
-    'objects': (64, 'objects', 'in version 2, `(pks 2)`, there may be 256; else leave out those '
+    'types': (limits.TYPES, 'types', 'leave out those that no object needs'),
+    'objects': (limits.OBJECTS[1], 'objects', 'in version 2, `(pks 2)`, there may be 256; else leave out those '
                                'that play no part'),
-    'predicates': (32, 'predicates', 'give one predicate an argument in place of several without'),
-    'functions': (32, 'functions', 'give one function an argument in place of several without'),
-    'domain': (64, 'actions', 'give one action a parameter in place of several without'),
-    'params': (4, 'parameters of an action', 'split the action in two, the first of which leaves '
+    'predicates': (limits.PREDICATES, 'predicates', 'give one predicate an argument in place of several without'),
+    'functions': (limits.FUNCTIONS, 'functions', 'give one function an argument in place of several without'),
+    'domain': (limits.ACTIONS, 'actions', 'give one action a parameter in place of several without'),
+    'params': (limits.PARAMETERS, 'parameters of an action', 'split the action in two, the first of which leaves '
                                              'a fact or a value for the second'),
-    'pre': (16, 'preconditions of an action', 'split the action, or set one fact for several'),
-    'effects': (16, 'effects of an action', 'split the action; `clear` unsets many at once'),
-    'senses': (16, 'senses of an action', 'split the action; `sense-all` senses many at once'),
-    'knows': (16, 'adds of an action', 'split the action, or leave out what nothing asks for'),
-    'goal': (16, 'queries of a goal', 'let a last action, whose preconditions are these queries, '
+    'pre': (limits.PRECONDITIONS, 'preconditions of an action', 'split the action, or set one fact for several'),
+    'effects': (limits.EFFECTS, 'effects of an action', 'split the action; `clear` unsets many at once'),
+    'senses': (limits.SENSES, 'senses of an action', 'split the action; `sense-all` senses many at once'),
+    'knows': (limits.ADDS, 'adds of an action', 'split the action, or leave out what nothing asks for'),
+    'goal': (limits.GOALS, 'queries of a goal', 'let a last action, whose preconditions are these queries, '
                                       'set one fact, and ask for that'),
-    'kx': (16, 'literals of a group', 'use a function with these as its values, of which an object '
+    'kx': (limits.GROUP, 'literals of a group', 'use a function with these as its values, of which an object '
                                       'may have any number; or groups of groups'),
-    'kw': (4, 'literals of a formula', 'name a part of it by a predicate of its own'),
-    'sense': (4, 'literals of a sense', 'sense parts of it one by one'),
-    'when': (4, 'literals of a condition', 'name a part of it by a predicate of its own'),
-    'if': (4, 'queries of an `if`', 'put some of them into `pre`'),
-    'predicate': (3, 'arguments of a predicate', 'use two predicates, or a function for one of the '
+    'kw': (limits.CONDITION, 'literals of a formula', 'name a part of it by a predicate of its own'),
+    'sense': (limits.CONDITION, 'literals of a sense', 'sense parts of it one by one'),
+    'when': (limits.CONDITION, 'literals of a condition', 'name a part of it by a predicate of its own'),
+    'if': (limits.CONDITION, 'queries of an `if`', 'put some of them into `pre`'),
+    'predicate': (limits.PREDICATE_ARGUMENTS, 'arguments of a predicate', 'use two predicates, or a function for one of the '
                                                  'arguments'),
-    'function': (2, 'arguments of a function', 'use two functions, or one object for a pair'),
-    'cost': (9999, 'cost', 'give all costs in a larger unit'),
+    'function': (limits.FUNCTION_ARGUMENTS, 'arguments of a function', 'use two functions, or one object for a pair'),
+    'cost': (limits.COST, 'cost', 'give all costs in a larger unit'),
 }
+
+
+def explain(names, form, text, refusal):
+    """The sentences on a code of meaning or of the world."""
+    by_code = {
+        Code.LONG_NAME: lambda: [f'`{form.word[:20]}..` has {len(form.word.lstrip("?"))} bytes, and {limits.NAME_BYTES} '
+                                 'are the most.'],
+        Code.NOT_DECLARED: lambda: ['`not` is the word for a negated literal: take another name.'],
+        Code.TWICE: lambda: twice(names, form, text),
+        Code.UNDECLARED: lambda: undeclared(names, form),
+        Code.WORLD_UNDECLARED: lambda: undeclared(names, form),
+        Code.PARAMETER: lambda: parameter(names, form),
+        Code.ARGUMENTS: lambda: arguments(names, form),
+        Code.TYPE: lambda: types_of(names, form),
+        Code.HEIGHT: lambda: height(form),
+        Code.LIMIT: lambda: limit(names, form),
+        Code.NO_VALUE: lambda: [f'No object has the type `{form.word}`'
+                                + (' or one below it' if names.version == 2 else '')
+                                + f', so this function has no value: declare one, `(objects ({form.word} ..))`.'],
+        Code.GROUP: lambda: group(form),
+        Code.WILDCARDS: lambda: wildcards(form),
+        Code.WORLD_FACT: lambda: (arguments if form.is_list() else types_of)(names, form),
+        Code.WORLD_NO_VALUE: lambda: missing_values(names),
+        Code.WORLD_TWO_VALUES: lambda: [f'`{form.text()}` had a value before: a place has one value, so take one of the '
+                                        'two away.'],
+        Code.WORLD_MISSING: lambda: ['Add `(world (true ..) (values ..))` behind the problem; `tools/world` writes one.'],
+        Code.WORLD_INCOMPATIBLE: lambda: item(names, int(refusal.rest.split()[-1])),
+    }
+    return by_code[refusal.code]()
 
 
 def value_form(names, place):
@@ -49,20 +80,31 @@ def value_form(names, place):
     return [f'A literal about its value is `(= {own} {value})`.']
 
 
+def fact_form(place):
+    """How it is said of a fact that it will be known, or sensed, where it stands as a value."""
+    verb = place.parent.head() if place.parent is not None else None
+    if verb == 'kv':
+        return [f'`kv` is of values; that it will be known whether a fact is so is `(kw {place.text()})`.']
+    return [f'A fact is sensed by `(sense {place.text()})`.'] if verb == 'sense-value' else []
+
+
 def undeclared(names, form):
     """203 and 301."""
     word = form.word
     kind, known = kind_of(names, form)
     said = [f'`{word}` isn\'t declared as {kind} before this place. Declared: {listed(known)}.']
-    close = near(word, known)
+    same = next((name for name in known if name.lower() == word.lower()), None)
+    close = same or near(word, known)
     if close:
-        said.append(f'Is `{close}` meant?')
+        said.append(f'Capital letters count: is `{close}` meant?' if same else f'Is `{close}` meant?')
     for other, table in (('a predicate', names.predicates), ('a function', names.functions),
                          ('an object', names.objects), ('a type', names.types)):
         if word in table and other != kind:
             said.append(f'There is {other} of that name, but here {kind} is wanted.')
             if (kind, other) == ('a predicate', 'a function'):
                 said += value_form(names, form.parent)
+            if (kind, other) == ('a function', 'a predicate'):
+                said += fact_form(form.parent)
     if word in FOREIGN:
         said.append(FOREIGN[word])
     if word in grammar.QUERIES + grammar.ITEMS and kind == 'a predicate':
@@ -100,9 +142,13 @@ def parameter(names, form):
     name = action.parts[1].text()
     said = [f'`{form.word}` isn\'t among the params of the action `{name}`, which are: '
             f'{listed(own)}.']
-    close = near(form.word, own)
-    said.append(f'Is `{close}` meant, or is' if close else 'Is')
-    said[-1] += f' `({form.word} TYPE)` missing in its `params`?'
+    types = names.signature(form.parent)[1] or [] if form.parent is not None else []
+    wanted = types[form.index() - 1] if 0 < form.index() <= len(types) else None
+    here = {part.word for part in form.parent.parts}
+    close = near(form.word, own) or next((p for p, kind in own.items() if kind == wanted and p not in here), None)
+    of_type = f', which is of the type `{wanted}` that is wanted here' if close and own[close] == wanted else ''
+    said.append(f'Is `{close}` meant{of_type}, or is' if close else 'Is')
+    said[-1] += f' `({form.word} {wanted or "TYPE"})` missing in its `params`?'
     return said
 
 
@@ -114,6 +160,11 @@ def arguments(names, form):
         kind, types = names.signature(form)
     types = types or []
     declared = '(' + ' '.join([form.head() or '?'] + types) + ')'
+    if kind == 'function' and len(form.rest()) > len(types):
+        own = '(' + ' '.join([form.head()] + types + [names.functions[form.head()][1] or '?']) + ')'
+        return [f'`{form.text()}` has {count(len(form.rest()), "argument")}, and the function `{form.head()}` has '
+                f'{count(len(types), "argument")}: in `{own}` the last type is that of the value. Was the type of its value '
+                'forgotten there?']
     return [f'`{form.text()}` has {count(len(form.rest()), "argument")}; the {kind} '
             f'`{form.head()}` has {count(len(types), "argument")}: it is declared as `{declared}`.']
 
@@ -181,9 +232,9 @@ def limit(names, form):
         return ['A limit of docs/FORMAT.md section 3 is passed here.']
     most, what, cure = LIMITS[key]
     if key == 'objects' and names.version == 2:
-        most = 256
+        most = limits.OBJECTS[2]
     return [f'This is the first one past a limit: there may be {most} {what} at most.' if key != 'cost'
-            else 'A cost may be 9,999 at most.', f'What to do: {cure}.']
+            else f'A cost may be {limits.COST:,} at most.', f'What to do: {cure}.']
 
 
 def group(form):

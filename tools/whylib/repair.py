@@ -1,52 +1,88 @@
-"""Looks for the one parenthesis that makes a file acceptable again."""
+"""Looks for the parenthesis that makes a file with a missing one, or one too many, acceptable again."""
 
 import time
+from typing import Callable, Iterator, List, Optional
+
+from pkslib import Code, Text, read_refusal
+
+from .cures import Cure, Outcome, code_of
 
 SECONDS = 8.0
+Check = Callable[[bytes], str]
 
 
-def code_end(text, number):
+def code_end(text: Text, number: int) -> int:
     """The byte at which a line's code ends, before blanks and a comment."""
     start = text.starts[number - 1]
     return start + len(text.line(number).split(';')[0].rstrip())
 
 
-def balance(text, number):
+def balance(text: Text, number: int) -> int:
     """How many more lists a line opens than it closes."""
     line = text.line(number).split(';')[0]
     return line.count('(') - line.count(')')
 
 
-def in_order(text, code, first):
+def in_order(text: Text, is_missing: bool, first: Optional[int]) -> List[int]:
     """The lines in which to look, the likely ones first."""
     lines = [n for n in range(1, len(text.starts) + 1) if text.line(n).split(';')[0].strip()]
-    wrong = [n for n in lines if (balance(text, n) > 0) == (code == 111) and balance(text, n)]
+    wrong = [n for n in lines if (balance(text, n) > 0) == is_missing and balance(text, n)]
     likely = ([first] if first else []) + wrong
     return likely + [n for n in lines if n not in set(likely)]
 
 
-def changed(text, code, number):
-    """The file with a `)` more, or one less, at the end of a line; None where it has none."""
-    end = code_end(text, number)
-    if code == 111:
-        return text.data[:end] + b')' + text.data[end:]
-    if text.data[end - 1:end] != b')':
-        return None
-    return text.data[:end - 1] + text.data[end:]
+def at_ends(text: Text, is_missing: bool, first: Optional[int]) -> Iterator[Cure]:
+    """A parenthesis more, or one less, at the end of each line."""
+    for number in in_order(text, is_missing, first):
+        end = code_end(text, number)
+        if is_missing:
+            yield Cure([(end, end, ')')])
+        elif text.data[end - 1:end] == b')':
+            yield Cure([(end - 1, end, '')])
 
 
-def line_to_mend(text, code, first, check):
-    """A line at whose end a parenthesis is missing (111) or too many (112), or None.
+def within(text: Text, is_missing: bool) -> Iterator[Cure]:
+    """A parenthesis more between two lists, or one less where two stand together, anywhere."""
+    code = code_of(text)
+    for at, letter in enumerate(code):
+        if letter != ')':
+            continue
+        if not is_missing and code[at + 1:at + 2] != ')' and code[at - 1:at] == ')':
+            yield Cure([(at, at + 1, '')])
+        if is_missing and code[at + 1:].lstrip()[:1] == '(':
+            yield Cure([(at + 1, at + 1, ')')])
 
-    It is one after whose change the program finds no fault of text or shape; with it the
-    program's answer.
-    """
-    start = time.monotonic()
-    for number in in_order(text, code, first):
+
+def guided(text: Text, check: Check) -> Iterator[Cure]:
+    """Parentheses before those forms at which the file is refused when all open lists are closed at its end."""
+    code = code_of(text)
+    end, places = len(code.rstrip()), []
+    for _ in text.open:
+        cure = Cure([(at, at, ')') for at in places] + [(end, end, ')' * (len(text.open) - len(places)))])
+        data = cure.done(text.data)
+        said = check(data)
+        if not said.startswith('refused') or read_refusal(said).code >= Code.LONG_NAME:
+            yield cure
+            return
+        refusal = read_refusal(said)
+        at = Text(data).at(refusal.line, refusal.column)
+        at -= sum(place < at for place in places)
+        place = len(code[:at].rstrip())
+        if place in places or not place:
+            return
+        places.append(place)
+    yield Cure([(at, at, ')') for at in places])
+
+
+def found(text: Text, code: int, first: Optional[int], check: Check) -> Optional[Outcome]:
+    """A cure after which the program finds no fault of text or shape, or None."""
+    start, is_missing = time.monotonic(), code == Code.UNCLOSED
+    ways = [at_ends(text, is_missing, first), guided(text, check) if is_missing else iter(()), within(text, is_missing)]
+    for cure in (cure for way in ways for cure in way):
         if time.monotonic() - start > SECONDS:
             return None
-        data = changed(text, code, number)
-        said = check(data) if data is not None else 'refused 1:1 100'
-        if said.startswith('accepted') or int(said.split()[2]) >= 200:
-            return number, said
+        data = cure.done(text.data)
+        said = check(data)
+        if said.startswith('accepted') or read_refusal(said).code >= Code.LONG_NAME:
+            return Outcome(cure, data, said)
     return None

@@ -24,6 +24,11 @@ FOREIGN = {
                     'parents of types and aims over time.',
     'not-k': 'To ask that something isn\'t known write `(not-derived (k ..))`.',
     'define': 'There is no `define`: write `(domain ..)` and then `(problem ..)`, without names.',
+    'increase': 'There are no numbers, and nothing is counted up: take objects for the amounts, and facts such as '
+                '`(less n1 n2)`. What an action costs is `(cost 3)`, in version 2.',
+    'decrease': 'There are no numbers, and nothing is counted down: take objects for the amounts, and facts such as '
+                '`(less n1 n2)`.',
+    'probabilistic': 'There are no chances: what may turn out in two ways is a fact that isn\'t known, under a `when`.',
 }
 
 
@@ -40,13 +45,19 @@ WHERE = {
 }
 
 
-def shape(text, form, version):
+def is_pddl(text):
+    """Whether a file is one in PDDL: it begins with `define`, and has words with a colon."""
+    return bool(text.forms) and text.forms[0].head() == 'define' and any(
+        form.parts and form.parts[0].word == ':' for form in text.lists)
+
+
+def shape(text, form, names):
     """What is said of a form at which the walk over the grammar stopped."""
     if form is None:
         return ['The text ends where a form is missing.']
     if form.parent is None:
         return top(form)
-    hint = grammar.version_hint(form, version)
+    hint = grammar.version_hint(form, names.version)
     if hint:
         return [hint]
     parts = wrong_number(form)
@@ -58,7 +69,7 @@ def shape(text, form, version):
 
 def says_all(said):
     """Whether a hint shows the whole form that should stand here."""
-    return any(text.startswith(('One pair of', 'The value of a place')) for text in said)
+    return any(text.startswith(('One pair of', 'The value of a place', 'A value is given')) for text in said)
 
 
 def wrong_number(form):
@@ -146,12 +157,24 @@ SWAPS = {('add', 'k'): 'kf', ('item', 'k'): 'kf', ('start', 'k'): 'kf', ('query'
          ('sense', 'kw'): 'sense', ('sense', 'kv'): 'sense-value'}
 
 
+def is_sensed(form, inner):
+    """Whether the action in which a form stands senses this."""
+    action = form
+    while action is not None and action.head() != 'action':
+        action = action.parent
+    senses = [part for part in action.parts if part.head() == 'senses'] if action is not None else []
+    return any(' '.join(p.text() for p in sense.rest()) == inner for part in senses for sense in part.rest())
+
+
 def swapped(form, kind):
     """For a head that has another one's meaning here."""
     own = SWAPS.get((kind, form.head()))
     if own is None:
         return None
     inner = ' '.join(p.text() for p in form.rest())
+    if own == 'kf' and kind == 'add' and is_sensed(form, inner):
+        return [f'Here it is `(kw {inner})`: `k` asks whether something is known, and what the action senses may come '
+                'out either way, so it is told by `kw`.']
     why = ('`k` asks whether something is known, `kf` tells that it is.'
            if kind != 'sense' else 'a sense finds out, and `knows` tells of it.')
     return [f'Here it is `({own} {inner})`: {why}']
@@ -171,8 +194,9 @@ def literal_hint(form, kind):
                 f'isn\'t known to be true, `(not-derived (k {inner}))`.']
     if kind in ('query', 'plain', 'aim') and head == 'not':
         inner = form.rest()[0].text() if form.rest() else '..'
-        return [f'A query is negated as `(not-derived {inner})`: this asks that it isn\'t known. '
-                'To ask that something is known to be false write `(k (not ..))`.']
+        known = form.rest()[0].rest()[0].text() if form.rest() and form.rest()[0].rest() else '..'
+        return [f'To ask that it is known to be false write `(k (not {known}))`; to ask that it isn\'t known, '
+                f'`(not-derived {inner})`.']
     if kind in ('effect', 'target') and head == 'not':
         inner = form.rest()[0].text() if form.rest() else '..'
         return [f'To make an atom false write `(unset {inner})`.']
@@ -198,6 +222,9 @@ def word_hint(form, kind):
     if kind == 'section' and form.index() == 1 and form.parent.head() in ('domain', 'problem'):
         return [f'A {form.parent.head()} has no name here: leave `{word}` out.']
     if word == '=' and own in ('atom', 'fact'):
+        place, value = [p.text() for p in form.parent.rest()][:2] if len(form.parent.rest()) >= 2 else ('PLACE', 'TERM')
+        if own == 'atom':
+            return [f'A value is given by `assign`: write `(assign {place} {value})`.']
         return ['A value is given by `(assign PLACE TERM)`, as in `(assign (here) ?to)`.'
                 if own == 'atom' else
                 'Values stand in `(values (PLACE OBJECT) ..)`, as in `(values ((here) hall))`.']
@@ -205,7 +232,8 @@ def word_hint(form, kind):
         *place, value = [p.text() for p in form.parent.parts]
         return [f'The value of a place is written `(({" ".join(place)}) {value})`.']
     if word == '_':
-        return ['A wildcard stands in patterns alone: in `clear`, `sense-all` and `lcw`.']
+        return ['A wildcard stands in patterns alone: in `clear`, `sense-all` and `lcw`. Write one literal for each object; '
+                'or, where all else is false, `(lcw ..)`.']
     if word == '-':
         return ['Types have no `-` before them: `(?x room)`, `(cup item)`; a type with its parent '
                 'is `(room place)`, in version 2.']
@@ -248,6 +276,8 @@ def number(form):
         said = [f'This list has {count(len(form.rest()), "part")} behind `{head}`; it is '
                 f'{grammar.SHAPES[head]}.']
         parts = form.rest()
+        if head == 'kx' and len(parts) == 1:
+            said.append(f'If this is the only one that can be, it is so: `(kf {parts[0].text()})`. Else name the others too.')
         if head in VALUED and len(parts) == 2 and parts[0].is_list() and parts[1].word:
             said.append('A value is written '
                         f'`{VALUED[head].format(parts[0].text(), parts[1].text())}`.')

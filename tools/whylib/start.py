@@ -1,7 +1,5 @@
 """Explains 270: which items of `init` contradict each other."""
 
-from .names import listed
-
 MOST_CALLS = 400
 
 
@@ -47,6 +45,7 @@ def explain(text, names, check):
     for form in kept:
         number = next(i for i, x in enumerate(items) if x is form) + 1
         said.append(f'    item {number}, line {text.place(form.start)[0]}: {form.short(100)}')
+    said.append('Take one of them away.')
     if any(f.head() == 'lcw' for f in kept):
         said.append('An `lcw` says that no atom that meets its pattern is true but those that '
                     'stand in `init` as `(kf ..)`.')

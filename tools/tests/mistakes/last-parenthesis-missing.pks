@@ -1,6 +1,6 @@
 ; last parenthesis missing
 ; says: code 111
-; says: at the end of line 23 the file is accepted
+; says: line 23 is: (goal (k (held cup)))) With it the file is accepted
 (pks 1)
 (domain
   (types room item)

@@ -1,7 +1,7 @@
 ; negated query
 ; says: code 124
 ; says: (not-derived (k (= ?a ?b)))
-; says: `(k (not ..))`
+; says: `(k (not (= ?a ?b)))`
 (pks 1)
 (domain
   (types room item)

@@ -1,6 +1,6 @@
 ; parameter missing
 ; says: code 204
-; says: `(?r TYPE)`
+; says: `(?r room)`
 (pks 1)
 (domain
   (types room item)

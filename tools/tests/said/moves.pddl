@@ -15,3 +15,6 @@
 ; writes: (lcw (road _ _))
 ; writes: (kf (not (at b)))
 ; plans not: 3
+
+; warns: :4:3: (not (at ?from)) won't be known after move: (at ?to) may be about the same. Write (k (not (= ?from ?to))) in pre, and (kf (not (at ?from))) in knows; --known does, since nothing is lost by it.
+; known: 1
