@@ -73,7 +73,7 @@ class Asking:
             printed, _ = child.communicate(text.encode('ascii'), timeout=seconds)
         except subprocess.TimeoutExpired:
             child.kill()
-            child.communicate()
+            printed, _ = child.communicate()
         finally:
             self.running.discard(child)
         if child.returncode == Status.DONE:
