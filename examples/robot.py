@@ -13,7 +13,8 @@ switched off within the plan; switched on again it has the answers that it wrote
 with them, and does only what it hadn't done. `faults` shows how a dialogue ends that can't go on.
 
 The program is found as by all tools: the variable PKS, the built one of this checkout, the PATH.
-The status is 0 where each dialogue ends as it should, and 1 else.
+The status is 0 where each dialogue ends as it should, 1 where one doesn't, and 2 where the words are wrong or the program
+isn't there.
 """
 
 import os
@@ -26,7 +27,7 @@ sys.dont_write_bytecode = True
 sys.path.insert(0, os.path.join(TOP, 'tools'))
 
 import pkslib  # noqa: E402
-from pkslib import AskTest, Dialogue, Do, End, Fact, Question, World, written  # noqa: E402
+from pkslib import AskTest, Dialogue, Do, End, Fact, Question, World, commands, written  # noqa: E402
 
 
 class Robot(World):
@@ -52,10 +53,12 @@ class Lawn(Robot):
     worlds = {'poison': ([('alive',), ('poison',)], {}), 'water': ([('alive',)], {})}
 
     def do(self, name: str, arguments: Sequence[str]) -> None:
+        """Poison that is poured kills the lawn."""
         if name == 'pour' and ('poison',) in self.true:
             self.true.discard(('alive',))
 
     def is_well(self) -> bool:
+        """Whatever the can held, the robot did what it could."""
         return True
 
 
@@ -66,10 +69,12 @@ class Safe(Robot):
     worlds = {c: ([], {('combo',): c}) for c in ('c1', 'c3', 'c5')}
 
     def do(self, name: str, arguments: Sequence[str]) -> None:
+        """The safe opens where its combination is dialled."""
         if name == 'dial' and arguments[0] == self.values[('combo',)]:
             self.true.add(('open',))
 
     def is_well(self) -> bool:
+        """Whether the safe is open."""
         return ('open',) in self.true
 
 
@@ -83,6 +88,7 @@ class House(Robot):
               for room in ('hall', 'study')}
 
     def do(self, name: str, arguments: Sequence[str]) -> None:
+        """The robot walks, takes what lies where it is, and puts down what it holds."""
         here = self.values[('here',)]
         if name == 'go':
             self.values[('here',)] = arguments[0]
@@ -93,6 +99,7 @@ class House(Robot):
             self.values[('loc', arguments[0])] = here
 
     def is_well(self) -> bool:
+        """Whether the cup lies in the kitchen."""
         return self.values[('loc', 'cup')] == 'kitchen' and ('held', 'cup') not in self.true
 
 
@@ -230,24 +237,21 @@ def faults() -> bool:
                 ends_unread()])
 
 
-def main(words: List[str]) -> int:
+def main() -> int:
     """Does what the words ask for, and gives the status."""
     others = {'mistypes': mistypes, 'fails': fails, 'faults': faults}
-    if words in (['-h'], ['--help']):
-        print(__doc__)
-        return 0
-    try:
-        if len(words) == 1 and words[0] in others:
-            return 0 if others[words[0]]() else 1
-        if words and words[0] in ROBOTS:
-            kind = ROBOTS[words[0]]
-            return 0 if all([lead_in(kind, name) for name in words[1:] or kind.worlds]) else 1
-    except pkslib.PksError as fault:
-        sys.stderr.write(f'robot.py: {fault}\n')
-        return 1
-    sys.stderr.write(__doc__)
-    return 1
+    parser = commands.parser(__doc__ or '')
+    parser.add_argument('what', choices=[*ROBOTS, *others], help='a robot, or what is to be seen')
+    parser.add_argument('worlds', metavar='WORLD', nargs='*', help='worlds of the robot')
+    given = parser.parse_args()
+    if given.what in others:
+        return 0 if others[given.what]() else 1
+    kind = ROBOTS[given.what]
+    strange = [name for name in given.worlds if name not in kind.worlds]
+    if strange:
+        raise commands.Fault(f'{given.what} has no world {strange[0]}, but {", ".join(kind.worlds)}')
+    return 0 if all([lead_in(kind, name) for name in given.worlds or kind.worlds]) else 1
 
 
 if __name__ == '__main__':
-    sys.exit(main(sys.argv[1:]))
+    commands.run(main)

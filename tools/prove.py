@@ -24,6 +24,7 @@ import threading
 import time
 from importlib.machinery import SourceFileLoader
 from importlib.util import module_from_spec, spec_from_loader
+from typing import IO, Any, Callable, Dict, List, NoReturn, Optional, Sequence
 
 TOP = os.path.dirname(os.path.dirname(os.path.realpath(__file__)))
 
@@ -52,30 +53,32 @@ EARLY = 300
 MOMENT = 0.2
 
 
-def say(text):
+def say(text: str) -> None:
+    """Prints a line on standard error."""
     print(f"pks: {text}", file=sys.stderr, flush=True)
 
 
 class Progress:
     """How many crates are done, and about how long the others will take: one line, in its place on a terminal."""
 
-    def __init__(self, names, processors):
+    def __init__(self, names: Sequence[str], processors: int) -> None:
         self.left = {name: seconds(name) for name in names}
         self.number, self.work = len(self.left), 0
         self.rate, self.start = processors, time.monotonic()
 
-    def minutes(self):
+    def minutes(self) -> int:
         """The minutes that are left, by what the work so far took; at first by the number of processors."""
         passed = time.monotonic() - self.start
         rate = self.work / passed if self.work >= EARLY and passed > 0 else self.rate
         return max(1, round(sum(self.left.values()) / max(rate, 0.1) / 60))
 
-    def done(self, name, is_proved=True):
+    def done(self, name: str, is_proved: bool = True) -> None:
         """Counts a crate that was proved now, or was before."""
         work = self.left.pop(name, 0)
         self.work += work if is_proved else 0
 
-    def show(self, ends=False):
+    def show(self, ends: bool = False) -> None:
+        """Prints the line; with `ends` nothing is printed in its place again."""
         many = self.minutes()
         left = f", about {many} minute{'s' if many > 1 else ''}" if self.left else ""
         text = f"pks: {self.number - len(self.left)} of {self.number}{left}"
@@ -86,7 +89,7 @@ class Progress:
         sys.stderr.flush()
 
 
-def load_rt():
+def load_rt() -> Optional[Any]:
     """The toolchain's command as a module, or None where it isn't of the kit that README.md names."""
     sys.dont_write_bytecode = True
     loader = SourceFileLoader("rt", os.path.realpath(shutil.which("rt")))
@@ -95,7 +98,7 @@ def load_rt():
     return module if all(hasattr(module, name) for name in NEEDED) else None
 
 
-def seconds(name):
+def seconds(name: str) -> int:
     """About what the crate's proofs take, in processor seconds."""
     return SECONDS.get(name, SECONDS_OF_OTHERS)
 
@@ -103,21 +106,22 @@ def seconds(name):
 class Room:
     """A folder for all that is made on the way, which goes when this command ends, however it ends."""
 
-    def __init__(self):
+    def __init__(self) -> None:
         self.path = tempfile.mkdtemp(prefix="pks-prove-")
         tempfile.tempdir = self.path
         for it in (signal.SIGHUP, signal.SIGINT, signal.SIGTERM):
             signal.signal(it, lambda number, _: self.end(128 + number))
 
-    def remove(self):
+    def remove(self) -> None:
+        """Takes the folder away."""
         shutil.rmtree(self.path, ignore_errors=True)
 
-    def end(self, status):
+    def end(self, status: int) -> NoReturn:
         """Ends this command, and with it all that it runs."""
         self.remove()
         os._exit(status)
 
-    def end_unless(self, status, said):
+    def end_unless(self, status: int, said: IO[str]) -> None:
         """Ends where a step failed: with what the toolchain said of it, which is what it said last."""
         if status:
             said.seek(0)
@@ -130,17 +134,18 @@ class Room:
 class Lanes:
     """The scheduler of `rt ci`, told what crates take; and how far it is."""
 
-    def __init__(self, rt):
+    def __init__(self, rt: Any) -> None:
         self.rt, self.real, self.turn = rt, rt.in_lanes, threading.Lock()
         self.begun, self.done, self.progress = 0, 0, Progress([], 1)
 
-    def run(self, tasks):
+    def run(self, tasks: Dict[Any, Any]) -> Any:
+        """Runs the tasks by the scheduler, with what each crate takes."""
         self.progress = Progress([name for name, what in tasks if what == "proof"], self.rt.processors())
         self.progress.show()
         work = lambda key: seconds(key[0]) if key[1] == "proof" else 0
         return self.real({key: (waits, work(key), *rest) for key, (waits, _, *rest) in tasks.items()})
 
-    def flags_of(self, crate, flags):
+    def flags_of(self, crate: Any, flags: Sequence[str]) -> List[str]:
         """How many processes prove the crate: as many as the scheduler says, and those that no other crate can use."""
         # (what begins with it has begun)
         time.sleep(MOMENT)
@@ -149,7 +154,7 @@ class Lanes:
         jobs = int(flags[1])
         return ["--jobs", str(max(jobs, 1 + idle) if 2 * self.rt.need(crate) < self.rt.free() else jobs)]
 
-    def prove(self, crate, flags, call):
+    def prove(self, crate: Any, flags: Sequence[str], call: Callable[[List[str]], int]) -> int:
         """Proves the crate by this call, and tells how many are done; returns the call's status."""
         with self.turn:
             self.begun += 1
@@ -161,7 +166,7 @@ class Lanes:
             self.progress.show(ends=bool(status))
         return status
 
-    def skip(self, crate):
+    def skip(self, crate: Any) -> None:
         """Counts a crate that was proved before."""
         with self.turn:
             self.begun, self.done = self.begun + 1, self.done + 1
@@ -169,7 +174,7 @@ class Lanes:
             self.progress.show()
 
 
-def build_program(rt, room, name):
+def build_program(rt: Any, room: Room, name: str) -> None:
     """Runs `rt ci CRATE` without edits and tests, and takes the program, as LLVM builds it, from the copy that it works on."""
     lanes, prove, compile_by, give, run, tell = Lanes(rt), rt.Crate.ci, rt.Crate.compile_by, rt.Kept.give, rt.run, rt.say
     to, said = f"{TOP}/crates/{name}/out", tempfile.TemporaryFile("w+", errors="replace")
@@ -210,7 +215,7 @@ def build_program(rt, room, name):
     room.end_unless(status, said)
 
 
-def build_libraries(rt, room, name):
+def build_libraries(rt: Any, room: Room, name: str) -> None:
     """Proves the libraries below the crate as `rt lib` does, and keeps them in their folders."""
     folder, lanes = f"{TOP}/crates/{name}", Lanes(rt)
     crate = rt.rtlib.Crate(folder, rt.rtlib.root_above(folder), {})
@@ -233,7 +238,8 @@ def build_libraries(rt, room, name):
         os.close(it)
 
 
-def main(words):
+def main(words: List[str]) -> int:
+    """Proves what the words name, and gives the status."""
     build = build_libraries if words[0] == "--libraries" else build_program
     rt = load_rt()
     if rt is None:

@@ -29,10 +29,12 @@ class _Lines:
         return ''
 
     def fault(self, what: str) -> Malformed:
+        """What is wrong at the next line."""
         number = self.lines[min(self.at, len(self.lines) - 1)][2] if self.lines else 1
         return Malformed(what, number)
 
     def parsed(self, text: str) -> Tuple[Expression, ...]:
+        """The expressions of the next line."""
         try:
             return tuple(expressions(text))
         except Malformed as fault:

@@ -2,11 +2,13 @@
 
 import itertools
 import math
+from typing import Dict, List, Optional, Sequence, Tuple
 
 from . import limits
 from .conditions import Queries, Scope
+from .declared import Declared
 from .effects import Effects
-from .text import Refusal
+from .text import Form, Refusal
 
 OBSERVATIONS = (':observe', ':sense', ':observation', ':sensed')
 MOST_ACTIONS = 8
@@ -30,7 +32,7 @@ SECTIONS = (':requirements', ':types', ':constants', ':predicates', ':functions'
 class Action:
     """An action, in the words of the planner's format."""
 
-    def __init__(self, form, declared, name, picks=()):
+    def __init__(self, form: Form, declared: Declared, name: str, picks: Sequence[int] = ()) -> None:
         """`picks` says which alternative is taken of each condition that has several."""
         self.form, self.comments, self.remarks = form, form.comments, []
         self.name = name
@@ -50,7 +52,7 @@ class Action:
         self.check()
 
     @staticmethod
-    def parts_of(form):
+    def parts_of(form: Form) -> Dict[str, Form]:
         """The parts of an action by their keywords."""
         if len(form.parts) < 2 or form.parts[1].is_list():
             raise Refusal(form, 'an action has a name', 'Write `(:action NAME ..)`.')
@@ -67,7 +69,8 @@ class Action:
         return found
 
     @staticmethod
-    def read_parameters(form, declared):
+    def read_parameters(form: Optional[Form], declared: Declared) -> Tuple[Dict[str, str], Scope]:
+        """The parameters with their types, and the scope in which they stand."""
         scope = Scope(declared)
         found = scope.parameters(form.parts if form else [])
         for word, (term, _) in found.items():
@@ -75,7 +78,7 @@ class Action:
                 declared.names.changes.append(('parameter', word, term))
         return {term: kind for term, kind in found.values()}, scope.adding(found)
 
-    def check(self):
+    def check(self) -> None:
         """The limits on an action."""
         at_most, form = limits.at_most, self.form
         at_most(limits.PARAMETERS, len(self.parameters), form,
@@ -89,7 +92,7 @@ class Action:
                 'Take fewer objects, or split it into two actions.')
 
 
-def written_out(form, declared):
+def written_out(form: Form, declared: Declared) -> List[Action]:
     """An action, or one for each choice of an alternative where its precondition has an `or`."""
     Action.parts_of(form)
     name = declared.names.declare('action', form.parts[1])
@@ -107,7 +110,8 @@ def written_out(form, declared):
     return found
 
 
-def read_actions(domain, declared):
+def read_actions(domain: Form, declared: Declared) -> List[Action]:
+    """The actions of a domain, in their order."""
     found = []
     for form in domain.rest()[1:]:
         head = form.head()

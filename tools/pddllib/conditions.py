@@ -5,40 +5,59 @@ A condition becomes its alternatives: a list of conjunctions, each a list of lit
 which must be true.
 """
 
-from collections import namedtuple
 import itertools
 import re
+from typing import Dict, Iterator, List, NamedTuple, NoReturn, Optional, Sequence, Tuple, Union
+
+from pkslib import Expression
 
 from . import limits
+from .declared import Declared
 from .names import fitting
-from .text import Refusal, typed
+from .text import Form, Refusal, typed
 
 MOST_ALTERNATIVES = 64
 NUMERIC = ('<', '>', '<=', '>=', '+', '-', '*', '/', 'total-cost')
 NUMBER = re.compile(r'-?\d+(\.\d+)?')
 
 
-class Literal(namedtuple('Literal', 'positive name args')):
+TypedTerm = Tuple[Expression, str]
+"""A term and its type."""
+
+
+class Literal(NamedTuple):
     """An atom or an equation (its name is `=`), or the negation of one."""
 
-    def negated(self):
+    positive: bool
+    name: str
+    args: Tuple[Expression, ...]
+
+    def negated(self) -> 'Literal':
+        """The literal that is true where this one is false."""
         return Literal(not self.positive, self.name, self.args)
 
-    def atom(self):
+    def atom(self) -> 'Literal':
+        """The literal without its negation."""
         return Literal(True, self.name, self.args)
 
-    def __str__(self):
+    def __str__(self) -> str:
+        """The literal in the words of the planner's format."""
         atom = term_text((self.name,) + self.args)
         return atom if self.positive else f'(not {atom})'
 
 
-def term_text(term):
+Alternatives = List[List[Literal]]
+"""Conjunctions of literals, one of which must be true."""
+
+
+def term_text(term: Expression) -> str:
+    """A term in the words of the planner's format."""
     if isinstance(term, str):
         return term
     return '(' + ' '.join(term_text(part) for part in term) + ')'
 
 
-def height(term):
+def height(term: Expression) -> int:
     """How deep functions stand within each other."""
     if isinstance(term, str):
         return 0
@@ -48,14 +67,15 @@ def height(term):
 class Scope:
     """The variables at a place: for each the term that it stands for, and its type."""
 
-    def __init__(self, declared, variables=None):
+    def __init__(self, declared: Declared, variables: Optional[Dict[str, TypedTerm]] = None) -> None:
         self.declared = declared
         self.variables = variables or {}
 
-    def adding(self, more):
+    def adding(self, more: Dict[str, TypedTerm]) -> 'Scope':
+        """The scope with more variables."""
         return Scope(self.declared, {**self.variables, **more})
 
-    def parameters(self, forms):
+    def parameters(self, forms: Sequence[Form]) -> Dict[str, Tuple[str, str]]:
         """The parameters of a list, with the terms that stand for them here."""
         found, taken = {}, {term for term, _ in self.variables.values()}
         for name, kind in typed(forms):
@@ -71,7 +91,7 @@ class Scope:
             found[name.word] = (term, self.declared.type_of(kind))
         return found
 
-    def instances(self, forms):
+    def instances(self, forms: Sequence[Form]) -> 'Iterator[Scope]':
         """A scope for each choice of objects for the variables of a list."""
         found = self.parameters(forms)
         kinds = [kind for _, kind in found.values()]
@@ -81,7 +101,7 @@ class Scope:
 
 # Terms and literals
 
-def term(form, scope):
+def term(form: Form, scope: Scope) -> TypedTerm:
     """A term and its type."""
     declared = scope.declared
     if form.is_list():
@@ -99,7 +119,7 @@ def term(form, scope):
     return name, declared.objects[name]
 
 
-def application(form, scope):
+def application(form: Form, scope: Scope) -> TypedTerm:
     """A place `(f ..)`, also where it is written as `f`, and its type."""
     head = form if not form.is_list() else form.parts[0] if form.parts else form
     name = head.word and scope.declared.names.find('function', head.word)
@@ -114,7 +134,7 @@ def application(form, scope):
     return found, result
 
 
-def arguments(form, parts, types, scope):
+def arguments(form: Form, parts: Sequence[Form], types: Sequence[str], scope: Scope) -> Tuple[Expression, ...]:
     """The terms of a list, which must be of these types."""
     if len(parts) != len(types):
         raise Refusal(form, f'`{form.shown()}` has {len(parts)} arguments, and {len(types)} are '
@@ -129,7 +149,7 @@ def arguments(form, parts, types, scope):
     return tuple(found)
 
 
-def atom(form, scope):
+def atom(form: Form, scope: Scope) -> Literal:
     """A predicate with its arguments."""
     head = form.parts[0] if form.parts else form
     name = head.word and scope.declared.names.find('predicate', head.word)
@@ -140,7 +160,7 @@ def atom(form, scope):
     return Literal(True, name, arguments(form, form.rest(), types, scope))
 
 
-def equation(form, scope):
+def equation(form: Form, scope: Scope) -> Union[bool, Literal]:
     """An equation, or whether it is true where that is clear at once."""
     if len(form.parts) != 3:
         raise Refusal(form, 'an equation has two sides', 'Write `(= a b)`.')
@@ -158,11 +178,13 @@ def equation(form, scope):
     return Literal(True, '=', (left, right))
 
 
-def refuse_undeclared(form, kind, where):
+def refuse_undeclared(form: Form, kind: str, where: str) -> NoReturn:
+    """Refuses a name that isn't declared."""
     raise Refusal(form, f'the {kind} `{form.text()}` isn\'t declared', f'Add it to {where}.')
 
 
-def refuse_number(form):
+def refuse_number(form: Form) -> None:
+    """Refuses a number, and what is done with numbers."""
     word = form.word or form.head() or ''
     if word in NUMERIC or NUMBER.fullmatch(word):
         raise Refusal(form, 'there are no numbers here but costs',
@@ -171,7 +193,7 @@ def refuse_number(form):
 
 # Conditions
 
-def alternatives(form, scope, positive=True):
+def alternatives(form: Form, scope: Scope, positive: bool = True) -> Alternatives:
     """The alternatives of a condition, or of its negation."""
     if not form.is_list():
         raise Refusal(form, 'a condition is wanted here, and not a word', 'Write `(NAME ..)`.')
@@ -196,7 +218,8 @@ def alternatives(form, scope, positive=True):
     return literal_alternatives(form, scope, positive)
 
 
-def literal_alternatives(form, scope, positive):
+def literal_alternatives(form: Form, scope: Scope, positive: bool) -> Alternatives:
+    """The alternatives of a literal, or of its negation: one, or none where it is never true."""
     if form.head() in ('knows-whether', 'knows-value', 'knows', 'know', 'unknown', 'oneof'):
         raise Refusal(form, f'`{form.head()}` can\'t stand here',
                       'What is known may be asked by a precondition or the goal alone, outside of '
@@ -207,7 +230,7 @@ def literal_alternatives(form, scope, positive):
     return [[found if positive else found.negated()]]
 
 
-def joined(form, found, all_of):
+def joined(form: Form, found: Sequence[Alternatives], all_of: bool) -> Alternatives:
     """The alternatives of a conjunction, or of a disjunction."""
     if not all_of:
         result = [conj for part in found for conj in part]
@@ -222,19 +245,21 @@ def joined(form, found, all_of):
     return result
 
 
-def check_number(form, result):
+def check_number(form: Form, result: Alternatives) -> None:
+    """Refuses a condition that has too many alternatives."""
     limits.at_most(MOST_ALTERNATIVES, len(result), form,
                    'a condition may have {} alternatives when it is written out',
                    'Keep a fact for it, which the actions set.')
 
 
-def only(form):
+def only(form: Form) -> Form:
+    """The one part behind the head of a list."""
     if len(form.parts) != 2:
         raise Refusal(form, f'`{form.head()}` has one part', f'Write `({form.head()} (p ..))`.')
     return form.parts[1]
 
 
-def quantified(form):
+def quantified(form: Form) -> Tuple[List[Form], Form]:
     """The variables of `forall` and `exists`, and what is said of them."""
     if len(form.parts) != 3 or not form.parts[1].is_list():
         raise Refusal(form, f'`{form.head()}` has a list of variables and one part',
@@ -247,15 +272,15 @@ def quantified(form):
 class Queries:
     """What a precondition or a goal asks, each as the planner's format has it."""
 
-    def __init__(self, what, picks=()):
+    def __init__(self, what: str, picks: Sequence[int] = ()) -> None:
         """Of conditions with several alternatives those that `picks` names are taken, of others the first."""
         self.what, self.picks = what, picks
-        self.counts = []
-        self.texts = []
-        self.literals = []
-        self.parameters = {}
+        self.counts: List[int] = []
+        self.texts: List[str] = []
+        self.literals: List[Literal] = []
+        self.parameters: Dict[str, str] = {}
 
-    def read(self, form, scope):
+    def read(self, form: Form, scope: Scope) -> Scope:
         """Takes the conjuncts one by one."""
         head = form.head()
         if head == 'and':
@@ -277,7 +302,8 @@ class Queries:
             self.condition(form, scope)
         return scope
 
-    def known(self, form, scope):
+    def known(self, form: Form, scope: Scope) -> None:
+        """Takes what asks for knowledge by its word."""
         if form.head() == 'knows-value':
             self.add(f'(kv {term_text(application(only(form), scope)[0])})')
         elif form.head() == 'knows-whether':
@@ -285,7 +311,8 @@ class Queries:
         else:
             self.condition(only(form), scope)
 
-    def condition(self, form, scope):
+    def condition(self, form: Form, scope: Scope) -> None:
+        """Takes a condition, each of its literals as known."""
         found = alternatives(form, scope)
         if not found:
             raise Refusal(form, f'`{form.shown()}` is never true', 'Take it out.')
@@ -293,7 +320,7 @@ class Queries:
             self.literals.append(literal)
             self.add(f'(k {literal})')
 
-    def picked(self, form, number):
+    def picked(self, form: Form, number: int) -> int:
         """Which of so many alternatives is taken; a goal can have only one."""
         if number == 1:
             return 0
@@ -303,12 +330,13 @@ class Queries:
         self.counts.append(number)
         return self.picks[len(self.counts) - 1] if len(self.counts) <= len(self.picks) else 0
 
-    def add(self, text):
+    def add(self, text: str) -> None:
+        """Takes a query that isn't there yet."""
         if text not in self.texts:
             self.texts.append(text)
 
 
-def formula(form, scope):
+def formula(form: Form, scope: Scope) -> List[Literal]:
     """The literals of a conjunction whose truth is asked; an `or` is asked by its negation."""
     found = alternatives(form, scope)
     if len(found) != 1:

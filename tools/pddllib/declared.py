@@ -1,10 +1,14 @@
 """What a domain and a problem declare: types, objects, predicates, functions."""
 
 import itertools
+from typing import TYPE_CHECKING, Dict, Iterable, Iterator, List, NoReturn, Optional, Sequence, Tuple
 
 from . import limits
 from .names import Names
-from .text import Refusal, typed
+from .text import Form, Refusal, typed
+
+if TYPE_CHECKING:
+    from .fixed import Fixed
 
 # What needs those that can't be said is refused where it stands.
 REQUIREMENTS = """:strips :typing :negative-preconditions :disjunctive-preconditions :equality
@@ -19,11 +23,14 @@ OBJECT = 'object'
 class Declared:
     """All declarations, by the names that they have here."""
 
-    def __init__(self, domain, problem):
+    def __init__(self, domain: Form, problem: Form) -> None:
         self.names = Names()
-        self.parents, self.objects, self.predicates, self.functions = {}, {}, {}, {}
+        self.parents: Dict[str, Optional[str]] = {}
+        self.objects: Dict[str, str] = {}
+        self.predicates: Dict[str, List[str]] = {}
+        self.functions: Dict[str, Tuple[List[str], str]] = {}
         self.uses_object = False
-        self.fixed = None
+        self.fixed: 'Optional[Fixed]' = None
         for form in sections(domain, ':requirements') + sections(problem, ':requirements'):
             check_requirements(form)
         self.read_types(sections(domain, ':types'))
@@ -33,7 +40,8 @@ class Declared:
 
     # Types
 
-    def read_types(self, found):
+    def read_types(self, found: Sequence[Form]) -> None:
+        """Takes the types, and then their parents."""
         pairs = [pair for form in found for pair in typed(form.rest())]
         for name, _ in pairs:
             self.declare_type(name)
@@ -41,12 +49,14 @@ class Declared:
             if parent is not None and name.word != OBJECT:
                 self.set_parent(name, parent)
 
-    def declare_type(self, form):
+    def declare_type(self, form: Form) -> None:
+        """Takes a type that isn't declared."""
         need_word(form, 'a type')
         if form.word != OBJECT and self.names.find('type', form.word) is None:
             self.parents[self.names.declare('type', form)] = None
 
-    def set_parent(self, name, parent):
+    def set_parent(self, name: Form, parent: Form) -> None:
+        """Takes the parent of a type, which isn't below it."""
         if parent.is_list():
             refuse_either(parent)
         if parent.word == OBJECT:
@@ -60,7 +70,7 @@ class Declared:
             raise Refusal(parent, f'`{name.raw}` has two parents', 'A type has one parent.')
         self.parents[own] = above
 
-    def type_of(self, form):
+    def type_of(self, form: Optional[Form]) -> str:
         """The name of a type that is used; things without a type are objects."""
         if form is not None and form.is_list():
             refuse_either(form)
@@ -72,19 +82,19 @@ class Declared:
             raise Refusal(form, f'the type `{form.raw}` isn\'t declared', 'Add it to `:types`.')
         return found
 
-    def fits(self, own, wanted):
+    def fits(self, own: Optional[str], wanted: str) -> bool:
         """Whether a thing of the one type may stand where the other is wanted."""
         while own is not None and own != wanted:
             own = self.parents.get(own)
         return own == wanted or wanted == OBJECT
 
-    def check_types(self, domain):
+    def check_types(self, domain: Form) -> None:
         """The limit on types; `object` counts where it is used."""
         limits.at_most(limits.TYPES, len(self.kinds()), (sections(domain, ':types') or [domain])[0],
                        'there are at most {} types',
                        'Leave types out, or tell kinds of objects apart by predicates.')
 
-    def kinds(self):
+    def kinds(self) -> Dict[str, Optional[str]]:
         """The types with their parents, each behind its parent."""
         above = {t: p or (OBJECT if self.uses_object else None) for t, p in self.parents.items()}
         found = {OBJECT: None} if self.uses_object else {}
@@ -94,7 +104,8 @@ class Declared:
 
     # Objects, predicates, functions
 
-    def read_objects(self, found):
+    def read_objects(self, found: Sequence[Form]) -> None:
+        """Takes the objects; one of two types is of the narrower one."""
         for name, kind in [pair for form in found for pair in typed(form.rest())]:
             need_word(name, 'an object')
             own = self.type_of(kind)
@@ -109,7 +120,8 @@ class Declared:
         limits.at_most(limits.OBJECTS, len(self.objects), found[-1] if found else None,
                        'there are at most {} objects', 'Take a smaller problem.')
 
-    def read_predicates(self, found):
+    def read_predicates(self, found: Sequence[Form]) -> None:
+        """Takes the predicates."""
         for form in [f for section in found for f in section.rest()]:
             head = need_head(form, 'a predicate')
             if self.names.find('predicate', head.word) is not None or head.word == '=':
@@ -124,7 +136,8 @@ class Declared:
         limits.at_most(limits.PREDICATES, len(self.predicates), found[0] if found else None,
                        'there are at most {} predicates', 'Leave out those that nothing uses.')
 
-    def read_functions(self, found):
+    def read_functions(self, found: Sequence[Form]) -> None:
+        """Takes the functions whose values are objects."""
         for form, kind in [pair for section in found for pair in typed(section.rest())]:
             head = need_head(form, 'a function')
             if kind is None or kind.word == 'number':
@@ -142,47 +155,52 @@ class Declared:
         limits.at_most(limits.FUNCTIONS, len(self.functions), found[0] if found else None,
                        'there are at most {} functions', 'Leave out those that nothing uses.')
 
-    def read_number(self, head):
+    def read_number(self, head: Form) -> None:
+        """Refuses a function whose values are numbers, but the cost of a plan."""
         if head.word != 'total-cost':
             raise Refusal(head, f'`{head.raw}` is a number, and there are no numbers but costs',
                           'Use objects for the amounts, and facts such as `(next n1 n2)`.')
 
     # Asking
 
-    def objects_of(self, wanted):
+    def objects_of(self, wanted: str) -> List[str]:
+        """The objects of a type and of those below it."""
         return [name for name, own in self.objects.items() if self.fits(own, wanted)]
 
-    def tuples(self, types):
+    def tuples(self, types: Iterable[str]) -> Iterator[Tuple[str, ...]]:
         """All choices of objects of these types, in order."""
         return itertools.product(*(self.objects_of(t) for t in types))
 
 
-def sections(definition, head):
+def sections(definition: Form, head: str) -> List[Form]:
     """The sections of a domain or a problem with this head."""
     return [form for form in definition.rest() if form.head() == head]
 
 
-def check_requirements(form):
+def check_requirements(form: Form) -> None:
+    """Refuses a requirement that isn't known here."""
     for word in form.rest():
         if word.word not in REQUIREMENTS:
             raise Refusal(word, f'the requirement `{word.text()}` isn\'t known here',
                           'Take it out, and what needs it.')
 
 
-def need_word(form, what):
+def need_word(form: Form, what: str) -> None:
+    """Refuses a list, and a variable, where a name is wanted."""
     if form.is_list():
         raise Refusal(form, f'{what} is wanted here, and not a list', 'Write its name.')
     if form.is_variable():
         raise Refusal(form, f'{what} is wanted here, and not a variable', 'Write its name.')
 
 
-def need_head(form, what):
+def need_head(form: Form, what: str) -> Form:
     """The name with which a list begins."""
     if form.head() is None or form.head().startswith('?'):
         raise Refusal(form, f'{what} is wanted here', 'Write `(NAME ..)`.')
     return form.parts[0]
 
 
-def refuse_either(form):
+def refuse_either(form: Form) -> NoReturn:
+    """Refuses several types in place of one."""
     raise Refusal(form, f'`{form.shown()}` is no type here',
                   'Give the types a parent, `a b - both`, and write the parent.')

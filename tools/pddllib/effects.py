@@ -4,12 +4,15 @@ PDDL takes facts away before it adds some, and here the last effect in written o
 `unset` and `clear` are written before `set`.
 """
 
-from collections import namedtuple
+from typing import Dict, List, NamedTuple, NoReturn, Optional, Sequence, Tuple
+
+from pkslib import Expression
 
 from . import limits
-from .conditions import (Literal, alternatives, application, arguments, atom, formula, only,
+from .conditions import (Literal, Scope, alternatives, application, arguments, atom, formula, only,
                          quantified, term_text)
-from .text import Refusal, typed
+from .declared import Declared
+from .text import Form, Refusal, typed
 
 CHANCE = ('oneof', 'or', 'probabilistic', 'unknown')
 NUMERIC = ('increase', 'decrease', 'scale-up', 'scale-down')
@@ -17,16 +20,28 @@ OBSERVING = ('knows-whether', 'knows-value', 'observe', 'sense')
 ORDER = {'unset': 0, 'clear': 0, 'set': 1, 'assign': 2}
 
 
-class Effect(namedtuple('Effect', 'conditions head target')):
+Conditions = Sequence[Tuple[Literal, ...]]
+"""Conjunctions, under each of which an effect happens."""
+
+Target = Tuple[Expression, ...]
+"""What an effect is about: an atom or a pattern, or a place and its value."""
+
+
+class Effect(NamedTuple):
     """A `set`, `unset`, `clear` or `assign` under a conjunction of literals."""
 
-    def __str__(self):
+    conditions: Tuple[Literal, ...]
+    head: str
+    target: Target
+
+    def __str__(self) -> str:
+        """The effect in the words of the planner's format."""
         target = f'({self.head} {" ".join(term_text(part) for part in self.target)})'
         if not self.conditions:
             return target
         return f'(when ({" ".join(map(str, self.conditions))}) {target})'
 
-    def literal(self):
+    def literal(self) -> Optional[Literal]:
         """What a `set` or `unset` makes so."""
         if self.head not in ('set', 'unset'):
             return None
@@ -36,16 +51,17 @@ class Effect(namedtuple('Effect', 'conditions head target')):
 class Effects:
     """The effects, senses and cost of an action."""
 
-    def __init__(self, declared):
+    def __init__(self, declared: Declared) -> None:
         self.declared = declared
-        self.effects = []
-        self.senses = []
+        self.effects: List[Effect] = []
+        self.senses: List[str] = []
         self.cost = 0
 
-    def in_order(self):
+    def in_order(self) -> List[Effect]:
+        """The effects in the order in which they are written."""
         return sorted(self.effects, key=lambda e: ORDER[e.head])
 
-    def read(self, form, scope, conditions=((),)):
+    def read(self, form: Form, scope: Scope, conditions: Conditions = ((),)) -> None:
         """Takes an effect that happens under one of these conjunctions."""
         head = form.head()
         if not form.is_list():
@@ -70,7 +86,8 @@ class Effects:
         else:
             self.literal(form, scope, conditions)
 
-    def add(self, form, conditions, head, target):
+    def add(self, form: Form, conditions: Conditions, head: str, target: Target) -> None:
+        """Takes an effect once for each conjunction."""
         for conj in conditions:
             limits.at_most(limits.CONDITION, len(conj), form,
                            'an effect has at most {} conditions',
@@ -79,15 +96,17 @@ class Effects:
             if effect not in self.effects:
                 self.effects.append(effect)
 
-    def literal(self, form, scope, conditions):
+    def literal(self, form: Form, scope: Scope, conditions: Conditions) -> None:
+        """Takes a fact that becomes true or false."""
         negative = form.head() == 'not'
         found = atom(only(form) if negative else form, scope)
         self.add(form, conditions, 'unset' if negative else 'set', ((found.name,) + found.args,))
 
-    def when(self, form, scope, conditions):
+    def when(self, form: Form, scope: Scope, conditions: Conditions) -> None:
+        """Takes an effect under a condition of its own."""
         self.read(parts_of_when(form)[1], scope, under(form, scope, conditions))
 
-    def forall(self, form, scope, conditions):
+    def forall(self, form: Form, scope: Scope, conditions: Conditions) -> None:
         """Writes an effect out for all objects, or takes it as a `clear`."""
         variables, body = quantified(form)
         names = [name.word for name, _ in typed(variables)]
@@ -100,7 +119,7 @@ class Effects:
         for inner in scope.instances(variables):
             self.read(body, inner, conditions)
 
-    def pattern(self, body, scope, own):
+    def pattern(self, body: Form, scope: Scope, own: Dict[str, Tuple[str, str]]) -> Optional[Tuple[Expression, ...]]:
         """The pattern of all facts that a negation takes away, or None where it isn't one."""
         if body.head() != 'not' or len(body.parts) != 2 or not body.parts[1].parts:
             return None
@@ -123,14 +142,15 @@ class Effects:
                 slots.append(arguments(fact, [part], [wanted], scope)[0])
         return (name,) + tuple(slots)
 
-    def assign(self, form, scope, conditions):
+    def assign(self, form: Form, scope: Scope, conditions: Conditions) -> None:
+        """Takes a new value of a place."""
         if len(form.parts) != 3:
             raise Refusal(form, '`assign` has a place and a value', 'Write `(assign (f ..) v)`.')
         place, wanted = application(form.parts[1], scope)
         value = arguments(form, form.parts[2:], [wanted], scope)[0]
         self.add(form, conditions, 'assign', (place, value))
 
-    def increase(self, form, conditions):
+    def increase(self, form: Form, conditions: Conditions) -> None:
         """A cost."""
         place = form.parts[1].text().lower() if len(form.parts) == 3 else ''
         if form.head() != 'increase' or place not in ('(total-cost)', 'total-cost'):
@@ -147,14 +167,14 @@ class Effects:
         limits.at_most(limits.COST, self.cost, form, 'an action costs at most {}',
                        'Scale all costs.')
 
-    def told(self, form, scope, conditions):
+    def told(self, form: Form, scope: Scope, conditions: Conditions) -> None:
         """An observation that stands among the effects."""
         if list(map(tuple, conditions)) != [()]:
             raise Refusal(form, 'an observation can\'t stand under a condition',
                           'Make an action of its own, with the condition as its precondition.')
         self.observe(only(form), scope)
 
-    def observe(self, form, scope):
+    def observe(self, form: Form, scope: Scope) -> None:
         """What is observed: a value, a formula, or a list of them."""
         head = form.head()
         if form.is_list() and form.parts and form.parts[0].is_list():
@@ -171,18 +191,20 @@ class Effects:
         elif form.parts or not form.is_list():
             self.sense('(sense ' + ' '.join(map(str, formula(form, scope))) + ')')
 
-    def sense(self, text):
+    def sense(self, text: str) -> None:
+        """Takes a sense that isn't there yet."""
         if text not in self.senses:
             self.senses.append(text)
 
 
-def parts_of_when(form):
+def parts_of_when(form: Form) -> List[Form]:
+    """The condition and the effect of a `when`."""
     if len(form.parts) != 3:
         raise Refusal(form, '`when` has a condition and an effect', 'Write `(when (c) (p))`.')
     return form.rest()
 
 
-def under(form, scope, conditions):
+def under(form: Form, scope: Scope, conditions: Conditions) -> Conditions:
     """The conjunctions under which the effect of a `when` happens, within others.
 
     Those that are never true are left out.
@@ -193,7 +215,8 @@ def under(form, scope, conditions):
     return [conj for conj in both if not never(conj)]
 
 
-def refuse_chance(form):
+def refuse_chance(form: Form) -> NoReturn:
+    """Refuses an effect that turns out by chance."""
     if form.head() == 'unknown':
         raise Refusal(form, 'an effect can\'t make a fact unknown',
                       'Set it under a condition, `when`, that nobody knows.')

@@ -3,16 +3,19 @@
 The planner itself derives that from the action's text, in its mode `derive`.
 """
 
-from typing import Iterator, List, NamedTuple, Optional, Tuple
+from typing import Iterator, List, NamedTuple, Optional, Sequence, Tuple
 
 import pkslib
-from pkslib import Status
+from pkslib import Expression, Status
 
 from . import limits
+from .actions import Action
 from .conditions import Literal, term_text
+from .effects import Effect
+from .fixed import Fixed
 
 
-def answer(words, text):
+def answer(words: List[str], text: str) -> str:
     """What the planner prints on this file; pkslib.PksError where it doesn't run or has no such mode."""
     said = pkslib.call(words, text)
     if said.status not in (Status.DONE, Status.NO_PLAN, Status.REFUSED):
@@ -20,7 +23,7 @@ def answer(words, text):
     return said.text
 
 
-def derived(text):
+def derived(text: str) -> Tuple[Optional[str], List[List[str]]]:
     """What `derive` says of a file that is refused, or None and the adds of each action in their order."""
     said = answer(['derive'], text)
     if said.startswith('refused'):
@@ -34,7 +37,7 @@ def derived(text):
     return None, found
 
 
-def chosen(adds):
+def chosen(adds: List[str]) -> Tuple[List[str], List[str]]:
     """At most as many adds as an action may have; those that tell least are left out first."""
     if len(adds) <= limits.ADDS:
         return adds, []
@@ -53,12 +56,12 @@ class Untold(NamedTuple):
     guard: Optional[str]
     pair: Optional[Tuple[str, str]]
 
-    def sentence(self):
+    def sentence(self) -> str:
         """What isn't known, and why."""
         return f'{self.what} isn\'t known afterwards: {self.later} may be about the same.'
 
 
-def told_by(effect):
+def told_by(effect: Effect) -> Tuple[str, str]:
     """What an effect makes so, and the add that would tell it."""
     literal = effect.literal()
     if literal is not None:
@@ -69,7 +72,7 @@ def told_by(effect):
     return f'that no {term_text(effect.target[0])} is true', f'(lcw {term_text(effect.target[0])})'
 
 
-def undoes(later, effect):
+def undoes(later: Effect, effect: Effect) -> bool:
     """Whether a later effect may be about the same thing as an earlier one, to another end."""
     if later.target[0][0] != effect.target[0][0]:
         return False
@@ -79,7 +82,7 @@ def undoes(later, effect):
     return makes_true[effect.head] != makes_true[later.head]
 
 
-def untold(action, adds):
+def untold(action: Action, adds: Sequence[str]) -> Iterator[Untold]:
     """What the agent doesn't know to be so after an effect, each with what may undo it."""
     for place, effect in enumerate(action.effects):
         what, add = told_by(effect)
@@ -92,7 +95,7 @@ def untold(action, adds):
             yield Untold(what, add, term_text(later.target[0]), guard, pair)
 
 
-def remedy(effect, later):
+def remedy(effect: Effect, later: Effect) -> Optional[Tuple[str, str]]:
     """The arguments by whose difference two effects are told apart, or None."""
     pairs = [(a, b) for a, b in zip(effect.target[0][1:], later.target[0][1:]) if a != b]
     if not pairs or not all(isinstance(part, str) and part != '_' for pair in pairs for part in pair):
@@ -102,14 +105,14 @@ def remedy(effect, later):
 
 # Whether PDDL does anything where two arguments are the same
 
-def renamed(term, pair):
+def renamed(term: Expression, pair: Tuple[str, str]) -> Expression:
     """A term in which the second of a pair stands for the first too."""
     if isinstance(term, tuple):
         return tuple(renamed(part, pair) for part in term)
     return pair[1] if term == pair[0] else term
 
 
-def does_nothing(action, pair):
+def does_nothing(action: Action, pair: Tuple[str, str]) -> bool:
     """Whether an action changes and teaches nothing where two of its arguments are the same."""
     same = lambda literal: Literal(literal.positive, literal.name, renamed(literal.args, pair))
     given = {same(literal) for literal in action.queries.literals}
@@ -121,7 +124,7 @@ def does_nothing(action, pair):
                for _, literal in done)
 
 
-def can_not_be(action, pair, fixed):
+def can_not_be(action: Action, pair: Tuple[str, str], fixed: Fixed) -> bool:
     """Whether a precondition that no action changes is false wherever two arguments are the same."""
     for literal in action.queries.literals:
         args = renamed(literal.args, pair)
@@ -132,7 +135,7 @@ def can_not_be(action, pair, fixed):
     return False
 
 
-def guards(action, adds, fixed):
+def guards(action: Action, adds: Sequence[str], fixed: Fixed) -> List[str]:
     """The preconditions by which more is known afterwards, and by which nothing is lost."""
     found = []
     for one in untold(action, adds):
@@ -141,7 +144,7 @@ def guards(action, adds, fixed):
     return list(dict.fromkeys(found))
 
 
-def remarks(action, adds, left_out):
+def remarks(action: Action, adds: Sequence[str], left_out: Sequence[str]) -> Iterator[str]:
     """Comments on what the agent will not know."""
     for one in untold(action, adds):
         yield one.sentence() + (f' With {one.guard} in pre it is.' if one.guard else '')
@@ -149,7 +152,7 @@ def remarks(action, adds, left_out):
         yield f'More than {limits.ADDS} adds, so this is left out: {add}'
 
 
-def warnings(action, adds, fixed):
+def warnings(action: Action, adds: Sequence[str], fixed: Fixed) -> Iterator[str]:
     """A line for each effect that won't be known, with what to write."""
     place = f'{action.form.source.path}:{action.form.line}:{action.form.column}'
     for one in untold(action, adds):

@@ -2,13 +2,21 @@
 
 import re
 import textwrap
+from typing import Dict, Iterable, List, Sequence, Tuple
 
-from .start import item, region
+from pkslib import ALL_WORDS, Text
+
+from .actions import Action
+from .declared import Declared
+from .start import Start, item, region
 
 WIDTH = 100
 
+Told = Tuple[Action, int, Sequence[str], Sequence[str]]
+"""An action, its cost, its adds and remarks on it."""
 
-def section(head, parts, indent, ends=''):
+
+def section(head: str, parts: Sequence[str], indent: int, ends: str = '') -> List[str]:
     """A list with a head: in one line where it fits, else in lines that are further in."""
     single = ' ' * indent + ' '.join([f'({head}'] + parts) + ')' + ends
     if len(single) <= WIDTH:
@@ -23,22 +31,26 @@ def section(head, parts, indent, ends=''):
     return lines
 
 
-def kept(text):
+def kept(text: str) -> str:
     """The text with a sign for each blank that stands in parentheses, where no line may end."""
-    found, depth = [], 0
-    for letter in text:
-        depth += (letter == '(') - (letter == ')')
-        found.append('\x01' if letter == ' ' and depth > 0 else letter)
-    return ''.join(found)
+    found: List[str] = []
+    begun = 0
+    for form in Text(text.replace(';', ','), ALL_WORDS).forms:
+        if form.is_list():
+            end = form.end or len(text)
+            found += [text[begun:form.start], text[form.start:end].replace(' ', '\x01')]
+            begun = end
+    return ''.join(found) + text[begun:]
 
 
-def wrapped(text, first, others):
+def wrapped(text: str, first: str, others: str) -> List[str]:
+    """The text in lines, the first behind `first` and each other behind `others`."""
     lines = textwrap.wrap(kept(text), WIDTH, initial_indent=first, subsequent_indent=others,
                           break_long_words=False, break_on_hyphens=False)
     return [line.replace('\x01', ' ') for line in lines]
 
 
-def comment(text, indent=0):
+def comment(text: str, indent: int = 0) -> List[str]:
     """A comment in lines."""
     first = ' ' * indent + '; '
     plain = re.sub('[^ -~]', '?', text.replace('\t', ' '))
@@ -46,14 +58,15 @@ def comment(text, indent=0):
     return wrapped(plain.strip(), first + indented, first + indented + '  ') or [first.rstrip()]
 
 
-def comments(texts, indent=0):
+def comments(texts: Iterable[str], indent: int = 0) -> List[str]:
+    """Comments in lines."""
     return [line for text in texts for line in comment(text, indent)]
 
 
-def declarations(declared):
+def declarations(declared: Declared) -> List[str]:
     """The sections of a domain before its actions."""
     kinds = [f'({name} {parent})' if parent else name for name, parent in declared.kinds().items()]
-    objects = {}
+    objects: Dict[str, List[str]] = {}
     for name, kind in declared.objects.items():
         objects.setdefault(kind, []).append(name)
     lists = [
@@ -67,7 +80,7 @@ def declarations(declared):
     return [line for head, parts in lists if parts for line in section(head, parts, 2)]
 
 
-def action(act, cost, adds, remarks):
+def action(act: Action, cost: int, adds: Sequence[str], remarks: Sequence[str]) -> List[str]:
     """The lines of one action."""
     lines = comments(act.comments, 2)
     parts = [('params', [f'({term} {kind})' for term, kind in act.parameters.items()]),
@@ -84,14 +97,14 @@ def action(act, cost, adds, remarks):
     return lines
 
 
-def flow(parts, indent):
+def flow(parts: Iterable[str], indent: int) -> List[str]:
     """Parts one behind the other, in lines."""
     return wrapped(' '.join(parts), ' ' * indent, ' ' * indent)
 
 
-def start(found):
+def start(found: Start) -> List[str]:
     """The lines of `init`, without the last parenthesis."""
-    by_name = {}
+    by_name: Dict[str, List[str]] = {}
     for literal in found.facts:
         by_name.setdefault(literal.name, []).append(item(literal))
     lines = [line for parts in by_name.values() for line in flow(parts, 4)]
@@ -105,7 +118,8 @@ def start(found):
     return lines
 
 
-def problem(found, goals):
+def problem(found: Start, goals: Sequence[str]) -> List[str]:
+    """The lines of a problem."""
     lines = ['(problem']
     items = start(found)
     if found.unknown:
@@ -117,7 +131,8 @@ def problem(found, goals):
     return lines + section('goal', goals, 2, ')')
 
 
-def written(heading, version, declared, actions, start_and_goals):
+def written(heading: Sequence[str], version: int, declared: Declared, actions: Iterable[Told],
+            start_and_goals: Tuple[Start, Sequence[str]]) -> str:
     """The whole file; each action with its cost, its adds and remarks on it."""
     lines = comments(heading) + [f'(pks {version})', '(domain'] + declarations(declared)
     for act, cost, adds, remarks in actions:

@@ -4,10 +4,16 @@ Of an equation of two functions the one that is declared later stands first, and
 place that is assigned does.
 """
 
+from typing import Iterator, List, Sequence, Tuple
+
 from whylib import uncounted
 
+from .actions import Action
+from .declared import Declared
+from .effects import Effect
 
-def arrange(declared, actions):
+
+def arrange(declared: Declared, actions: Sequence[Action]) -> None:
     """Declares the functions in an order in which the adds of all assignments count, where there is one."""
     rows = [(name,) for name in declared.functions]
     placed = uncounted.ordered(rows, [pair for action in actions for pair in pairs(action)])
@@ -15,7 +21,7 @@ def arrange(declared, actions):
         declared.functions = {row[0]: declared.functions[row[0]] for row in placed}
 
 
-def pairs(action):
+def pairs(action: Action) -> Iterator[Tuple[str, str]]:
     """The functions of each assignment of a value of another function: that of the value, and that of the place."""
     for effect in assignments(action):
         place, value = effect.target
@@ -23,12 +29,12 @@ def pairs(action):
             yield value[0], place[0]
 
 
-def assignments(action):
+def assignments(action: Action) -> List[Effect]:
     """The effects that assign a value of a function."""
     return [e for e in action.effects if e.head == 'assign' and isinstance(e.target[1], tuple)]
 
 
-def remarks(declared, action):
+def remarks(declared: Declared, action: Action) -> Iterator[str]:
     """Comments on what is assigned and isn't known afterwards in any order of the declarations."""
     order = uncounted.Order(declared.objects, action.parameters, declared.functions)
     for effect in assignments(action):

@@ -6,12 +6,18 @@ of is left out of that.
 """
 
 import itertools
+from typing import Collection, List, Optional, Sequence, Tuple, Union
+
+from pkslib import Expression
 
 from . import limits
 from .conditions import (NUMBER, Literal, Scope, application, atom, equation, literal_alternatives,
                          only, quantified, term_text)
-from .text import Refusal
+from .declared import Declared
+from .text import Form, Refusal
 
+Pattern = Tuple[Expression, ...]
+"""A predicate and its arguments, with `_` where all objects are meant."""
 
 MOST_NEGATIVES = 24
 """From how many facts on the negatives of a predicate that grows are told as a region."""
@@ -20,7 +26,7 @@ MOST_NEGATIVES = 24
 class Start:
     """The items of `init`, each list in the order in which it is written."""
 
-    def __init__(self, declared, growing):
+    def __init__(self, declared: Declared, growing: Collection[Optional[str]]) -> None:
         """`growing` are the predicates of which an action makes facts true."""
         self.declared, self.growing = declared, growing
         self.scope = Scope(declared)
@@ -28,7 +34,8 @@ class Start:
         self.regions, self.groups, self.helpers = [], [], []
         self.unknown, self.clauses = [], []
 
-    def read(self, form):
+    def read(self, form: Form) -> None:
+        """Takes a form of `:init`."""
         head = form.head()
         if head == 'and':
             for part in form.rest():
@@ -50,12 +57,13 @@ class Start:
         elif form.parts and not is_cost(form):
             self.add_fact(form)
 
-    def within(self, scope, form):
+    def within(self, scope: Scope, form: Form) -> None:
+        """Takes a form in which more variables stand for objects."""
         outer, self.scope = self.scope, scope
         self.read(form)
         self.scope = outer
 
-    def literal(self, form):
+    def literal(self, form: Form) -> Union[Literal, Expression]:
         """A literal that `oneof`, `or` or `unknown` names."""
         if form.head() in ('and', 'or', 'oneof', 'imply', 'forall', 'exists'):
             raise Refusal(form, f'`{form.shown()}` can\'t be a member here: members are facts and '
@@ -69,12 +77,14 @@ class Start:
             raise Refusal(form, 'it is known whether this equation is so', 'Take it out.')
         return found[0][0]
 
-    def leave_open(self, literal):
+    def leave_open(self, literal: Union[Literal, Expression]) -> None:
+        """Takes a fact of which nothing else is known."""
         if isinstance(literal, Literal) and literal.name != '=':
             if literal.atom() not in self.unknown:
                 self.unknown.append(literal.atom())
 
-    def add_group(self, form, members):
+    def add_group(self, form: Form, members: Sequence[Union[Literal, Expression]]) -> None:
+        """Takes facts of which exactly one is true."""
         members = list(dict.fromkeys(members))
         if not members or any(not isinstance(m, Literal) for m in members):
             raise Refusal(form, 'a group has facts as members, or their negations',
@@ -88,7 +98,7 @@ class Start:
             self.leave_open(member)
         self.groups.append((members, None))
 
-    def add_chances(self, form):
+    def add_chances(self, form: Form) -> None:
         """Chances that make one certainty are a group: a plan is for all that may be so."""
         parts = form.rest()
         chances = [float(part.word) if NUMBER.fullmatch(part.word or '') else None for part in parts[::2]]
@@ -103,7 +113,8 @@ class Start:
         else:
             self.add_group(form, [self.literal(part) for part in members])
 
-    def add_clause(self, form):
+    def add_clause(self, form: Form) -> None:
+        """Takes facts of which at least one is true."""
         members = [self.literal(part) for part in form.rest()]
         if not members or any(not isinstance(m, Literal) for m in members):
             raise Refusal(form, 'an `or` has facts as members, or their negations',
@@ -112,7 +123,8 @@ class Start:
             self.leave_open(member)
         self.clauses.append((form, tuple(dict.fromkeys(members))))
 
-    def add_fact(self, form):
+    def add_fact(self, form: Form) -> None:
+        """Takes a fact that is true or false, or a value."""
         negative = form.head() == 'not'
         inner = only(form) if negative else form
         if inner.head() == '=':
@@ -126,7 +138,7 @@ class Start:
 
     # Clauses
 
-    def settle_clauses(self):
+    def settle_clauses(self) -> None:
         """Writes each `or` as a group, alone or with those that say that no two are true."""
         pairs = {frozenset(members) for _, members in self.clauses if len(members) == 2}
         exclusive = {frozenset((a.negated(), b.negated())) for group, _ in self.groups
@@ -143,7 +155,8 @@ class Start:
                 used.add(frozenset(members))
                 self.settle_clause(form, members)
 
-    def settle_clause(self, form, members):
+    def settle_clause(self, form: Form, members: Tuple[Literal, ...]) -> None:
+        """Writes an `or` that no other one makes a group."""
         if len(members) == 1:
             self.facts.append(members[0])
         elif len(members) > 2:
@@ -153,7 +166,7 @@ class Start:
             said = f'{form.shown().lower()}; {both} is true where both are'
             self.groups.append(([m.negated() for m in members] + [both], said))
 
-    def settle_long_clause(self, form, members):
+    def settle_long_clause(self, form: Form, members: Tuple[Literal, ...]) -> None:
         """Exactly one of those that are true counts: the first member itself, or what stands for another one."""
         limits.at_most(limits.GROUP, len(members), form, 'an `or` has at most {} members', 'Take fewer objects.')
         counting = [(self.helper(form, 'counts'), member, self.helper(form, 'beside')) for member in members[1:]]
@@ -163,7 +176,7 @@ class Start:
             said = f'{member} counts where {counts} is true, and {beside} where it is true and another one counts'
             self.groups.append(([member.negated(), counts, beside], said))
 
-    def helper(self, form, name):
+    def helper(self, form: Form, name: str) -> Literal:
         """A new fact, which stands for nothing in PDDL."""
         found = self.declared.names.extra('predicate', f'{name}-{len(self.helpers) + 1}')
         self.declared.predicates[found] = []
@@ -175,7 +188,7 @@ class Start:
 
     # The closed world
 
-    def finish(self):
+    def finish(self) -> None:
         """Adds to what is said that all else is false."""
         self.settle_clauses()
         stated = list(dict.fromkeys(self.facts))
@@ -188,7 +201,7 @@ class Start:
                 for found in self.closed(name, choices, [None] * len(types)):
                     (self.negatives if isinstance(found, Literal) else self.regions).append(found)
 
-    def closed(self, name, choices, fixed):
+    def closed(self, name: str, choices: List[List[str]], fixed: List[Optional[str]]) -> List[Union[Literal, Pattern]]:
         """The fewest items by which all of a pattern that isn't true is known to be false."""
         mine = lambda atoms: [l for l in atoms if l.name == name and l.positive and
                               all(f in (None, a) for f, a in zip(fixed, l.args))]
@@ -209,27 +222,31 @@ class Start:
         ways = [self.split(name, choices, fixed, place) for place in free]
         return min(ways, key=len)
 
-    def split(self, name, choices, fixed, place):
+    def split(self, name: str, choices: List[List[str]], fixed: List[Optional[str]],
+              place: int) -> List[Union[Literal, Pattern]]:
+        """The same with one place of the pattern set to each of its objects."""
         found = []
         for value in choices[place]:
             found += self.closed(name, choices, fixed[:place] + [value] + fixed[place + 1:])
         return found
 
 
-def is_timed(form):
+def is_timed(form: Form) -> bool:
     """`(at 5 (p))`."""
     return form.head() == 'at' and len(form.parts) == 3 and form.parts[2].is_list() \
         and NUMBER.fullmatch(form.parts[1].word or '') is not None
 
 
-def is_cost(form):
+def is_cost(form: Form) -> bool:
     """`(= (total-cost) 0)`."""
     return form.head() == '=' and any(part.mentions(['total-cost']) for part in form.rest())
 
 
-def item(literal):
+def item(literal: Literal) -> str:
+    """The item of `init` that tells a literal."""
     return f'(kf {literal})'
 
 
-def region(pattern):
+def region(pattern: Pattern) -> str:
+    """The item of `init` that closes a pattern."""
     return '(lcw (' + ' '.join(term_text(part) for part in pattern) + '))'

@@ -1,14 +1,15 @@
 """PDDL as lists of words, each with its place in its file."""
 
-from typing import List, Optional
+from typing import Collection, List, NoReturn, Optional, Sequence, Tuple, Union
 
+import pkslib
 from pkslib import ALL_WORDS, Text, gained_parenthesis, lost_parenthesis
 
 
 class Refusal(Exception):
     """Something that can't be said: where, what it is, and what to do instead."""
 
-    def __init__(self, form, what, instead):
+    def __init__(self, form: Optional['Form'], what: str, instead: str) -> None:
         Exception.__init__(self, what)
         self.form, self.what, self.instead = form, what, instead
 
@@ -16,10 +17,10 @@ class Refusal(Exception):
 class Source:
     """A file and its lines."""
 
-    def __init__(self, path, text):
+    def __init__(self, path: str, text: str) -> None:
         self.path, self.text, self.lines = path, text, text.split('\n')
 
-    def first_comment(self):
+    def first_comment(self) -> List[str]:
         """The lines of the comment with which the file begins."""
         found = []
         for line in self.lines:
@@ -32,43 +33,49 @@ class Source:
 class Form:
     """A word, in small letters and as it was written, or a list of forms."""
 
-    def __init__(self, source, line, column, raw=None, comments=()):
+    def __init__(self, source: Source, line: int, column: int, raw: Optional[str] = None,
+                 comments: Sequence[str] = ()) -> None:
         self.source, self.line, self.column = source, line, column
         self.raw = raw
         self.word = None if raw is None else raw.lower()
         self.parts = []
         self.comments = list(comments)
 
-    def is_list(self):
+    def is_list(self) -> bool:
+        """Whether it is a list."""
         return self.word is None
 
-    def is_variable(self):
+    def is_variable(self) -> bool:
+        """Whether it is a variable."""
         return self.word is not None and self.word.startswith('?')
 
-    def head(self):
+    def head(self) -> Optional[str]:
+        """The first part of a list where that is a word, or None."""
         return self.parts[0].word if self.parts else None
 
-    def rest(self):
+    def rest(self) -> 'List[Form]':
+        """The parts of a list behind the first."""
         return self.parts[1:]
 
-    def mentions(self, words):
+    def mentions(self, words: Collection[str]) -> bool:
         """Whether one of these words stands in it."""
         if self.word is not None:
             return self.word in words
         return any(part.mentions(words) for part in self.parts)
 
-    def text(self):
+    def text(self) -> str:
+        """The form on one line, as it was written."""
         if self.word is not None:
             return self.raw
         return '(' + ' '.join(part.text() for part in self.parts) + ')'
 
-    def shown(self):
+    def shown(self) -> str:
         """Its text, or the beginning of it."""
         text = self.text()
         return text if len(text) <= 48 else text[:44] + ' ..)'
 
 
-def forms(source):
+def forms(source: Source) -> List[Form]:
     """The forms of a file."""
     read = Text(source.text, ALL_WORDS)
     if read.extra or read.open:
@@ -76,7 +83,7 @@ def forms(source):
     return [of_source(source, form) for form in read.forms]
 
 
-def refuse_parentheses(source, read):
+def refuse_parentheses(source: Source, read: Text) -> NoReturn:
     """Refuses a text whose parentheses don't match, with the place by the indentation where that tells one."""
     lost, gained = lost_parenthesis(read), gained_parenthesis(read)
     if lost and (not gained or lost[1] <= gained[1]):
@@ -95,12 +102,12 @@ def refuse_parentheses(source, read):
     raise Refusal(of_source(source, read.open[-1]), 'this list isn\'t closed', 'Add the `)` that is missing.')
 
 
-def opening(form):
+def opening(form: Union[Form, pkslib.Form]) -> str:
     """The first words of a list."""
     return '(' + ' '.join(part.word for part in form.parts[:2] if part.word)
 
 
-def line_before(source, line):
+def line_before(source: Source, line: int) -> int:
     """The last line before this one that has more than a comment."""
     line -= 1
     while line > 1 and not source.lines[line - 1].split(';')[0].strip():
@@ -108,26 +115,26 @@ def line_before(source, line):
     return line
 
 
-def of_source(source, read):
+def of_source(source: Source, read: pkslib.Form) -> Form:
     """What was read, as a form of this file."""
     form = Form(source, read.line, read.column, read.word, read.comments)
     form.parts = [of_source(source, part) for part in read.parts]
     return form
 
 
-def definitions(source, kind):
+def definitions(source: Source, kind: str) -> List[Form]:
     """All `(define (KIND NAME) ..)` of a file."""
     return [form for form in forms(source)
             if form.head() == 'define' and len(form.parts) > 1 and form.parts[1].head() == kind]
 
 
-def name_of(definition):
+def name_of(definition: Form) -> Optional[str]:
     """The name of a domain or a problem, in small letters, or None."""
     parts = definition.parts[1].parts
     return parts[1].word if len(parts) > 1 else None
 
 
-def definition(sources, kind, name=None):
+def definition(sources: Sequence[Source], kind: str, name: Optional[str] = None) -> Form:
     """The domain of the first file that has one, or the problem of the last one; of several the one of this name."""
     for source in sources if kind == 'domain' else reversed(sources):
         found = definitions(source, kind)
@@ -144,7 +151,7 @@ def definition(sources, kind, name=None):
                   f'The {kind} is wanted too: `tools/from-pddl DOMAIN PROBLEM`, or a file that has both.')
 
 
-def typed(parts):
+def typed(parts: Sequence[Form]) -> List[Tuple[Form, Optional[Form]]]:
     """The names of a typed list, each with the form of its type, or None where it has none."""
     pairs, waiting, at = [], [], 0
     while at < len(parts):

@@ -1,12 +1,16 @@
 """A domain and a problem, read and written."""
 
+from typing import List, NoReturn, Optional, Sequence
+
+from pkslib import Code, read_refusal
+
 from . import knows, layout, limits, order
-from .actions import UNSAID, read_actions
+from .actions import UNSAID, Action, read_actions
 from .conditions import Queries, Scope
 from .declared import Declared, sections
 from .fixed import Fixed, growing
 from .start import Start
-from .text import Refusal, definition
+from .text import Refusal, Source, definition
 
 SECTIONS = (':domain', ':requirements', ':objects', ':init', ':goal', ':metric')
 
@@ -14,9 +18,10 @@ SECTIONS = (':domain', ':requirements', ':objects', ':init', ':goal', ':metric')
 class Translation:
     """What a domain and a problem say, in the words of the planner's format."""
 
-    def __init__(self, sources, name=None, is_known=False):
+    def __init__(self, sources: Sequence[Source], name: Optional[str] = None, is_known: bool = False) -> None:
         """Of the files the first domain and the last problem, or the one of this name; `is_known` adds guards."""
-        self.is_known, self.warnings = is_known, []
+        self.is_known = is_known
+        self.warnings: List[str] = []
         self.domain = definition(sources, 'domain')
         self.problem = definition(sources, 'problem', name)
         self.sources = self.domain.source, self.problem.source
@@ -30,7 +35,8 @@ class Translation:
         self.goals = self.read_goal()
         self.declared.check_types(self.domain)
 
-    def check_sections(self):
+    def check_sections(self) -> None:
+        """Refuses what a problem can't have."""
         for form in self.problem.rest()[1:]:
             if form.head() in UNSAID:
                 raise Refusal(form, *UNSAID[form.head()])
@@ -38,7 +44,7 @@ class Translation:
                 raise Refusal(form, f'a problem can\'t have `{form.shown()}`',
                               'It has `:domain`, `:objects`, `:init`, `:goal` and `:metric`.')
 
-    def read_metric(self):
+    def read_metric(self) -> bool:
         """Whether costs count."""
         for form in sections(self.problem, ':metric'):
             if [p.text().lower() for p in form.rest()] not in (
@@ -48,7 +54,8 @@ class Translation:
             return True
         return False
 
-    def read_start(self):
+    def read_start(self) -> Start:
+        """What is known at the start."""
         start = Start(self.declared, growing(self.declared, sections(self.domain, ':action')))
         for section in sections(self.problem, ':init'):
             for form in section.rest():
@@ -56,7 +63,8 @@ class Translation:
         start.finish()
         return start
 
-    def read_goal(self):
+    def read_goal(self) -> List[str]:
+        """The queries of the goal."""
         found = Queries('goal')
         goals = sections(self.problem, ':goal')
         for form in goals:
@@ -71,12 +79,14 @@ class Translation:
 
     # What is written
 
-    def version(self):
+    def version(self) -> int:
+        """The version that the file needs."""
         parents = any(self.declared.kinds().values())
         many = len(self.declared.objects) > limits.OBJECTS_OF_VERSION_1
         return 2 if parents or many or self.minimizes else 1
 
-    def heading(self):
+    def heading(self) -> List[str]:
+        """The comments with which the file begins."""
         domain, problem = self.sources
         said = problem.first_comment()
         paths = dict.fromkeys([domain.path, problem.path])
@@ -84,10 +94,11 @@ class Translation:
         table = self.declared.names.table()
         return said + (['Names that were changed:'] + table if table else [])
 
-    def cost(self, action):
+    def cost(self, action: Action) -> int:
+        """What an action costs; 0 where costs don't count."""
         return action.did.cost if self.minimizes else 0
 
-    def with_adds(self, adds):
+    def with_adds(self, adds: Sequence[List[str]]) -> str:
         """The file where each action has these adds."""
         actions = []
         for action, own in zip(self.actions, adds):
@@ -99,7 +110,8 @@ class Translation:
         return layout.written(self.heading(), self.version(), self.declared, actions,
                               (self.start, self.goals))
 
-    def written(self):
+    def written(self) -> str:
+        """The file, which the planner accepts; warnings are kept in `warnings`."""
         bare = self.with_adds([[] for _ in self.actions])
         self.check_size(bare)
         adds = self.derived(bare)
@@ -114,14 +126,14 @@ class Translation:
             self.refuse(said)
         return text
 
-    def derived(self, bare):
+    def derived(self, bare: str) -> List[List[str]]:
         """The adds of each action of a file without adds."""
         refused, adds = knows.derived(bare)
         if refused:
             self.refuse(refused)
         return adds
 
-    def guard(self, adds):
+    def guard(self, adds: Sequence[List[str]]) -> bool:
         """Adds to the preconditions what excludes equal arguments, where nothing is lost by it; whether there is any."""
         found = False
         for action, own in zip(self.actions, adds):
@@ -132,14 +144,15 @@ class Translation:
                     found = True
         return found
 
-    def check_size(self, text):
+    def check_size(self, text: str) -> None:
+        """Refuses a file that is too long."""
         limits.at_most(limits.BYTES, len(text), self.problem, 'a file has at most {:,} bytes',
                        'Take fewer objects.')
 
-    def refuse(self, said):
+    def refuse(self, said: str) -> NoReturn:
         """What the planner doesn't accept."""
         inits = sections(self.problem, ':init')
-        if said.split()[2] == '270':
+        if read_refusal(said.splitlines()[0]).code == Code.CLASH:
             raise Refusal(inits[0] if inits else self.problem, 'the start contradicts itself',
                           'Look for a fact that is true and false, or a `oneof` of which none, or '
                           'more than one, can be true.')

@@ -115,6 +115,7 @@ class _Partial:
         self.results = {name: file.objects_of(function.result) for name, function in file.functions.items()}
 
     def copy(self) -> '_Partial':
+        """The same world, to be filled in another way."""
         other = _Partial.__new__(_Partial)
         other.file, other.results = self.file, self.results
         other.values, other.truth = dict(self.values), dict(self.truth)
@@ -128,6 +129,7 @@ class _Partial:
         return (str(term[0]),) + tuple(self.value(part) for part in term[1:])
 
     def value(self, term: Term) -> str:
+        """The value of a term; _Open where one is missing."""
         if isinstance(term, str):
             return term
         place = self.place(term)
@@ -177,6 +179,7 @@ class _Partial:
     # ---- putting
 
     def give(self, place: Fact, value: str) -> None:
+        """Gives a place its value; _Clash where it can't have it."""
         if value not in self.options(place) or self.values.get(place, value) != value:
             raise _Clash
         self.values[place] = value
@@ -288,6 +291,7 @@ class _Fitting:
 
     @staticmethod
     def is_known(partial: _Partial, literal: Literal, wanted: bool) -> bool:
+        """Whether a literal is as it must be, and no value had to be chosen for it; _Clash where it can't be."""
         holds = partial.holds(literal)
         if holds is None:
             return partial.make(literal, wanted)
@@ -297,6 +301,7 @@ class _Fitting:
 
     @staticmethod
     def open_place(partial: _Partial, region: Region) -> Optional[Fact]:
+        """A place without a value that the region names, or None."""
         return partial.open_in_literals([region.pattern, *region.listed])
 
     def need_closed(self, partial: _Partial, region: Region) -> None:
@@ -337,6 +342,7 @@ class _Fitting:
 
     @staticmethod
     def values(partial: _Partial, place: Fact) -> Iterator[_Partial]:
+        """The world with each value that a place may have."""
         for value in partial.options(place):
             option = partial.copy()
             option.give(place, value)

@@ -2,7 +2,7 @@
 
 import bisect
 import re
-from typing import Iterator, List, Optional, Pattern, Tuple, Union
+from typing import Dict, Iterator, List, Optional, Pattern, Tuple, Union
 
 Expression = Union[str, Tuple['Expression', ...]]
 """A word, or a list as a tuple: a term `('loc', 'cup')`, a literal `('not', ('open',))`."""
@@ -14,7 +14,7 @@ ALL_WORDS: Pattern[str] = re.compile(r'[^\s();]+')
 """The words of any other text, as one in PDDL: all that isn't blank, a parenthesis or a comment."""
 
 NESTING = 200
-"""The deepest nesting of lists that `read` takes; the language itself has 12."""
+"""The deepest nesting of lists that `read` takes; the language itself has `limits.NESTING`."""
 
 NAME: Pattern[str] = re.compile(r'[A-Za-z][A-Za-z0-9_-]*$')
 VARIABLE: Pattern[str] = re.compile(r'\?[A-Za-z][A-Za-z0-9_-]*$')
@@ -97,6 +97,8 @@ class Text:
         """The offset at which each line begins."""
         self.lists: List[Form] = []
         """All lists, in the order in which they are opened."""
+        self.closing: List[int] = []
+        """The offsets of all parentheses that close, also of those that close nothing."""
         self.extra: List[int] = []
         """The offsets of parentheses that close nothing."""
         self.open: List[Form] = []
@@ -126,6 +128,7 @@ class Text:
                     comments.append(token.lstrip(';').strip())
                 continue
             if token == ')':
+                self.closing.append(at)
                 if len(stack) == 1:
                     self.extra.append(at)
                 else:
@@ -158,6 +161,23 @@ class Text:
         """A line, counted from 1, without its line feed."""
         end = self.starts[number] - 1 if number < len(self.starts) else len(self.text)
         return self.text[self.starts[number - 1]:end]
+
+    def code(self) -> str:
+        """Its characters, with blanks in place of comments."""
+        return re.sub(r';[^\n]*', lambda comment: ' ' * len(comment.group()), self.text)
+
+    def code_end(self, number: int) -> int:
+        """The offset at which the code of a line ends, before blanks and a comment."""
+        return self.starts[number - 1] + len(self.line(number).split(';')[0].rstrip())
+
+    def balance(self) -> Dict[int, int]:
+        """For each line that has code, the lists that it opens less those that it closes."""
+        found = {n: 0 for n in range(1, len(self.starts) + 1) if self.code_end(n) > self.starts[n - 1]}
+        for form in self.lists:
+            found[form.line] += 1
+        for at in self.closing:
+            found[self.place(at)[0]] -= 1
+        return found
 
     def caret(self, line: int, column: int) -> str:
         """A line with a caret below the column, each behind four blanks; long lines are cut."""

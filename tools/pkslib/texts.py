@@ -263,11 +263,13 @@ class _Nodes:
         self.nodes: List[Tree] = []
 
     def child(self, name: Expression, number: int) -> Tree:
+        """The node of this number, which stands before."""
         if not (isinstance(name, str) and name.isdigit() and 1 <= int(name) <= len(self.nodes)):
             raise Malformed('a node names only nodes before it', number)
         return self.nodes[int(name) - 1]
 
     def node(self, parts: Sequence[Expression], number: int) -> Tree:
+        """The node that a line tells."""
         if parts == ('goal',):
             return Goal()
         if parts == ('impossible',):

@@ -198,9 +198,11 @@ class _Lines:
         self.at = 0
 
     def fault(self, what: str) -> Malformed:
+        """What is wrong at the next line."""
         return Malformed(what, self.first + self.at)
 
     def next(self, indent: str, what: str) -> str:
+        """The next line, which must be indented so, without its blanks."""
         if self.at == len(self.lines):
             raise self.fault(f'the text ends where {what} is expected')
         line = self.lines[self.at]
@@ -210,15 +212,18 @@ class _Lines:
         return line[len(indent):]
 
     def peek(self, indent: str, word: str) -> bool:
+        """Whether the next line is indented so and begins with a word."""
         return self.at < len(self.lines) and self.lines[self.at].startswith(indent + word)
 
     def parsed(self, text: str) -> Tuple[Expression, ...]:
+        """The expressions of the line that was read last."""
         try:
             return tuple(expressions(text))
         except Malformed as fault:
             raise Malformed(fault.what, self.first + self.at - 1) from None
 
     def body(self, indent: str) -> Tree:
+        """The tree whose lines are indented so."""
         if len(indent) > 2 * DEPTH:
             raise self.fault(f'a plan is no deeper than {DEPTH}')
         line = self.next(indent, 'an action, a branch, cases or a leaf')
@@ -233,6 +238,7 @@ class _Lines:
         return tree
 
     def act(self, line: str) -> Tuple[Expression, ...]:
+        """The action of a line."""
         parsed = self.parsed(line)
         act = parsed[0]
         if len(parsed) != 1 or isinstance(act, str) or not act or not isinstance(act[0], str):
@@ -241,6 +247,7 @@ class _Lines:
         return act
 
     def end(self, line: str, indent: str) -> Tree:
+        """The leaf, the branch or the cases with which a row of actions ends."""
         if line == 'goal':
             return Goal()
         if line == 'impossible':
@@ -254,12 +261,14 @@ class _Lines:
         raise self.fault(f'no line of a plan: {line!r}')
 
     def side(self, name: str, indent: str) -> Tree:
+        """The side of a branch of this name."""
         if self.next(indent, f'`{name}`') != name:
             self.at -= 1
             raise self.fault(f'the side `{name}` of a branch is missing')
         return self.body(indent + '  ')
 
     def cases(self, line: str, indent: str) -> Tree:
+        """The cases of a line, with their sides."""
         terms = self.parsed(line[len('cases '):])
         found = []
         while self.peek(indent, 'case '):

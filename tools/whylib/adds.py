@@ -1,7 +1,7 @@
 """Explains 260: the case that an add comes nearest to, and what undoes it."""
 
 from dataclasses import dataclass
-from typing import Dict, Iterator, List, Optional
+from typing import Iterator, List, Optional, Sequence
 
 from pkslib import Form
 
@@ -17,14 +17,13 @@ class Change:
     section: Optional[str] = None
 
 
-def queries(names, add, action):
+def queries(names: Names, add: Form, action: Form) -> List[Form]:
     """The given queries: those of the add's `if` and of `pre`, without negated ones."""
     own = add.parts[1].parts if add.head() == 'if' and len(add.parts) > 1 else []
     return [q for q in list(own) + list(names.section(action, 'pre')) if q.head() != 'not-derived']
 
 
-
-def equal(one, other):
+def equal(one: Form, other: Form) -> bool:
     """Whether two literals are the same, the sides of an equation in either order."""
     if one.head() == 'not' and other.head() == 'not':
         return equal(one.rest()[0], other.rest()[0])
@@ -33,18 +32,21 @@ def equal(one, other):
     return one.text() == other.text()
 
 
-def negates(one, other):
+def negates(one: Form, other: Form) -> bool:
+    """Whether one of two literals is the other one negated."""
     for a, b in ((one, other), (other, one)):
         if a.head() == 'not' and b.head() != 'not':
             return equal(a.rest()[0], b)
     return False
 
 
-def is_given(literal, given):
+def is_given(literal: Form, given: Sequence[Form]) -> bool:
+    """Whether a given query asks that a literal is known."""
     return any(q.head() == 'k' and equal(q.rest()[0], literal) for q in given)
 
 
-def is_either_way(literal, given):
+def is_either_way(literal: Form, given: Sequence[Form]) -> bool:
+    """Whether a given query asks that it is known whether a literal is so."""
     for q in given:
         if q.head() in ('k', 'kw') and len(q.rest()) == 1:
             if equal(q.rest()[0], literal) or negates(q.rest()[0], literal):
@@ -55,20 +57,23 @@ def is_either_way(literal, given):
 class Effect:
     """An effect: what it does, under which conditions."""
 
-    def __init__(self, form):
+    def __init__(self, form: Form) -> None:
         self.form = form
         self.conditions = form.parts[1].parts if form.head() == 'when' else []
         target = form.parts[2] if form.head() == 'when' else form
         self.verb, self.target = target.head(), target.rest()
 
-    def subject(self):
+    def subject(self) -> Optional[str]:
+        """The predicate or the function that it changes."""
         return self.target[0].head()
 
-    def sign(self):
+    def sign(self) -> Optional[bool]:
+        """Whether it makes atoms true; None where it assigns a value."""
         return {'set': True, 'unset': False, 'clear': False}.get(self.verb)
 
 
-def effects(names, action):
+def effects(names: Names, action: Form) -> List[Effect]:
+    """The effects of an action, without those that can't be read."""
     found = []
     for form in names.section(action, 'effects'):
         try:
@@ -78,7 +83,7 @@ def effects(names, action):
     return found
 
 
-def may_undo(names, early, late, given):
+def may_undo(names: Names, early: Effect, late: Effect, given: Sequence[Form]) -> bool:
     """Whether a later effect may undo an earlier one, as the rule has it."""
     if early.subject() != late.subject():
         return False
@@ -93,7 +98,8 @@ def may_undo(names, early, late, given):
     return True
 
 
-def differ(names, a, b, given):
+def differ(names: Names, a: Form, b: Form, given: Sequence[Form]) -> bool:
+    """Whether two terms are different objects, by their names or by what is asked."""
     if a.word in names.objects and b.word in names.objects:
         return a.word != b.word
     return any(q.head() == 'k' and q.rest()[0].head() == 'not'
@@ -102,7 +108,7 @@ def differ(names, a, b, given):
                for q in given)
 
 
-def difference(early, late):
+def difference(early: Effect, late: Effect) -> Optional[str]:
     """The query that would keep a later effect from undoing an earlier one."""
     for a, b in zip(early.target[0].rest(), late.target[0].rest()):
         if a.text() != b.text():
@@ -110,7 +116,7 @@ def difference(early, late):
     return None
 
 
-def explain(names, add):
+def explain(names: Names, add: Form) -> List[str]:
     """What is said of an add that nothing justifies."""
     action = names.action_of(add)
     item = add.parts[-1] if add.head() == 'if' else add
@@ -122,7 +128,7 @@ def explain(names, add):
     return said + kinds[item.head()](names, action, item, given, found)
 
 
-def wanted(literal):
+def wanted(literal: Form) -> str:
     """The effect that would make a literal so."""
     if literal.head() == 'not':
         return f'(unset {literal.rest()[0].text()})'
@@ -133,7 +139,7 @@ def wanted(literal):
     return f'(set {literal.text()})'
 
 
-def makes(effect, literal):
+def makes(effect: Effect, literal: Form) -> bool:
     """Whether an effect's target is what a literal says."""
     if literal.head() == '=':
         return effect.verb == 'assign' and (
@@ -143,7 +149,7 @@ def makes(effect, literal):
     return effect.verb == 'set' and effect.target[0].text() == literal.text()
 
 
-def cures(names, add):
+def cures(names: Names, add: Form) -> Iterator[Change]:
     """Changes of the action by which the add may have a case, the likeliest first."""
     action = names.action_of(add)
     item = add.parts[-1] if add.head() == 'if' else add
@@ -152,14 +158,16 @@ def cures(names, add):
     return rules[item.head()](names, action, add, given, found) if item.head() in rules else iter(())
 
 
-def asking(add, asked):
+def asking(add: Form, asked: Sequence[str]) -> Change:
     """An add under further queries."""
     item = add.parts[-1] if add.head() == 'if' else add
     own = [q.text() for q in add.parts[1].parts] if add.head() == 'if' else []
     return Change(add, f'(if ({" ".join(own + [q for q in asked if q not in own])}) {item.text()})')
 
 
-def fact_cures(names, action, add, given, found):
+def fact_cures(names: Names, action: Form, add: Form, given: Sequence[Form],
+               found: Sequence[Effect]) -> Iterator[Change]:
+    """Changes for a `kf`."""
     item = add.parts[-1] if add.head() == 'if' else add
     literal = item.rest()[0]
     plain = literal.rest()[0] if literal.head() == 'not' else literal
@@ -178,7 +186,9 @@ def fact_cures(names, action, add, given, found):
                 yield Change(add, query, 'pre')
 
 
-def whether_cures(names, action, add, given, found):
+def whether_cures(names: Names, action: Form, add: Form, given: Sequence[Form],
+                  found: Sequence[Effect]) -> Iterator[Change]:
+    """Changes for a `kw`."""
     item = add.parts[-1] if add.head() == 'if' else add
     literals = item.rest()
     texts = [l.text() for l in literals]
@@ -201,7 +211,9 @@ def whether_cures(names, action, add, given, found):
         yield Change(add, f'(sense {" ".join(texts)})', 'senses')
 
 
-def value_cures(names, action, add, given, found):
+def value_cures(names: Names, action: Form, add: Form, given: Sequence[Form],
+                found: Sequence[Effect]) -> Iterator[Change]:
+    """Changes for a `kv`."""
     item = add.parts[-1] if add.head() == 'if' else add
     term = item.rest()[0]
     for effect in found:
@@ -211,14 +223,14 @@ def value_cures(names, action, add, given, found):
         yield Change(add, f'(sense-value {term.text()})', 'senses')
 
 
-def is_toggle(found, literal):
+def is_toggle(found: Sequence[Effect], literal: Form) -> bool:
     """Whether two effects turn the same atom over, each where it was the other way."""
     atom = literal.rest()[0] if literal.head() == 'not' else literal
     own = [e for e in found if e.verb in ('set', 'unset') and e.target[0].text() == atom.text() and e.conditions]
     return {e.verb for e in own} == {'set', 'unset'}
 
 
-def toggled(names, action, literal):
+def toggled(names: Names, action: Form, literal: Form) -> List[str]:
     """What is said of an action that turns a fact over."""
     atom = literal.rest()[0] if literal.head() == 'not' else literal
     name = action.parts[1].text()
@@ -229,7 +241,8 @@ def toggled(names, action, literal):
             f'(knows (kf (not {atom.text()}))))']
 
 
-def fact(names, action, item, given, found):
+def fact(names: Names, action: Form, item: Form, given: Sequence[Form], found: Sequence[Effect]) -> List[str]:
+    """What is said of a `kf`."""
     literal = item.rest()[0]
     if is_toggle(found, literal):
         return toggled(names, action, literal)
@@ -258,7 +271,8 @@ def fact(names, action, item, given, found):
     return said
 
 
-def undone(early, late):
+def undone(early: Effect, late: Effect) -> List[str]:
+    """What is said of an effect that a later one may undo."""
     said = [f'Nearest: the effect `{early.form.text()}`. The later `{late.form.text()}` may undo '
             'it, where their arguments are the same objects.']
     query = difference(early, late)
@@ -269,7 +283,8 @@ def undone(early, late):
     return said
 
 
-def whether(names, action, item, given, found):
+def whether(names: Names, action: Form, item: Form, given: Sequence[Form], found: Sequence[Effect]) -> List[str]:
+    """What is said of a `kw`."""
     literals = item.rest()
     senses = names.section(action, 'senses')
     single = literals[0] if len(literals) == 1 else None
@@ -296,7 +311,9 @@ def whether(names, action, item, given, found):
     return said
 
 
-def whether_after(names, item, atom, given, found, effect):
+def whether_after(names: Names, item: Form, atom: Form, given: Sequence[Form], found: Sequence[Effect],
+                  effect: Effect) -> List[str]:
+    """What is said of a `kw` of an atom that an effect changes."""
     if not effect.conditions:
         sign = '' if effect.verb == 'set' else 'not '
         sure = atom.text() if not sign else f'(not {atom.text()})'
@@ -315,7 +332,8 @@ def whether_after(names, item, atom, given, found, effect):
     return said
 
 
-def value(names, action, item, given, found):
+def value(names: Names, action: Form, item: Form, given: Sequence[Form], found: Sequence[Effect]) -> List[str]:
+    """What is said of a `kv`."""
     term = item.rest()[0]
     for i, e in enumerate(found):
         if e.verb == 'assign' and e.target[0].text() == term.text():
@@ -336,7 +354,8 @@ def value(names, action, item, given, found):
             f'{", ".join("`" + s.text() + "`" for s in senses) or "none"}.']
 
 
-def region(names, action, item, given, found):
+def region(names: Names, action: Form, item: Form, given: Sequence[Form], found: Sequence[Effect]) -> List[str]:
+    """What is said of an `lcw`."""
     pattern = item.rest()[0]
     for i, e in enumerate(found):
         if e.verb == 'clear' and e.target[0].text() == pattern.text():

@@ -134,7 +134,7 @@ class Patient:
     def everywhere(self, word: str, other: str) -> Cure:
         """Another word wherever this one stands."""
         pattern = rf'(?<![A-Za-z0-9_?=-]){re.escape(word)}(?![A-Za-z0-9_?=-])'
-        return Cure([(m.start(), m.end(), other) for m in re.finditer(pattern, code_of(self.text))])
+        return Cure([(m.start(), m.end(), other) for m in re.finditer(pattern, self.text.code())])
 
     # By code
 
@@ -174,8 +174,8 @@ class Patient:
             yield colons.without_marks()
         if letter == '.':
             yield Cure([(found.start(), found.end(), '-')
-                        for found in re.finditer(r'(?<=[A-Za-z0-9_-])\.(?=[A-Za-z0-9_-])', code_of(self.text))])
-        yield Cure([(found.start(), found.end(), ' ') for found in re.finditer(re.escape(letter), code_of(self.text))])
+                        for found in re.finditer(r'(?<=[A-Za-z0-9_-])\.(?=[A-Za-z0-9_-])', self.text.code())])
+        yield Cure([(found.start(), found.end(), ' ') for found in re.finditer(re.escape(letter), self.text.code())])
 
     def beginning(self) -> Iterator[Cure]:
         """A version, and a domain without `define`."""
@@ -465,12 +465,7 @@ class Colons:
 
     def without_marks(self) -> Cure:
         """The words without their colons."""
-        return Cure([(found.start(), found.end(), '') for found in re.finditer(':', code_of(self.patient.text))])
-
-
-def code_of(text: Text) -> str:
-    """The text with blanks in place of comments."""
-    return re.sub(r';[^\n]*', lambda found: ' ' * len(found.group()), text.text)
+        return Cure([(found.start(), found.end(), '') for found in re.finditer(':', self.patient.text.code())])
 
 
 def plain(letter: str) -> str:

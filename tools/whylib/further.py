@@ -73,7 +73,7 @@ def set_aside(draft: Draft, text: Text, refusal: Refusal, check: Callable[[bytes
     elif refusal.code in (Code.ASCII, Code.BAD_BYTE):
         letter = text.text[text.at(refusal.line, refusal.column)]
         pattern = '[\x80-\xff]' if refusal.code == Code.ASCII else re.escape(letter)
-        source = text.text if refusal.code == Code.ASCII else cures.code_of(text)
+        source = text.text if refusal.code == Code.ASCII else text.code()
         draft.take([(m.start(), m.end(), ' ') for m in re.finditer(pattern, source)])
     elif refusal.code == Code.CLASH:
         kept = start.conflict(text, names, check)

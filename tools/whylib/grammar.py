@@ -1,6 +1,8 @@
 """What may stand where: the grammar by the enclosing list, in the user's words."""
 
-from pkslib import NAME, VARIABLE
+from typing import List, Optional
+
+from pkslib import NAME, VARIABLE, Form, limits
 
 SECTIONS = {
     'domain': ['types', 'objects', 'predicates', 'functions', 'action'],
@@ -44,7 +46,7 @@ EXAMPLES = {
                  '`(loc item room)`',
     'fact': 'a fact: `(p a ..)` with objects alone',
     'value': 'a place and its value, `((loc cup) hall)`',
-    'number': 'a number from 1 to 9,999',
+    'number': f'a number from 1 to {limits.COST:,}',
     'literals': 'a list of literals, `((p) (not (q)))`: two parentheses also where it is one',
     'queries': 'a list of queries, `((k (p)))`: two parentheses also where it is one',
 }
@@ -83,7 +85,7 @@ SHAPES = {
 PLURAL = {'when': 'literals', 'if': 'queries'}
 
 
-def role(form):
+def role(form: Form) -> Optional[str]:
     """What kind of form stands at this place, by the enclosing lists; or None."""
     parent = form.parent
     if parent is None:
@@ -113,24 +115,25 @@ def role(form):
     return kinds[min(at - 1, len(kinds) - 1)] if kinds else None
 
 
-def role_of_list(form):
+def role_of_list(form: Form) -> Optional[str]:
+    """The same of a list that may stand in no other."""
     return role(form) if form.parent is not None else None
 
 
-def is_literal(form):
+def is_literal(form: Form) -> bool:
     """Whether a form looks like a literal: a list with a NAME, `not` or `=` first."""
     return bool(form.is_list() and form.parts and form.parts[0].word
                 and (NAME.match(form.parts[0].word) or form.parts[0].word == '='))
 
 
-def allowed(kind):
+def allowed(kind: Optional[str]) -> Optional[List[str]]:
     """The heads that a list of this kind may have, where the grammar fixes them."""
     return {'query': QUERIES + ['not-derived'], 'plain': QUERIES, 'aim': QUERIES + AIMS,
             'effect': TARGETS + ['when'], 'target': TARGETS, 'sense': SENSES,
             'add': ITEMS + ['if'], 'item': ITEMS, 'start': ITEMS + ['kx']}.get(kind)
 
 
-def order_fault(form):
+def order_fault(form: Form) -> Optional[str]:
     """Why a section with a right head is wrong at its place."""
     parent, head = form.parent, form.head()
     order = SECTIONS[parent.head()]
@@ -144,7 +147,8 @@ def order_fault(form):
     return None
 
 
-def version_hint(form, version):
+def version_hint(form: Form, version: int) -> Optional[str]:
+    """What is said of a form of version 2 in a file of version 1."""
     head = form.head()
     if version == 1 and (head in AIMS or head == 'cost'):
         return f'`{head}` is of version 2: begin the file with `(pks 2)`.'
@@ -153,9 +157,11 @@ def version_hint(form, version):
     return None
 
 
-def is_var(form):
+def is_var(form: Form) -> bool:
+    """Whether a form is a parameter."""
     return bool(form.word and VARIABLE.match(form.word))
 
 
-def is_name(form):
+def is_name(form: Form) -> bool:
+    """Whether a form is a name."""
     return bool(form.word and NAME.match(form.word))

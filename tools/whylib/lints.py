@@ -1,18 +1,26 @@
 """What an accepted file may lack, as far as a look at its text tells. Help, and no more."""
 
+from typing import Dict, Iterator, List, Optional, Sequence, Set, Tuple
+
+from pkslib import Form
+
 from . import adds, uncounted
+from .names import Names
+
+Part = Optional[Tuple[Optional[str], bool]]
+"""Of a literal its predicate and sign; None for an equation."""
 
 MANY = 50
 
 
-def literal_parts(literal):
+def literal_parts(literal: Form) -> Part:
     """Of a literal its predicate and sign; None for an equation."""
     sign = literal.head() != 'not'
     atom = literal if sign else literal.rest()[0]
     return None if atom.head() == '=' else (atom.head(), sign)
 
 
-def untold(names):
+def untold(names: Names) -> Iterator[Tuple[str, adds.Effect]]:
     """Effects without a condition whose outcome the action doesn't tell."""
     for name, action in names.actions.items():
         told = set()
@@ -25,7 +33,7 @@ def untold(names):
                 yield name, effect
 
 
-def untold_senses(names):
+def untold_senses(names: Names) -> Iterator[Tuple[str, Form]]:
     """Senses of which the action tells nothing."""
     for name, action in names.actions.items():
         told = set().union(*(heads(add) for add in names.section(action, 'knows')))
@@ -35,7 +43,7 @@ def untold_senses(names):
                 yield name, sense
 
 
-def heads(item):
+def heads(item: Form) -> Set[str]:
     """All predicates and functions that stand in a form."""
     found, stack = set(), [item]
     while stack:
@@ -46,7 +54,7 @@ def heads(item):
     return found
 
 
-def start_known(names):
+def start_known(names: Names) -> Set[Part]:
     """The predicates of which the start tells something, with their signs."""
     known = set()
     for form in names.init():
@@ -61,7 +69,7 @@ def start_known(names):
     return known
 
 
-def learnt(names, action):
+def learnt(names: Names, action: Form) -> Set[Part]:
     """What an action may tell or let one learn, predicates with signs."""
     found = set()
     for add in names.section(action, 'knows'):
@@ -84,7 +92,7 @@ def learnt(names, action):
     return found
 
 
-def asked(queries):
+def asked(queries: Sequence[Form]) -> Iterator[Tuple[Part, Form]]:
     """The predicates, with signs, that queries `(k ..)` need."""
     for query in queries:
         while query.head() in ('at-start', 'always', 'once'):
@@ -95,7 +103,7 @@ def asked(queries):
                 yield part, query
 
 
-def never_known(names):
+def never_known(names: Names) -> Tuple[List[Form], Dict[str, List[Form]]]:
     """Queries of the goal, and of actions, that nothing can make known."""
     known, done, grown = start_known(names), set(), True
     while grown:
@@ -112,7 +120,7 @@ def never_known(names):
     return goal, blocked
 
 
-def remarks(names):
+def remarks(names: Names) -> List[str]:
     """What to say of an accepted file; an empty list where nothing stands out."""
     said = [each.said() for each in uncounted.uncounted(names.domain.expression())]
     for name, effect in untold(names):
@@ -134,7 +142,8 @@ def remarks(names):
     return said[:MANY]
 
 
-def told_by(sense):
+def told_by(sense: Form) -> str:
+    """The add that tells of a sense."""
     parts = ' '.join(p.text() for p in sense.rest())
     if sense.head() == 'sense':
         return f'`(kw {parts})`'
@@ -143,7 +152,8 @@ def told_by(sense):
     return 'a `(kw ..)` for each atom that the agent shall know of'
 
 
-def cure(effect):
+def cure(effect: adds.Effect) -> str:
+    """The add that tells of an effect."""
     target = effect.target[0].text()
     if effect.verb == 'set':
         return f'If it should, add `(kf {target})`.'

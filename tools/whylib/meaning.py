@@ -1,15 +1,17 @@
 """Explains the codes of meaning, 200 to 211, and those of the world, 301 to 311."""
 
-from pkslib import Code, limits
+from typing import Collection, Iterator, List, Optional, Tuple
+
+from pkslib import Code, Form, Refusal, Text, limits
 
 from . import grammar
-from .names import count, is_term, listed, near
+from .names import Names, count, is_term, listed, near
 from .shape import FOREIGN
 
 LIMITS = {
     'types': (limits.TYPES, 'types', 'leave out those that no object needs'),
-    'objects': (limits.OBJECTS[1], 'objects', 'in version 2, `(pks 2)`, there may be 256; else leave out those '
-                               'that play no part'),
+    'objects': (limits.OBJECTS[1], 'objects', f'in version 2, `(pks 2)`, there may be {limits.OBJECTS[2]}; else leave out '
+                               'those that play no part'),
     'predicates': (limits.PREDICATES, 'predicates', 'give one predicate an argument in place of several without'),
     'functions': (limits.FUNCTIONS, 'functions', 'give one function an argument in place of several without'),
     'domain': (limits.ACTIONS, 'actions', 'give one action a parameter in place of several without'),
@@ -34,7 +36,7 @@ LIMITS = {
 }
 
 
-def explain(names, form, text, refusal):
+def explain(names: Names, form: Form, text: Text, refusal: Refusal) -> List[str]:
     """The sentences on a code of meaning or of the world."""
     by_code = {
         Code.LONG_NAME: lambda: [f'`{form.word[:20]}..` has {len(form.word.lstrip("?"))} bytes, and {limits.NAME_BYTES} '
@@ -63,7 +65,7 @@ def explain(names, form, text, refusal):
     return by_code[refusal.code]()
 
 
-def value_form(names, place):
+def value_form(names: Names, place: Form) -> List[str]:
     """How a function's value is written where a list stands that looks like a fact of it."""
     types, verb = names.functions[place.head()][0], place.parent.head()
     parts = [p.text() for p in place.parts]
@@ -80,7 +82,7 @@ def value_form(names, place):
     return [f'A literal about its value is `(= {own} {value})`.']
 
 
-def fact_form(place):
+def fact_form(place: Form) -> List[str]:
     """How it is said of a fact that it will be known, or sensed, where it stands as a value."""
     verb = place.parent.head() if place.parent is not None else None
     if verb == 'kv':
@@ -88,7 +90,7 @@ def fact_form(place):
     return [f'A fact is sensed by `(sense {place.text()})`.'] if verb == 'sense-value' else []
 
 
-def undeclared(names, form):
+def undeclared(names: Names, form: Form) -> List[str]:
     """203 and 301."""
     word = form.word
     kind, known = kind_of(names, form)
@@ -114,7 +116,7 @@ def undeclared(names, form):
     return said
 
 
-def kind_of(names, form):
+def kind_of(names: Names, form: Form) -> Tuple[str, Collection[str]]:
     """What is wanted where a word stands, and the names of that kind."""
     parent = form.parent
     own = grammar.role(parent) if parent is not None and parent.parent is not None else None
@@ -127,13 +129,13 @@ def kind_of(names, form):
     return 'an object', names.objects
 
 
-def is_value_place(form):
+def is_value_place(form: Form) -> bool:
     """Whether a fact of the world is the place of a value."""
     return (form.parent is not None and form.parent.parent is not None
             and form.parent.parent.head() == 'values' and form.index() == 0)
 
 
-def parameter(names, form):
+def parameter(names: Names, form: Form) -> List[str]:
     """204."""
     action = names.action_of(form)
     if action is None:
@@ -152,7 +154,7 @@ def parameter(names, form):
     return said
 
 
-def arguments(names, form):
+def arguments(names: Names, form: Form) -> List[str]:
     """205, and 302 at a list."""
     if is_value_place(form):
         kind, types = 'function', names.functions.get(form.head(), ([], None))[0]
@@ -169,7 +171,7 @@ def arguments(names, form):
             f'`{form.head()}` has {count(len(types), "argument")}: it is declared as `{declared}`.']
 
 
-def types_of(names, form):
+def types_of(names: Names, form: Form) -> List[str]:
     """206, and 302 at a word."""
     parent, action = form.parent, names.action_of(form)
     own = names.type_of(form, action)
@@ -202,7 +204,7 @@ def types_of(names, form):
     return said
 
 
-def height(form):
+def height(form: Form) -> List[str]:
     """207."""
     return [f'`{form.text()}` is too deep: a function may have a value of a function as its '
             'argument, such as `(f (g a))` or `(f ?x)`, and no deeper; a parameter counts as a '
@@ -211,7 +213,7 @@ def height(form):
             'literal of its own.']
 
 
-def limit(names, form):
+def limit(names: Names, form: Form) -> List[str]:
     """208."""
     parent = form.parent
     head = parent.head()
@@ -237,19 +239,19 @@ def limit(names, form):
             else f'A cost may be {limits.COST:,} at most.', f'What to do: {cure}.']
 
 
-def group(form):
+def group(form: Form) -> List[str]:
     """210."""
     return [f'`{form.text()}` stands in this group twice. Of a group exactly one member is true, '
             'and members are counted by their places: take one away.']
 
 
-def wildcards(form):
+def wildcards(form: Form) -> List[str]:
     """211."""
     return [f'A pattern may have two wildcards: in `{form.parent.text()}` write an object or a '
             'parameter in place of one.']
 
 
-def twice(names, form, text):
+def twice(names: Names, form: Form, text: Text) -> List[str]:
     """202."""
     first = next((f for f in words_like(names.domain, form)), None)
     line = f', in line {text.place(first.start)[0]}' if first else ''
@@ -257,7 +259,7 @@ def twice(names, form, text):
             'one away.']
 
 
-def words_like(root, form):
+def words_like(root: Optional[Form], form: Form) -> Iterator[Form]:
     """Earlier words of the same spelling in the same section and role."""
     section = form
     while section.parent is not None and section.parent.head() != 'domain':
@@ -271,7 +273,8 @@ def words_like(root, form):
         stack += reversed(top.parts or [])
 
 
-def names_scope(form, section):
+def names_scope(form: Form, section: Form) -> Form:
+    """The list within which the name at a form is declared but once."""
     if grammar.role(form.parent) == 'parameter':
         return form.parent.parent
     return section.parent if section.head() == 'action' else section
@@ -279,7 +282,7 @@ def names_scope(form, section):
 
 # The world
 
-def missing_values(names):
+def missing_values(names: Names) -> List[str]:
     """303."""
     have = {v.parts[0].text() for v in names.section(names.world, 'values')
             if v.is_list() and v.parts}
@@ -292,7 +295,7 @@ def missing_values(names):
     return said
 
 
-def item(names, number):
+def item(names: Names, number: int) -> List[str]:
     """311: what the item is, and why the world breaks it."""
     items = names.init()
     if number > len(items):
@@ -312,14 +315,15 @@ def item(names, number):
     return said + ['Change the world, or what `init` says.']
 
 
-def holds(literal, true):
+def holds(literal: Form, true: Collection[str]) -> bool:
     """Whether a literal without functions is true where these atoms are."""
     if literal.head() == 'not':
         return not holds(literal.rest()[0], true)
     return literal.text() in true
 
 
-def literal_in_world(literal, true):
+def literal_in_world(literal: Form, true: Collection[str]) -> str:
+    """Where in the world to look for a literal of `init`."""
     atom = literal.rest()[0] if literal.head() == 'not' else literal
     if atom.head() == '=':
         return 'Look at the values that `values` gives to its terms.'

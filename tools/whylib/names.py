@@ -2,22 +2,29 @@
 
 import difflib
 import itertools
+from typing import Dict, Iterable, Iterator, List, Optional, Tuple
+
+from pkslib import Form, Text
 
 
 class Names:
     """The declarations of a domain, as far as they can be read."""
 
-    def __init__(self, text):
+    def __init__(self, text: Text) -> None:
         self.version = 2 if text.forms and text.forms[0].text() == '(pks 2)' else 1
-        self.types, self.objects, self.predicates, self.functions = {}, {}, {}, {}
-        self.actions = {}
+        self.types: Dict[str, Optional[str]] = {}
+        self.objects: Dict[str, str] = {}
+        self.predicates: Dict[str, List[str]] = {}
+        self.functions: Dict[str, Tuple[List[str], str]] = {}
+        self.actions: Dict[str, Form] = {}
         self.domain = next((f for f in text.forms if f.head() == 'domain'), None)
         self.problem = next((f for f in text.forms if f.head() == 'problem'), None)
         self.world = next((f for f in text.forms if f.head() == 'world'), None)
         for section in self.domain.parts[1:] if self.domain else []:
             self.declare(section)
 
-    def declare(self, section):
+    def declare(self, section: Form) -> None:
+        """Takes what a section of the domain declares."""
         head = section.head()
         if head == 'action' and len(section.parts) > 1 and section.parts[1].word:
             self.actions.setdefault(section.parts[1].word, section)
@@ -35,22 +42,24 @@ class Names:
             elif head == 'functions':
                 self.functions.setdefault(words[0], (words[1:-1], words[-1]))
 
-    def section(self, form, head):
+    def section(self, form: Optional[Form], head: str) -> List[Form]:
         """The parts of a section of a domain, an action, a problem or a world."""
         for part in form.parts[1:] if form else []:
             if part.head() == head:
                 return part.rest()
         return []
 
-    def init(self):
+    def init(self) -> List[Form]:
+        """The items of `init`."""
         return self.section(self.problem, 'init')
 
-    def action_of(self, form):
+    def action_of(self, form: Optional[Form]) -> Optional[Form]:
+        """The action in which a form stands, or None."""
         while form is not None and form.head() != 'action':
             form = form.parent
         return form
 
-    def params(self, action):
+    def params(self, action: Form) -> Dict[str, Optional[str]]:
         """The parameters of an action with their types."""
         found = {}
         for p in self.section(action, 'params'):
@@ -58,17 +67,19 @@ class Names:
                 found.setdefault(p.parts[0].word, p.parts[1].word)
         return found
 
-    def fits(self, own, wanted):
+    def fits(self, own: Optional[str], wanted: Optional[str]) -> bool:
+        """Whether a type is another one or stands below it."""
         for _ in range(20):
             if own == wanted:
                 return True
             own = self.types.get(own)
         return False
 
-    def of_type(self, wanted):
+    def of_type(self, wanted: Optional[str]) -> List[str]:
+        """The objects of a type and of those below it."""
         return [o for o, t in self.objects.items() if self.fits(t, wanted)]
 
-    def type_of(self, form, action):
+    def type_of(self, form: Form, action: Optional[Form]) -> Optional[str]:
         """The type of a term, or None."""
         if form.word:
             if form.word.startswith('?'):
@@ -76,7 +87,7 @@ class Names:
             return self.objects.get(form.word)
         return self.functions.get(form.head(), (None, None))[1]
 
-    def signature(self, form):
+    def signature(self, form: Form) -> Tuple[Optional[str], Optional[List[str]]]:
         """Of an atom, pattern or place: 'predicate' or 'function', and the types."""
         head = form.head()
         if head in self.predicates and not is_term(form):
@@ -87,20 +98,21 @@ class Names:
             return 'predicate', self.predicates[head]
         return None, None
 
-    def places(self):
+    def places(self) -> Iterator[str]:
         """Every place of the signature, as texts."""
         for name, (types, _) in self.functions.items():
             for values in itertools.product(*(self.of_type(t) for t in types)):
                 yield '(' + ' '.join((name,) + values) + ')'
 
 
-def is_term(form):
+def is_term(form: Form) -> bool:
     """Whether a list stands where a term or a place does."""
     from . import grammar
     return grammar.role(form) in ('term', 'place')
 
 
-def listed(names, limit=12):
+def listed(names: Iterable[str], limit: int = 12) -> str:
+    """Names in a sentence, so many of them at most."""
     names = list(names)
     if not names:
         return 'none'
@@ -108,11 +120,12 @@ def listed(names, limit=12):
     return ', '.join(f'`{n}`' for n in names[:limit]) + more
 
 
-def near(word, names):
+def near(word: str, names: Iterable[str]) -> Optional[str]:
     """The name that looks most like a word, or None."""
     close = difflib.get_close_matches(word, list(names), 1, 0.6)
     return close[0] if close else None
 
 
-def count(number, what):
+def count(number: int, what: str) -> str:
+    """A number of things, the word with an `s` but for one."""
     return f'{number} {what}' + ('' if number == 1 else 's')

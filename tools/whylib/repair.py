@@ -5,36 +5,24 @@ from typing import Callable, Iterator, List, Optional
 
 from pkslib import Code, Text, read_refusal
 
-from .cures import Cure, Outcome, code_of
+from .cures import Cure, Outcome
 
 SECONDS = 8.0
 Check = Callable[[bytes], str]
 
 
-def code_end(text: Text, number: int) -> int:
-    """The byte at which a line's code ends, before blanks and a comment."""
-    start = text.starts[number - 1]
-    return start + len(text.line(number).split(';')[0].rstrip())
-
-
-def balance(text: Text, number: int) -> int:
-    """How many more lists a line opens than it closes."""
-    line = text.line(number).split(';')[0]
-    return line.count('(') - line.count(')')
-
-
 def in_order(text: Text, is_missing: bool, first: Optional[int]) -> List[int]:
     """The lines in which to look, the likely ones first."""
-    lines = [n for n in range(1, len(text.starts) + 1) if text.line(n).split(';')[0].strip()]
-    wrong = [n for n in lines if (balance(text, n) > 0) == is_missing and balance(text, n)]
+    balance = text.balance()
+    wrong = [n for n, more in balance.items() if more and (more > 0) == is_missing]
     likely = ([first] if first else []) + wrong
-    return likely + [n for n in lines if n not in set(likely)]
+    return likely + [n for n in balance if n not in set(likely)]
 
 
 def at_ends(text: Text, is_missing: bool, first: Optional[int]) -> Iterator[Cure]:
     """A parenthesis more, or one less, at the end of each line."""
     for number in in_order(text, is_missing, first):
-        end = code_end(text, number)
+        end = text.code_end(number)
         if is_missing:
             yield Cure([(end, end, ')')])
         elif text.data[end - 1:end] == b')':
@@ -43,10 +31,8 @@ def at_ends(text: Text, is_missing: bool, first: Optional[int]) -> Iterator[Cure
 
 def within(text: Text, is_missing: bool) -> Iterator[Cure]:
     """A parenthesis more between two lists, or one less where two stand together, anywhere."""
-    code = code_of(text)
-    for at, letter in enumerate(code):
-        if letter != ')':
-            continue
+    code = text.code()
+    for at in text.closing:
         if not is_missing and code[at + 1:at + 2] != ')' and code[at - 1:at] == ')':
             yield Cure([(at, at + 1, '')])
         if is_missing and code[at + 1:].lstrip()[:1] == '(':
@@ -55,7 +41,7 @@ def within(text: Text, is_missing: bool) -> Iterator[Cure]:
 
 def guided(text: Text, check: Check) -> Iterator[Cure]:
     """Parentheses before those forms at which the file is refused when all open lists are closed at its end."""
-    code = code_of(text)
+    code = text.code()
     end, places = len(code.rstrip()), []
     for _ in text.open:
         cure = Cure([(at, at, ')') for at in places] + [(end, end, ')' * (len(text.open) - len(places)))])

@@ -1,9 +1,14 @@
 """Explains the codes of shape: 120 to 124, and 300 for the world."""
 
-from pkslib import VARIABLE, gained_parenthesis, lost_parenthesis
+from typing import List, Optional, Sequence, Tuple
+
+from pkslib import VARIABLE, Code, Form, Text, gained_parenthesis, limits, lost_parenthesis
 
 from . import grammar
-from .names import count, near
+from .names import Names, count, near
+
+Place = Tuple[Form, int]
+"""A list, and the number of a line."""
 
 FOREIGN = {
     'and': 'There is no `and`: the parts simply stand one behind the other.',
@@ -45,13 +50,13 @@ WHERE = {
 }
 
 
-def is_pddl(text):
+def is_pddl(text: Text) -> bool:
     """Whether a file is one in PDDL: it begins with `define`, and has words with a colon."""
     return bool(text.forms) and text.forms[0].head() == 'define' and any(
         form.parts and form.parts[0].word == ':' for form in text.lists)
 
 
-def shape(text, form, names):
+def shape(text: Text, form: Optional[Form], names: Names) -> List[str]:
     """What is said of a form at which the walk over the grammar stopped."""
     if form is None:
         return ['The text ends where a form is missing.']
@@ -67,12 +72,12 @@ def shape(text, form, names):
     return said if says_all(said) else said + expected(form, bool(said))
 
 
-def says_all(said):
+def says_all(said: Sequence[str]) -> bool:
     """Whether a hint shows the whole form that should stand here."""
     return any(text.startswith(('One pair of', 'The value of a place', 'A value is given')) for text in said)
 
 
-def wrong_number(form):
+def wrong_number(form: Form) -> Optional[List[str]]:
     """For a list whose head is right at its place: it has too few parts, or too many."""
     head, heads = form.head(), grammar.allowed(grammar.role(form))
     if grammar.role(form) == 'section':
@@ -86,7 +91,8 @@ def wrong_number(form):
 TOPS = ('pks', 'domain', 'problem', 'world', 'define')
 
 
-def top(form):
+def top(form: Form) -> List[str]:
+    """What is said of a form that stands in no list."""
     head = form.head()
     if head in grammar.SHAPES:
         lacks = lacking(form)
@@ -94,7 +100,7 @@ def top(form):
     return [f'`({head} ..)` is incomplete.' if head else 'Here a list must stand.']
 
 
-def lacking(form):
+def lacking(form: Form) -> Optional[List[str]]:
     """For a list that fails for the number of its parts."""
     head = form.head()
     if head == 'problem':
@@ -104,7 +110,8 @@ def lacking(form):
     return None
 
 
-def expected(form, hinted):
+def expected(form: Form, hinted: bool) -> List[str]:
+    """What may stand at a place; nothing more where a hint was given and no example is there."""
     kind = grammar.role(form)
     parent = form.parent
     if kind == 'section':
@@ -117,7 +124,7 @@ def expected(form, hinted):
     return [] if hinted else ['This form isn\'t what the grammar has here.']
 
 
-def specific(form):
+def specific(form: Form) -> Optional[List[str]]:
     """A hint for this very form, or None."""
     kind, head = grammar.role(form), form.head()
     if grammar.role(form.parent) == 'fact' and form.parent.head() == 'not':
@@ -136,14 +143,14 @@ def specific(form):
     return literal_hint(form, kind) or word_hint(form, kind) or list_hint(form, kind)
 
 
-def belongs(head, heads):
+def belongs(head: str, heads: Sequence[str]) -> Optional[List[str]]:
     """Where a head may stand that is wrong here, or the head that looks like it."""
     if head.lower() in heads:
         return [f'Capital letters count: write `{head.lower()}`.']
     return [f'`{head}` may stand only {WHERE[head]}.'] if head in WHERE else None
 
 
-def looks_like(form, kind, heads):
+def looks_like(form: Form, kind: str, heads: Sequence[str]) -> Optional[List[str]]:
     """For a list that may be a literal, or have a misspelled head."""
     said = literal_hint(form, kind) or []
     close = near(form.head(), heads)
@@ -157,7 +164,7 @@ SWAPS = {('add', 'k'): 'kf', ('item', 'k'): 'kf', ('start', 'k'): 'kf', ('query'
          ('sense', 'kw'): 'sense', ('sense', 'kv'): 'sense-value'}
 
 
-def is_sensed(form, inner):
+def is_sensed(form: Form, inner: str) -> bool:
     """Whether the action in which a form stands senses this."""
     action = form
     while action is not None and action.head() != 'action':
@@ -166,7 +173,7 @@ def is_sensed(form, inner):
     return any(' '.join(p.text() for p in sense.rest()) == inner for part in senses for sense in part.rest())
 
 
-def swapped(form, kind):
+def swapped(form: Form, kind: str) -> Optional[List[str]]:
     """For a head that has another one's meaning here."""
     own = SWAPS.get((kind, form.head()))
     if own is None:
@@ -180,7 +187,7 @@ def swapped(form, kind):
     return [f'Here it is `({own} {inner})`: {why}']
 
 
-def literal_hint(form, kind):
+def literal_hint(form: Form, kind: Optional[str]) -> Optional[List[str]]:
     """Where a literal stands and a query, an effect, a sense or an item should."""
     head = form.head()
     if kind in ('query', 'plain', 'aim', 'start', 'add', 'item') and head in ('knows', 'known'):
@@ -210,7 +217,7 @@ def literal_hint(form, kind):
     return None
 
 
-def word_hint(form, kind):
+def word_hint(form: Form, kind: Optional[str]) -> Optional[List[str]]:
     """Where a word stands: too few parentheses, or no name."""
     word = form.word
     if not word:
@@ -253,7 +260,7 @@ def word_hint(form, kind):
     return None
 
 
-def list_hint(form, kind):
+def list_hint(form: Form, kind: Optional[str]) -> Optional[List[str]]:
     """Where a list stands that has another kind or number of parts."""
     if kind == 'parameter' and '-' in [p.word for p in form.parts]:
         return [f'A type has no `-` before it: `({form.parts[0].text()} {form.parts[-1].text()})`.']
@@ -266,7 +273,7 @@ def list_hint(form, kind):
 VALUED = {'k': '(k (= {} {}))', 'kf': '(kf (= {} {}))', 'set': '(assign {} {})'}
 
 
-def number(form):
+def number(form: Form) -> Optional[List[str]]:
     """For a list with a right head that has the wrong number of parts."""
     head = form.head()
     lacks = lacking(form)
@@ -294,20 +301,20 @@ def number(form):
     return None
 
 
-def beginning(text, code):
+def beginning(text: Text, code: int) -> List[str]:
     """Codes 120 to 123."""
     heads = [f.head() or '' for f in text.forms]
-    if code == 120:
+    if code == Code.VERSION:
         said = ['A file begins with `(pks 1)`, or with `(pks 2)` where it has costs, parents of '
-                'types, aims over time or more than 64 objects.']
+                f'types, aims over time or more than {limits.OBJECTS[1]} objects.']
         if heads[:1] == ['pks']:
             said.insert(0, f'There is no such version: {text.forms[0].text()}.')
         elif heads[:1] == ['domain']:
             said.insert(0, 'The version is missing before the domain.')
         return said + pddl(heads[:1])
-    if code == 121:
+    if code == Code.DOMAIN:
         return ['Behind the version stands `(domain ..)`, without a name.'] + pddl(heads[1:2])
-    if code == 122:
+    if code == Code.PROBLEM:
         said = ['Behind the domain stands `(problem (init ..) (goal ..))`, without a name.']
         if heads[2:3] == ['action']:
             said.append('An action stands outside of the domain: the domain was closed too early.')
@@ -315,11 +322,12 @@ def beginning(text, code):
     return ['Behind the problem there may stand `(world (true ..) (values ..))`, and nothing else.']
 
 
-def pddl(heads):
+def pddl(heads: Sequence[str]) -> List[str]:
+    """What is said where a form begins with `define`."""
     return [FOREIGN['define']] if heads == ['define'] else []
 
 
-def by_indentation(text):
+def by_indentation(text: Text) -> Tuple[Optional[Place], Optional[Place]]:
     """A list that by the indentation lost a parenthesis, and one that gained one; or None."""
     lost, gained = lost_parenthesis(text), gained_parenthesis(text)
     if lost and text.begins_line(lost[0]) == 1 and lost[2].head() not in TOPS:
@@ -329,7 +337,7 @@ def by_indentation(text):
     return None, gained
 
 
-def suspect(text):
+def suspect(text: Text) -> Optional[int]:
     """The line that by the indentation lacks a parenthesis or has one too many, or None."""
     lost, gained = by_indentation(text)
     if lost:
@@ -337,7 +345,7 @@ def suspect(text):
     return text.place(gained[0].end - 1)[0] if gained else None
 
 
-def parentheses(text):
+def parentheses(text: Text) -> List[str]:
     """What the indentation tells of a parenthesis that is missing or too many."""
     lost, gained = by_indentation(text)
     if lost:
@@ -356,7 +364,7 @@ def parentheses(text):
     return []
 
 
-def previous(text, line):
+def previous(text: Text, line: int) -> int:
     """The last line before this one that isn't blank or a comment."""
     line -= 1
     while line > 1 and (not text.line(line).strip() or text.line(line).strip().startswith(';')):
@@ -364,6 +372,7 @@ def previous(text, line):
     return line
 
 
-def opening(text, form):
+def opening(text: Text, form: Form) -> str:
+    """How a list begins, without its lists."""
     words = [p.word for p in form.parts[:2] if p.word]
     return '(' + ' '.join(words)

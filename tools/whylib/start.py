@@ -1,9 +1,15 @@
 """Explains 270: which items of `init` contradict each other."""
 
+from typing import Callable, Iterable, List, Optional
+
+from pkslib import Code, Form, Text, read_refusal
+
+from .names import Names
+
 MOST_CALLS = 400
 
 
-def without(text, forms):
+def without(text: Text, forms: Iterable[Form]) -> bytes:
     """The file without some forms; they become blanks, so that all places stay."""
     data = bytearray(text.data)
     for form in forms:
@@ -13,7 +19,12 @@ def without(text, forms):
     return bytes(data)
 
 
-def conflict(text, names, check):
+def clashes(said: str) -> bool:
+    """Whether what `check` says is that the start contradicts itself."""
+    return said.startswith('refused') and read_refusal(said).code == Code.CLASH
+
+
+def conflict(text: Text, names: Names, check: Callable[[bytes], str]) -> Optional[List[Form]]:
     """Items that contradict each other and of which none can be left out, or None."""
     items = names.init()
     kept, step, calls = list(items), max(1, len(items) // 2), 0
@@ -25,7 +36,7 @@ def conflict(text, names, check):
             calls += 1
             if calls > MOST_CALLS:
                 return None
-            if check(without(text, gone)).endswith(' 270\n'):
+            if clashes(check(without(text, gone))):
                 kept, shrunk = tried, True
             else:
                 at += step
@@ -34,7 +45,8 @@ def conflict(text, names, check):
         step = max(1, step // 2)
 
 
-def explain(text, names, check):
+def explain(text: Text, names: Names, check: Callable[[bytes], str]) -> List[str]:
+    """What is said of a start that contradicts itself."""
     items = names.init()
     kept = conflict(text, names, check)
     if kept is None:
