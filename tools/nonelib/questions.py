@@ -72,8 +72,9 @@ class Asking:
         try:
             printed, _ = child.communicate(text.encode('ascii'), timeout=seconds)
         except subprocess.TimeoutExpired:
+            # (it may have ended just now: then its answer is whole, and counts)
             child.kill()
-            child.communicate()
+            printed, _ = child.communicate()
         finally:
             self.running.discard(child)
         if child.returncode == Status.DONE:
