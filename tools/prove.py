@@ -26,6 +26,11 @@ from importlib.machinery import SourceFileLoader
 from importlib.util import module_from_spec, spec_from_loader
 from typing import IO, Any, Callable, Dict, List, NoReturn, Optional, Sequence
 
+sys.dont_write_bytecode = True
+sys.path.insert(0, os.path.dirname(os.path.realpath(__file__)))
+
+from pkslib import commands  # noqa: E402
+
 TOP = os.path.dirname(os.path.dirname(os.path.realpath(__file__)))
 
 # What this takes of rt.
@@ -240,7 +245,11 @@ def build_libraries(rt: Any, room: Room, name: str) -> None:
 
 def main(words: List[str]) -> int:
     """Proves what the words name, and gives the status."""
-    build = build_libraries if words[0] == "--libraries" else build_program
+    reader = commands.parser(__doc__ or "")
+    reader.add_argument("--libraries", action="store_true", help="the libraries below the crate, and no program")
+    reader.add_argument("crate", metavar="CRATE", help="the name of a crate")
+    given = reader.parse_args(words)
+    build = build_libraries if given.libraries else build_program
     rt = load_rt()
     if rt is None:
         say("this rt isn't of the kit that README.md names, so nothing was proved.")
@@ -248,7 +257,7 @@ def main(words: List[str]) -> int:
     room = Room()
     # (what rt starts ends when this does; it has to be called before there are threads)
     rt.rtlib.guarded()
-    build(rt, room, words[-1])
+    build(rt, room, given.crate)
     room.remove()
     return 0
 

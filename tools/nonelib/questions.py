@@ -72,6 +72,7 @@ class Asking:
         try:
             printed, _ = child.communicate(text.encode('ascii'), timeout=seconds)
         except subprocess.TimeoutExpired:
+            # (it may have ended just now: then its answer is whole, and counts)
             child.kill()
             printed, _ = child.communicate()
         finally:

@@ -161,7 +161,7 @@ def cases_apart(file: File) -> Iterator[Change]:
 
 
 def fewer_values(file: File) -> Iterator[Change]:
-    """A value that will be known and that may be one of more than sixteen: all others excluded."""
+    """A value that will be known and that may be one of more objects than cases may have: the others excluded."""
     told: List[Expression] = [item_of(add) for action in file.actions for add in action.knows]
     told += file.init
     for name, kind in file.results.items():
@@ -171,7 +171,7 @@ def fewer_values(file: File) -> Iterator[Change]:
         items = tuple(('kf', ('not', ('=', place, other))) for place in itertools.islice(file.instances(name), 4)
                       for other in objects[limits.CASES:] if ('kf', ('not', ('=', place, other))) not in file.init)
         yield Change(Rank.FEWER_VALUES, file.with_init(*items),
-                     'in `init` exclude all but sixteen (or let an action take the value as an argument)',
+                     f'in `init` exclude all but {limits.CASES} (or let an action take the value as an argument)',
                      texts(items[:3]) + (('..',) if len(items) > 3 else ()),
                      f'By its type the value of `{name}` is one of {len(objects)} objects, and a plan has cases only where '
                      f'{limits.CASES} are left at most.')

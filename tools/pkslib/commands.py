@@ -78,7 +78,10 @@ def run(main: Callable[[], int]) -> NoReturn:
     except (Fault, Malformed) as fault:
         say(str(fault))
         status = 1
-    except (PksError, OSError) as fault:
+    except OSError as fault:
+        say(f'{fault.filename}: {fault.strerror}' if fault.filename else str(fault))
+        status = WORDS
+    except PksError as fault:
         say(str(fault))
         status = WORDS
     except KeyboardInterrupt:

@@ -6,20 +6,22 @@ says nothing: `knows-whether` and `knows-value` hold.
 
 import itertools
 import re
+from typing import Any, Dict, FrozenSet, Iterator, List, Optional, Sequence, Set, Tuple
 
-from pkslib import Act, Branch, Cases, Goal, read_plan
+from pddllib.text import Form
+from pkslib import Act, Branch, Cases, Goal, Tree, read_plan
 
 
 class Wrong(Exception):
     """What goes wrong in some world."""
 
 
-def plain(form):
+def plain(form: Form) -> Any:
     """A form as nested tuples of words in small letters."""
     return form.word if form.word is not None else tuple(plain(part) for part in form.parts)
 
 
-def typed(parts):
+def typed(parts: Sequence[Any]) -> List[Tuple[str, str]]:
     """The names of a typed list with their types."""
     found, waiting, parts = [], [], list(parts)
     while parts:
@@ -36,7 +38,7 @@ def typed(parts):
 class Model:
     """A domain and a problem."""
 
-    def __init__(self, domain, problem):
+    def __init__(self, domain: Any, problem: Any) -> None:
         self.parts = domain[2:] + problem[2:]
         self.parents = dict(typed(self.under(':types')))
         self.objects = dict(typed(self.under(':constants') + self.under(':objects')))
@@ -44,23 +46,26 @@ class Model:
                         for part in self.parts if part[0] == ':action'}
         self.goal = ('and',) + self.under(':goal')
 
-    def under(self, head):
+    def under(self, head: str) -> Tuple[Any, ...]:
+        """The parts of all sections with a head."""
         return tuple(p for part in self.parts if part[0] == head for p in part[1:])
 
-    def objects_of(self, kind):
-        def fits(own):
+    def objects_of(self, kind: str) -> List[str]:
+        """The objects of a type and of those below it."""
+        def fits(own: Optional[str]) -> bool:
+            """Whether a type is the one that is wanted, or below it."""
             while own not in (kind, 'object', None):
                 own = self.parents.get(own)
             return own == kind or kind == 'object'
         return [name for name, own in self.objects.items() if fits(own)]
 
-    def bindings(self, variables, given):
+    def bindings(self, variables: Sequence[Any], given: Dict[str, str]) -> Iterator[Dict[str, str]]:
         """All ways to choose objects for variables."""
         pairs = typed(variables)
         for chosen in itertools.product(*(self.objects_of(kind) for _, kind in pairs)):
             yield {**given, **{name: o for (name, _), o in zip(pairs, chosen)}}
 
-    def worlds(self):
+    def worlds(self) -> Iterator[FrozenSet[Any]]:
         """All worlds of the start: true facts, and values as facts `(= place value)`."""
         start = [p for part in self.under(':init')
                  for p in (part[1:] if part[0] == 'and' else [part])]
@@ -80,13 +85,15 @@ class Model:
 
     # Conditions and effects in one world
 
-    def value(self, term, world, given):
+    def value(self, term: Any, world: FrozenSet[Any], given: Dict[str, str]) -> Any:
+        """The value of a term."""
         if isinstance(term, str):
             return given.get(term, term)
         place = (term[0],) + tuple(self.value(t, world, given) for t in term[1:])
         return next((p[2] for p in world if p[0] == '=' and p[1] == place), None)
 
-    def holds(self, form, world, given):
+    def holds(self, form: Any, world: FrozenSet[Any], given: Dict[str, str]) -> bool:
+        """Whether a condition holds."""
         head, parts = (form[0], form[1:]) if form else ('and', ())
         if head == 'and':
             return all(self.holds(p, world, given) for p in parts)
@@ -103,7 +110,7 @@ class Model:
             return self.value(parts[0], world, given) == self.value(parts[1], world, given)
         return (head,) + tuple(self.value(p, world, given) for p in parts) in world
 
-    def changes(self, form, world, given):
+    def changes(self, form: Any, world: FrozenSet[Any], given: Dict[str, str]) -> Tuple[Set[Any], Set[Any]]:
         """What an effect takes away and what it adds."""
         head, parts = (form[0], form[1:]) if form else ('and', ())
         if head == 'and':
@@ -125,8 +132,9 @@ class Model:
             inner = [({fact}, set()) if head == 'not' else (set(), {fact})]
         return (set().union(*(gone for gone, _ in inner)), set().union(*(new for _, new in inner)))
 
-    def done(self, step, world):
+    def done(self, step: Any, world: FrozenSet[Any]) -> FrozenSet[Any]:
         # (an action whose precondition has an `or` is written as several, whose names have a number behind)
+        """The world after an action; Wrong where it can't be done."""
         name = step[0] if step[0] in self.actions else re.sub(r'-\d+$', '', step[0])
         action = self.actions[name]
         names = [name for name, _ in typed(action.get(':parameters', ()))]
@@ -136,7 +144,7 @@ class Model:
         gone, new = self.changes(action.get(':effect', ()), world, given)
         return frozenset(world - gone | new)
 
-    def run(self, plan, world):
+    def run(self, plan: Tree, world: FrozenSet[Any]) -> None:
         """Follows a plan to the goal."""
         while isinstance(plan, Act):
             world = self.done((plan.name, *plan.arguments), world)
@@ -153,7 +161,7 @@ class Model:
             raise Wrong('a world comes to a side that is called impossible')
 
 
-def check(domain, problem, text):
+def check(domain: Form, problem: Form, text: str) -> int:
     """Runs a printed plan in every world; gives how many there are."""
     model = Model(plain(domain), plain(problem))
     plan = read_plan(text)

@@ -1,4 +1,5 @@
-; A small cave: the wumpus is in one of two cells, and smells in the cells next to it.
+; A small cave: the wumpus is in one of two cells, and smells in the cells next to it; a tunnel, through which nothing
+; smells, leads from p2-1 to p1-3.
 (define (domain wumpus)
   (:requirements :strips :typing)
   (:types pos)
@@ -23,19 +24,17 @@
 
 (define (problem wumpus-3)
   (:domain wumpus)
-  (:objects p1-1 p1-2 p1-3 p2-1 p2-2 p2-3 - pos)
+  (:objects p1-3 p2-1 p2-2 p2-3 - pos)
   (:init
-    (adj p1-1 p1-2) (adj p1-2 p1-1) (adj p1-2 p1-3) (adj p1-3 p1-2)
     (adj p2-1 p2-2) (adj p2-2 p2-1) (adj p2-2 p2-3) (adj p2-3 p2-2)
-    (adj p1-1 p2-1) (adj p2-1 p1-1) (adj p1-2 p2-2) (adj p2-2 p1-2)
-    (adj p1-3 p2-3) (adj p2-3 p1-3)
-    (at p1-1) (alive) (safe p1-1) (safe p1-2) (safe p2-1) (gold-at p2-3)
+    (adj p2-1 p1-3) (adj p1-3 p2-1) (adj p1-3 p2-3) (adj p2-3 p1-3)
+    (at p2-1) (alive) (safe p2-1) (safe p2-3) (gold-at p2-3)
     (oneof (wumpus-at p1-3) (wumpus-at p2-2))
-    (or (not (stench p1-2)) (wumpus-at p1-3) (wumpus-at p2-2))
-    (or (stench p1-2) (not (wumpus-at p1-3)))
-    (or (stench p1-2) (not (wumpus-at p2-2)))
+    (or (not (stench p2-3)) (wumpus-at p1-3) (wumpus-at p2-2))
+    (or (stench p2-3) (not (wumpus-at p1-3)))
+    (or (stench p2-3) (not (wumpus-at p2-2)))
     (or (not (stench p2-1)) (wumpus-at p2-2))
     (or (stench p2-1) (not (wumpus-at p2-2))))
   (:goal (and (got-the-treasure) (alive))))
-; plans: 10
-; known: 10
+; plans: 6
+; known: 6
