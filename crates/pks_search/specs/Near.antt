@@ -9,14 +9,8 @@ use Rattle.pks_terms.specs.Settling.{History, At}
 use Rattle.pks_terms.specs.Trees.{Acts}
 use Rattle.pks_terms.specs.Knowledge.{grounded, after_action}
 use Rattle.pks_laws_distance.specs.Runs.{MayBeAt}
-use Rattle.pks_search_distance.specs.Gained.{AreDeeds}
-use Rattle.pks_search_distance.specs.declared.deeds.Deeds.{Deeds}
 use Rattle.pks_search_witness.specs.declared.witness.Witness.{Witness}
 use Rattle.pks_search_witness.specs.Near.{world_in, is_beyond, IsCounted}
-
--- the ground actions are those of the problem
-abbrev pub AreItsDeeds : Problem → Deeds → Type 0
-AreItsDeeds p deeds = (w : World) → AreDeeds p deeds w
 
 -- the witness is a compatible world, and its bound holds
 pub record IsFirst (p : Problem) (x : Witness) : Type 0 where

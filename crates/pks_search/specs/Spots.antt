@@ -5,7 +5,8 @@ use Rattle.pks_terms.specs.Problems.{Problem}
 use Rattle.pks_terms.specs.Views.{problem_of}
 use Rattle.pks_search_nogoods.specs.Failing.{AreRight}
 use Rattle.pks_search.specs.Ready.{IsReady}
-use Rattle.pks_search.specs.Near.{AreItsDeeds, IfNear}
+use Rattle.pks_search_distance.specs.Remembered.{AreItsDeeds}
+use Rattle.pks_search.specs.Near.{IfNear}
 use Rattle.pks_search.specs.declared.spots.Spot.{Spot}
 use Rattle.pks_search.specs.declared.spots.Notes.{Notes}
 

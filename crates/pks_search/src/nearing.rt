@@ -4,7 +4,8 @@ ghost use Rattle.pks_terms.specs.Knowledge.{grounded, after_action};
 ghost use Rattle.pks_terms.specs.ValidProblems.{IsValidProblem};
 ghost use Rattle.pks_terms.specs.Views.{instance_of, problem_of};
 ghost use Rattle.pks_terms.specs.ChoiceViews.{choice_of, side_of};
-ghost use Rattle.pks_search.specs.Near.{AreItsDeeds, IsFirst, Becomes, is_far, is_tight, is_so, is_on};
+ghost use Rattle.pks_search_distance.specs.Remembered.{AreItsDeeds};
+ghost use Rattle.pks_search.specs.Near.{IsFirst, Becomes, is_far, is_tight, is_so, is_on};
 ghost use Rattle.pks_search_witness.specs.Near.{world_in, IsCounted};
 
 use pks_search_distance::Deeds;
@@ -45,10 +46,10 @@ impl Start {
         let Some(world) = witness_of(alloc, p)? else {
             return Ok(Start::nowhere());
         };
-        let Some(deeds) = Deeds::of(alloc, p)? else {
+        let Some(mut deeds) = Deeds::of(alloc, p)? else {
             return Ok(Start::nowhere());
         };
-        let first = Witness::of(alloc, p, &deeds, world, MOST)?;
+        let first = Witness::of(alloc, p, &mut deeds, world, MOST)?;
         Ok(Start {
             near: Some(first),
             deeds: Some(deeds),
@@ -62,15 +63,16 @@ fn after(
     alloc: Global,
     p: &Problem<'_>,
     x: &Witness,
-    deeds: &Deeds,
+    deeds: &mut Deeds,
     step: &Instance,
     room: u32,
 ) -> Result<Witness, AllocError>
     requires valid { IsValidProblem p.now }
     requires counted { IsCounted (problem_of p.now) x.now }
-    requires deeds { AreItsDeeds (problem_of p.now) deeds.now }
+    requires deeds { AreItsDeeds (problem_of p.now) deeds.old }
     ensures world { IfOk result (λ y. world_in y ≡ after_action (problem_of p.now) (world_in x.now) (grounded (world_in x.now) (instance_of step.now))) }
     ensures counted { IfOk result (IsCounted (problem_of p.now)) }
+    ensures deeds { AreItsDeeds (problem_of p.now) deeds.new }
 {
     if x.stays(p, step) {
         let same = x.share()?;
@@ -85,14 +87,15 @@ pub(crate) fn near_after(
     alloc: Global,
     p: &Problem<'_>,
     near: &Option<Witness>,
-    deeds: &Option<Deeds>,
+    deeds: &mut Option<Deeds>,
     step: &Instance,
     room: u32,
 ) -> Result<Option<Witness>, AllocError>
     requires valid { IsValidProblem p.now }
     requires counted { IfSome near.now (IsCounted (problem_of p.now)) }
-    requires deeds { IfSome deeds.now (AreItsDeeds (problem_of p.now)) }
-    ensures { IfOk result (Becomes (problem_of p.now) (instance_of step.now) near.now) }
+    requires deeds { IfSome deeds.old (AreItsDeeds (problem_of p.now)) }
+    ensures becomes { IfOk result (Becomes (problem_of p.now) (instance_of step.now) near.now) }
+    ensures deeds { IfSome deeds.new (AreItsDeeds (problem_of p.now)) }
 {
     let Some(x) = near else {
         return Ok(None);

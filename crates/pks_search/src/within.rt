@@ -195,7 +195,7 @@ fn best_by_action(
         return Ok(None);
     }
     let room = n.min(limit - own);
-    let after = near_after(alloc, p, spot.near, &notes.deeds, step, room)?;
+    let after = near_after(alloc, p, spot.near, &mut notes.deeds, step, room)?;
     if is_beyond(&after, room) {
         return Ok(None);
     }

@@ -3,3 +3,4 @@ pub mod Sound
 pub mod Growing
 pub mod Bounded
 pub mod Grounding
+pub mod Remembering

@@ -1,2 +1,3 @@
 pub mod Relaxed
 pub mod Gained
+pub mod Remembered

@@ -3,12 +3,13 @@ ghost use Rattle.std.specs.Prelude.{◌≡◌, ◌≤◌, ◌<◌, ◌+◌, ◌+
 ghost use Rattle.std.specs.List.{flat_map};
 ghost use Rattle.pks_terms.specs.Sets.{Each};
 ghost use Rattle.pks_terms.specs.Syntax.{Object};
-ghost use Rattle.pks_terms.specs.Worlds.{World};
 ghost use Rattle.pks_terms.specs.ValidProblems.{IsValidProblem, ArePlaced};
 ghost use Rattle.pks_terms.specs.Views.{object_of, inner_of, given_of, types_of, literals_in, query_of, schema_of, signature_of, problem_of};
 ghost use Rattle.pks_search_distance.specs.Relaxed.{asked_at, deed_with, deeds_from, all_deeds};
-ghost use Rattle.pks_search_distance.specs.Gained.{deed_of, AreDeeds};
+ghost use Rattle.pks_search_distance.specs.Gained.{deed_of};
+ghost use Rattle.pks_search_distance.specs.Remembered.{AreItsDeeds};
 
+use crate::counted::Counts;
 use pks_terms::ids::{ActId, ObjId, TypeId};
 use pks_terms::literal::Literal;
 use pks_terms::problem::{Problem, Signature};
@@ -27,10 +28,11 @@ pub(crate) struct Deed {
     pub(crate) effects: Vec<Effect>,
 }
 
-/// The ground actions of a problem.
+/// The ground actions of a problem, and the bounds that were counted by them.
 #[derive(Drop)]
 pub struct Deeds {
     pub(crate) deeds: Vec<Deed>,
+    pub(crate) counts: Counts,
 }
 
 /// Adds the literals that the queries ask for, with the instance's arguments put in.
@@ -202,13 +204,14 @@ impl Deeds {
     /// problem. The error is want of memory.
     pub fn of(alloc: Global, p: &Problem<'_>) -> Result<Option<Deeds>, AllocError>
         requires { IsValidProblem p.now }
-        ensures { IfOk result (λ o. IfSome o (λ x. (w : World) → AreDeeds (problem_of p.now) x w)) }
+        ensures { IfOk result (λ o. IfSome o (AreItsDeeds (problem_of p.now))) }
     {
         if count(alloc, p)? > MOST {
             return Ok(None);
         }
         let mut deeds = Vec::new(alloc);
         add_all_deeds(alloc, &p.signature, p.schemas.as_slice(), &mut deeds)?;
-        Ok(Some(Deeds { deeds }))
+        let counts = Counts::new(alloc)?;
+        Ok(Some(Deeds { deeds, counts }))
     }
 }

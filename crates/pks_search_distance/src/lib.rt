@@ -2,6 +2,7 @@
 //! false and what values a place may have only grow. `docs/DECISIONS.md` says what it is for.
 #![tactic(auto)]
 
+mod counted;
 pub mod deeds;
 mod gains;
 mod may;

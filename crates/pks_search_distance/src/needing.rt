@@ -8,12 +8,15 @@ ghost use Rattle.pks_laws_distance.specs.Levels.{Grows, IsBound};
 ghost use Rattle.pks_search_distance.specs.Relaxed.{deed_news, IsNewIn};
 ghost use Rattle.pks_terms.specs.ValidProblems.{ArePlaced};
 ghost use Rattle.pks_search_distance.specs.Gained.{chances_of, deed_of, AreDeeds};
+ghost use Rattle.pks_search_distance.specs.Remembered.{AreItsDeeds};
 
+use crate::counted::Bound;
 use crate::deeds::Deeds;
 use crate::gains::Gains;
 use pks_terms::problem::Problem;
 use pks_world::World;
 use std::alloc::{AllocError, Global};
+use std::rc::Rc;
 
 /// How much a level may take for a bound to be worth its time: for each ground action the square of the number of noted values.
 const MOST_WORK: usize = 200_000;
@@ -35,10 +38,8 @@ impl Deeds {
         Ok(grew)
     }
 
-    /// A bound on the actions that the world is away from the goal: no run of fewer leads to it, and where there is no bound none leads to
-    /// it at all. It is counted up to `most`. It asks for the ground actions of a problem, or all that may still be done from the world on.
-    /// The error is want of memory.
-    pub fn needs(
+    /// The bound, counted.
+    fn needs(
         &self,
         alloc: Global,
         p: &Problem<'_>,
@@ -66,5 +67,30 @@ impl Deeds {
             }
         }
         Ok(Some(most))
+    }
+
+    /// A bound on the actions that the world is away from the goal: no run of fewer leads to it, and where there is no bound none leads to
+    /// it at all. It is counted up to `most`, where it wasn't counted as far before. It asks for the ground actions of the problem. The
+    /// error is want of memory.
+    #[tactic(auto, using(crate::proofs::Remembering::with_table))]
+    pub fn bound(
+        &mut self,
+        alloc: Global,
+        p: &Problem<'_>,
+        w: &Rc<World>,
+        most: u32,
+    ) -> Result<Option<u32>, AllocError>
+        requires { AreItsDeeds (problem_of p.now) self.old }
+        ensures bound { IfOk result (IsBound (problem_of p.now) (world_of w.now.value)) }
+        ensures deeds { AreItsDeeds (problem_of p.now) self.new }
+    {
+        let world: &World = w;
+        let mark = world.mark();
+        if let Some(known) = self.counts.tells(mark, world, most) {
+            return Ok(known.needs);
+        }
+        let needs = self.needs(alloc, p, world, most)?;
+        self.counts.note(mark, w, Bound { needs, most });
+        Ok(needs)
     }
 }

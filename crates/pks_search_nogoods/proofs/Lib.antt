@@ -1,2 +1,3 @@
 pub mod Costs
 mod Serving
+mod Tables

@@ -1,5 +1,6 @@
--- What a table of failed searches says.
+-- What the tables of failed searches say.
 use Rattle.std.specs.Prelude.{ℕ, ◌≤◌, Contains}
+use Rattle.lru.specs.LruCache.{LruCache}
 use Rattle.pks_terms.specs.Problems.{Problem}
 use Rattle.pks_terms.specs.Settling.{History, At}
 use Rattle.pks_terms.specs.Trees.{Tree, cost, IsDerivedWithin}
@@ -14,6 +15,11 @@ HasNoTree p h n limit = (t : Tree) → IsDerivedWithin p (At h) n t × (cost p t
 abbrev pub IsRight : Problem → Failure → Type 0
 IsRight p x = HasNoTree p x.history x.depth x.limit
 
--- each entry of the table is right
-abbrev pub AreRight : Problem → Failures → Type 0
-AreRight p f = (mark : ℕ) (x : Failure) → Contains f.table.entries (mark, x) → IsRight p x
+-- each entry of a table is right
+abbrev pub AreRightIn : Problem → LruCache ℕ Failure → Type 0
+AreRightIn p table = (mark : ℕ) (x : Failure) → Contains table.entries (mark, x) → IsRight p x
+
+-- so in both tables
+pub record AreRight (p : Problem) (f : Failures) : Type 0 where
+  pub last : AreRightIn p f.last
+  pub fallen : AreRightIn p f.fallen

@@ -1,4 +1,4 @@
-//! The table of failed searches. It saves work and changes no answer.
+//! The tables of failed searches. They save work and change no answer.
 #![tactic(auto)]
 
 pub mod failures;

@@ -5,7 +5,7 @@ ghost use Rattle.pks_terms.specs.Knowledge.{grounded, after_action};
 ghost use Rattle.pks_terms.specs.Valid.{IsValid};
 ghost use Rattle.pks_terms.specs.Views.{term_of, conj_of, instance_of, problem_of};
 ghost use Rattle.pks_world.specs.Contents.{world_of};
-ghost use Rattle.pks_search_distance.specs.Gained.{AreDeeds};
+ghost use Rattle.pks_search_distance.specs.Remembered.{AreItsDeeds};
 ghost use Rattle.pks_search_witness.specs.Near.{world_in, is_beyond, IsCounted};
 
 use crate::idling::is_idle;
@@ -32,16 +32,17 @@ impl Witness {
     pub fn of(
         alloc: Global,
         p: &Problem<'_>,
-        deeds: &Deeds,
+        deeds: &mut Deeds,
         world: World,
         most: u32,
     ) -> Result<Witness, AllocError>
-        requires { AreDeeds (problem_of p.now) deeds.now (world_of world) }
+        requires { AreItsDeeds (problem_of p.now) deeds.old }
         ensures world { IfOk result (λ x. world_in x ≡ world_of world) }
         ensures counted { IfOk result (IsCounted (problem_of p.now)) }
+        ensures deeds { AreItsDeeds (problem_of p.now) deeds.new }
     {
-        let needs = deeds.needs(alloc, p, &world, most)?;
         let world = Rc::new(alloc, world)?;
+        let needs = deeds.bound(alloc, p, &world, most)?;
         Ok(Witness { world, needs })
     }
 
@@ -50,14 +51,15 @@ impl Witness {
         &self,
         alloc: Global,
         p: &Problem<'_>,
-        deeds: &Deeds,
+        deeds: &mut Deeds,
         step: &Instance,
         most: u32,
     ) -> Result<Witness, AllocError>
         requires valid { IsValid (problem_of p.now) }
-        requires deeds { AreDeeds (problem_of p.now) deeds.now (after_action (problem_of p.now) (world_in self.now) (grounded (world_in self.now) (instance_of step.now))) }
+        requires deeds { AreItsDeeds (problem_of p.now) deeds.old }
         ensures world { IfOk result (λ x. world_in x ≡ after_action (problem_of p.now) (world_in self.now) (grounded (world_in self.now) (instance_of step.now))) }
         ensures counted { IfOk result (IsCounted (problem_of p.now)) }
+        ensures deeds { AreItsDeeds (problem_of p.now) deeds.new }
     {
         let next = self.world.apply(p, &grounded(&self.world, step))?;
         Witness::of(alloc, p, deeds, next, most)

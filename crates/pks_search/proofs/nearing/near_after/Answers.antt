@@ -1,8 +1,8 @@
 use Rattle.std.proofs.Common.{subst}
 use Rattle.std.specs.Option.{IfSome}
 use Rattle.pks_terms.specs.Views.{problem_of}
+use Rattle.pks_search_distance.specs.Remembered.{AreItsDeeds}
 use Rattle.pks_search_witness.specs.Near.{IsCounted}
-use Rattle.pks_search.specs.Near.{AreItsDeeds}
 use Rattle.pks_search.proofs.nearing.near_after.Goals as goal
 
 pub after-requires-clause-counted : goal.after-requires-clause-counted

@@ -385,7 +385,7 @@ best_by_action-returns-then-is_beyond-clause-best t c =
     let r = c.requires.spot.ready in
     let far : is_far c.in_ok-after.after (min c.args.n (c.args.limit - c.action_cost-own.result)) ≡ true = sym (c.is_beyond.ensures ∙ ap (is_far c.in_ok-after.after) c.min-room.ensures) ∙ c.if-is_beyond.true in
     none_acting p r.justified (valid_typed p r.valid.says) r.valid.says c.args.spot.now.history.now (instance_of c.args.step.now) c.args.spot.now.near.now c.in_ok-after.after c.args.n c.args.limit c.action_cost-own.result
-    c.requires.chosen c.requires.spot.near c.in_ok-after.ensures far c.action_cost-own.ensures c.if-limit-own.false
+    c.requires.chosen c.requires.spot.near c.in_ok-after.ensures.becomes far c.action_cost-own.ensures c.if-limit-own.false
 
 pub best_by_action-returns-then-barren-clause-best : goal.best_by_action-returns-then-barren-clause-best
 best_by_action-returns-then-barren-clause-best t c =
@@ -395,7 +395,7 @@ best_by_action-returns-then-barren-clause-best t c =
     let i = instance_of c.args.step.now in
     let after = c.in_ok-after.after in
     let s = valid_typed p r.valid.says in
-    let near : IfNearAfter p h i after = acted_near p r.justified s h i c.args.spot.now.near.now after c.requires.chosen c.requires.spot.near c.in_ok-after.ensures in
+    let near : IfNearAfter p h i after = acted_near p r.justified s h i c.args.spot.now.near.now after c.requires.chosen c.requires.spot.near c.in_ok-after.ensures.becomes in
     let fails : LastFails p h c.is_tight-tight.result (c.args.n + 1) c.args.limit = c.in_ok-barren.ensures.fails c.if-barren.true in
     let tight : is_tight after (min c.args.n (c.args.limit - c.action_cost-own.result)) ≡ true = sym (c.is_tight-tight.ensures ∙ ap (is_tight after) c.min-room.ensures) ∙ fails.tight_is in
     none_straight p r.justified s r.valid.says fails.plain h i after c.args.n c.args.limit c.action_cost-own.result near tight fails.none c.action_cost-own.ensures c.if-limit-own.false
@@ -405,8 +405,8 @@ best_by_action-best_after-requires t c =
     let p = problem_of c.args.p.now in
     let r = c.requires.spot.ready in
     let less : c.args.n * 32 + 3 < t = omega (arith, c.decreases) in
-    let near = acted_near p r.justified (valid_typed p r.valid.says) c.args.spot.now.history.now (instance_of c.args.step.now) c.args.spot.now.near.now c.in_ok-after.after c.requires.chosen c.requires.spot.near c.in_ok-after.ensures in
-    (less, (c.requires.spot, (c.requires.chosen, (record { deeds = c.requires.notes.deeds; failures = c.in_ok-barren.ensures.right }, near))))
+    let near = acted_near p r.justified (valid_typed p r.valid.says) c.args.spot.now.history.now (instance_of c.args.step.now) c.args.spot.now.near.now c.in_ok-after.after c.requires.chosen c.requires.spot.near c.in_ok-after.ensures.becomes in
+    (less, (c.requires.spot, (c.requires.chosen, (record { deeds = c.in_ok-after.ensures.deeds; failures = c.in_ok-barren.ensures.right }, near))))
 
 pub best_unmet-best_of_rest-requires : goal.best_unmet-best_of_rest-requires
 best_unmet-best_of_rest-requires t c =

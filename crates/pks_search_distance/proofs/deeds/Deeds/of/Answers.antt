@@ -14,7 +14,10 @@ pub returns : goal.returns
 returns c =
     let p = problem_of c.args.p.now in
     let all : map deed_of c.add_all_deeds.new.to.items ≡ flat_map (all_deeds p.signature) p.schemas = c.in_ok-add_all_deeds.ensures.says ∙ (λ i. map deed_of (c.new-deeds.ensures.items i) ++ flat_map (all_deeds p.signature) (map schema_of (c.as_slice.ensures i))) in
-    λ w. record {
-      placed = c.in_ok-add_all_deeds.ensures.placed;
-      listed = λ n v i l m. ⊎_elim (λ e. inl e) (λ k. inr (subst (IsIn (deed_of_instance p i)) (sym all) k)) (done_in p v i m);
+    record {
+      listed = λ w. record {
+        placed = c.in_ok-add_all_deeds.ensures.placed;
+        listed = λ n v i l m. ⊎_elim (λ e. inl e) (λ k. inr (subst (IsIn (deed_of_instance p i)) (sym all) k)) (done_in p v i m);
+      };
+      counted = c.in_ok-counts.ensures p;
     }

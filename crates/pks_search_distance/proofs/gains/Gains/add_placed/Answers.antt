@@ -1,4 +1,4 @@
-use Rattle.std.proofs.Common.{ℕ, ◌++◌, List, map, ap, ◌∙◌}
+use Rattle.std.proofs.Common.{◌++◌, map, ap, ◌∙◌}
 use Rattle.pks_terms.specs.Syntax.{Term}
 use Rattle.pks_terms.specs.Views.{object_of}
 use Rattle.pks_world.specs.Contents.{world_of}

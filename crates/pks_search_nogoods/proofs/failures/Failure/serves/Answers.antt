@@ -1,4 +1,4 @@
-use Rattle.std.proofs.Common.{◌≡◌, ◌≤◌, min, true, arith}
+use Rattle.std.proofs.Common.{◌≤◌, min, arith}
 use Rattle.pks_search_nogoods.proofs.Serving.{served}
 use Rattle.pks_search_nogoods.proofs.failures.Failure.serves.Goals as goal
 

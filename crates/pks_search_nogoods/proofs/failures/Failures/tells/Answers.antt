@@ -1,20 +1,13 @@
-use Rattle.std.proofs.Common.{◌≡◌, ℕ, nat_eq, Contains, Some, ap, subst, sym, ◌∙◌}
-use Rattle.lru.proofs.CallerLemmas.{Contains-promoted, Contains-lookup}
-use Rattle.pks_search_nogoods.specs.Failing.{IsRight, AreRight}
-use Rattle.pks_search_nogoods.specs.declared.failures.Failure.{Failure}
-use Rattle.std.specs.Option.{option_copied}
 use Rattle.pks_search_nogoods.proofs.failures.Failures.tells.Goals as goal
 
-pub returns-in-Some-clause-told : goal.returns-in-Some-clause-told
-returns-in-Some-clause-told c = λ yes p v right.
-    let found = Contains-lookup (nat_eq c.mark_of-mark.result) c.promote.new.self.entries c.in-Some.failure.now (sym c.peek.ensures ∙ ap option_copied c.in-Some.is) in
-    let before = Contains-promoted (nat_eq c.mark_of-mark.result) c.args.self.now.table.entries (found.0, c.in-Some.failure.now) (subst (λ y. Contains y.entries (found.0, c.in-Some.failure.now)) c.promote.ensures.entries found.1) in
-    c.serves.ensures yes p v (right found.0 c.in-Some.failure.now before)
+pub returns-then-tells_in-clause-told : goal.returns-then-tells_in-clause-told
+returns-then-tells_in-clause-told c = λ yes p v right. c.tells_in.ensures.told c.if-tells_in.true p v right.last
 
-pub returns-in-Some-clause-right : goal.returns-in-Some-clause-right
-returns-in-Some-clause-right c = λ p right mark x there.
-    right mark x (Contains-promoted (nat_eq c.mark_of-mark.result) c.args.self.now.table.entries (mark, x) (subst (λ y. Contains y.entries (mark, x)) c.promote.ensures.entries there))
+pub returns-then-tells_in-clause-right : goal.returns-then-tells_in-clause-right
+returns-then-tells_in-clause-right c = λ p right. record { last = c.tells_in.ensures.right p right.last; fallen = right.fallen }
 
-pub returns-in-None-clause-right : goal.returns-in-None-clause-right
-returns-in-None-clause-right c = λ p right mark x there.
-    right mark x (Contains-promoted (nat_eq c.mark_of-mark.result) c.args.self.now.table.entries (mark, x) (subst (λ y. Contains y.entries (mark, x)) c.promote.ensures.entries there))
+pub returns-clause-told : goal.returns-clause-told
+returns-clause-told c = λ yes p v right. c.tells_in-2.ensures.told yes p v right.fallen
+
+pub returns-clause-right : goal.returns-clause-right
+returns-clause-right c = λ p right. record { last = c.tells_in.ensures.right p right.last; fallen = c.tells_in-2.ensures.right p right.fallen }

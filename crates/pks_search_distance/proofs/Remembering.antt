@@ -1,0 +1,20 @@
+-- The table beside the ground actions, and what stands after a call.
+use Rattle.std.proofs.Common.{◌⊎◌, inl, inr, Result, Ok, Err, OnOk, OnErr}
+use Rattle.pks_terms.specs.Worlds.{World}
+use Rattle.pks_terms.specs.Problems.{Problem}
+use Rattle.pks_search_distance.specs.declared.counted.Counts.{Counts}
+use Rattle.pks_search_distance.specs.declared.deeds.Deeds.{Deeds}
+use Rattle.pks_search_distance.specs.Gained.{AreDeeds}
+use Rattle.pks_search_distance.specs.Remembered.{AreRight, AreItsDeeds}
+
+-- the ground actions are what they are, whatever the table says
+pub beside : (p : Problem) (x : Deeds) (t : Counts) (w : World) → AreDeeds p x w → AreDeeds p (record x { counts = t }) w
+beside p x t w d = record { placed = d.placed; listed = d.listed }
+
+pub with_table : (p : Problem) (x : Deeds) (t : Counts) → AreItsDeeds p x → AreRight p t → AreItsDeeds p (record x { counts = t })
+with_table p x t d r = record { listed = λ w. beside p x t w (d.listed w); counted = r }
+
+-- what stands after either end
+pub either : {X E : Type 0} (r : Result X E) (A B : Type 0) → OnOk r A → OnErr r B → A ⊎ B
+either (Ok x) A B a b = inl a
+either (Err e) A B a b = inr b
