@@ -18,7 +18,7 @@ from .search import Planner, Tree, plan_text, recall_text
 from .terms import Conjunction
 from .worlds import compatible_worlds, judge
 
-SECONDS = 600
+SECONDS = 60
 """The time that a call of the program may take."""
 
 

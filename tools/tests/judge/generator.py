@@ -240,7 +240,13 @@ class Maker:
         self.made.append(aim)
         self.asked.append(condition)
         self.aims += [('k', aim)] * 4
-        return [('action', 'try', ('effects', ('when', (condition,), target), *self.sometimes())),
+        effects: List[Expression] = [('when', (condition,), target)]
+        if self.may(0.4):
+            beside = self.literal([])
+            other = self.chance.choice([target, target, self.undoing(target)])
+            effects.insert(self.chance.choice([0, 1]), ('when', (beside,), other))
+            self.asked.append(beside)
+        return [('action', 'try', ('effects', *effects, *self.sometimes())),
                 ('action', 'look', ('effects', *self.sometimes()), ('senses', ('sense', made))),
                 *(('action', f'way{n}', ('pre', ('k', known)), ('effects', *self.sometimes(), ('set', aim)))
                   for n, known in enumerate([condition, opposite(condition)]))]
@@ -295,6 +301,55 @@ class Maker:
         return [('action', 'sweep', ('effects', *self.sometimes(), ('clear', pattern), *self.sometimes())),
                 ('action', 'fill', ('effects', fill, ('set', aim), *self.sometimes())),
                 ('action', 'go', ('pre', ('k', ('not', atom))), ('effects', ('set', aim), *self.sometimes()))]
+
+    def undoing(self, target: Expression) -> Expression:
+        """An effect on the same predicate of the opposite sign."""
+        if target[0] == 'set' and self.may(0.5):
+            return ('clear', (target[1][0], *('_' if self.may(0.6) else term for term in target[1][1:])))
+        return ('unset' if target[0] == 'set' else 'set', target[1])
+
+    def knowing(self) -> List[Expression]:
+        """A first step, and then ways that need to know on which side of what will be known one is."""
+        first, aim = self.false_atom(), self.false_atom()
+        literals = [self.literal([]) for _ in range(self.chance.choice([1, 1, 2]))]
+        if self.may(0.5):
+            self.known.append(('kw', *literals))
+        elif self.may(0.5):
+            group = [*(self.true_one(literal) for literal in literals[:1]),
+                     *(opposite(self.true_one(self.atom([]))) for _ in range(2))]
+            self.known += [('kx', *group)] if len(set(map(written, group))) == 3 else []
+            literals = [self.chance.choice(group)]
+        self.made += [first, aim]
+        self.aims += [('k', aim)] * 4
+        sense = [('senses', ('sense', *literals))] if self.may(0.5) else []
+        ways = [*literals[:1], opposite(literals[0]), *map(opposite, literals[1:])]
+        found: List[Expression] = [('action', 'first', ('effects', ('set', first), *self.sometimes()), *sense)]
+        for n, known in enumerate(ways):
+            pre = ('pre', ('k', first), ('k', known))
+            found.append(('action', f'way{n}', pre, ('effects', ('set', aim), *self.sometimes())))
+        return found
+
+    def holding(self) -> List[Expression]:
+        """A value that is known from the start, and is used behind a step that may change it."""
+        if not self.declared.functions:
+            return self.knowing()
+        found = self.reading()
+        place = found[0][-1][1][1]
+        self.known.append(('kv', place))
+        step = self.false_atom()
+        other = self.some_place([])
+        result = self.declared.functions[str(other[0])][1]
+        effects: List[Expression] = [('set', step)]
+        if self.may(0.5):
+            effects.append(('assign', other, self.term(result, [])))
+        self.known += [('kf', ('not', ('=', place, thing))) for thing in self.other_values(place)[:1]]
+        use = (*found[1][:3], ('pre', ('k', step)), found[1][-1])
+        return [('action', 'step', ('effects', *effects)), use, *found[:self.may(0.4)]]
+
+    def other_values(self, place: Expression) -> List[str]:
+        """The objects of a place's type that aren't its value in the world."""
+        things = self.declared.objects_of(self.declared.functions[str(place[0])][1])
+        return [thing for thing in things if thing != self.declared.value(place)]
 
     def sometimes(self) -> List[Expression]:
         """Sometimes an effect."""
@@ -363,9 +418,9 @@ class Maker:
         if kind < 0.2:
             self.depth = 4
             return self.learning()
-        if kind < 0.55:
+        if kind < 0.65:
             self.depth = 3
-            found = self.chance.choice([self.reading, self.chain, self.sweeping])()
+            found = self.chance.choice([self.reading, self.chain, self.sweeping, self.knowing, self.holding])()
             return found + [self.action(0)] * self.may(0.4)
         return [self.action(n) for n in range(self.chance.choice([1, 2, 2, 3]))]
 
