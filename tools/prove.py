@@ -24,7 +24,7 @@ import threading
 import time
 from importlib.machinery import SourceFileLoader
 from importlib.util import module_from_spec, spec_from_loader
-from typing import IO, Any, Callable, Dict, List, NoReturn, Optional, Sequence
+from typing import IO, Callable, Dict, List, NoReturn, Optional, Protocol, Sequence, Tuple, cast
 
 sys.dont_write_bytecode = True
 sys.path.insert(0, os.path.dirname(os.path.realpath(__file__)))
@@ -56,6 +56,90 @@ EARLY = 300
 
 # Seconds for those crates to begin that begin with another.
 MOMENT = 0.2
+
+
+Key = Tuple[str, str]
+"""A crate's name, and what is done with it: `proof` or `tests`."""
+
+Given = Dict[Key, object]
+"""What each task gave."""
+
+Task = Tuple[Sequence[Key], int, int, Callable[[Given, int], object]]
+"""What it waits for, its work, its memory, and the call that does it with what was given and so many processes."""
+
+
+class Crate(Protocol):
+    """What this takes of a crate, as rt knows it."""
+
+    name: str
+    folder: str
+    out: IO[str]
+
+    def below(self) -> "List[Crate]":
+        """The libraries below it, each after those that it uses."""
+
+    def is_built(self) -> bool:
+        """Whether its library stands in its folder."""
+
+    def build_rlib(self, flags: Sequence[str], anew: bool) -> int:
+        """Proves its library, and gives the status."""
+
+
+class CrateType(Protocol):
+    """The class of rt's crates: the steps of the gate, which are replaced here."""
+
+    ci: Callable[[Crate, Sequence[str], bool], int]
+    compile_by: Callable[[Crate, str, Sequence[str], str], int]
+    has_tests: Callable[[Crate], bool]
+
+
+class KeptType(Protocol):
+    """The class of what rt keeps of earlier proofs."""
+
+    give: "Callable[[KeptType, Crate, bool, str], bool]"
+
+
+class Library(Protocol):
+    """What this takes of the module of rt's own."""
+
+    Crate: Callable[[str, Optional[str], Dict[str, Crate]], Crate]
+
+    def root_above(self, folder: str) -> Optional[str]:
+        """The repository's root at or above a folder."""
+
+    def lock(self, crates: Sequence[Crate]) -> List[int]:
+        """Keeps other commands of rt out of these crates' folders until what it gives is closed."""
+
+    def guarded(self) -> List[str]:
+        """Has all that rt starts end when this ends."""
+
+
+class Toolchain(Protocol):
+    """The toolchain's command as a module: what this calls of it, and what it replaces."""
+
+    STORE: str
+    Crate: CrateType
+    Kept: KeptType
+    rtlib: Library
+    edits_of: Callable[[Crate], Tuple[List[str], List[str]]]
+    in_lanes: Callable[[Dict[Key, Task]], Given]
+    run: Callable[..., bool]
+    say: Callable[..., None]
+
+    def free(self) -> int:
+        """The free memory in bytes."""
+
+    def main(self, words: Sequence[str]) -> int:
+        """Runs a command of rt, and gives its status."""
+
+    def need(self, crate: Crate) -> int:
+        """The memory that a crate's proofs are likely to take."""
+
+    def processors(self) -> int:
+        """How many processors there are."""
+
+    def share_work(self, is_alone: bool) -> None:
+        """Shares what is kept with other checkouts."""
 
 
 def say(text: str) -> None:
@@ -94,13 +178,13 @@ class Progress:
         sys.stderr.flush()
 
 
-def load_rt() -> Optional[Any]:
+def load_rt() -> Optional[Toolchain]:
     """The toolchain's command as a module, or None where it isn't of the kit that README.md names."""
     sys.dont_write_bytecode = True
     loader = SourceFileLoader("rt", os.path.realpath(shutil.which("rt")))
     module = module_from_spec(spec_from_loader("rt", loader))
     loader.exec_module(module)
-    return module if all(hasattr(module, name) for name in NEEDED) else None
+    return cast(Toolchain, module) if all(hasattr(module, name) for name in NEEDED) else None
 
 
 def seconds(name: str) -> int:
@@ -139,18 +223,18 @@ class Room:
 class Lanes:
     """The scheduler of `rt ci`, told what crates take; and how far it is."""
 
-    def __init__(self, rt: Any) -> None:
+    def __init__(self, rt: Toolchain) -> None:
         self.rt, self.real, self.turn = rt, rt.in_lanes, threading.Lock()
         self.begun, self.done, self.progress = 0, 0, Progress([], 1)
 
-    def run(self, tasks: Dict[Any, Any]) -> Any:
+    def run(self, tasks: Dict[Key, Task]) -> Given:
         """Runs the tasks by the scheduler, with what each crate takes."""
         self.progress = Progress([name for name, what in tasks if what == "proof"], self.rt.processors())
         self.progress.show()
         work = lambda key: seconds(key[0]) if key[1] == "proof" else 0
-        return self.real({key: (waits, work(key), *rest) for key, (waits, _, *rest) in tasks.items()})
+        return self.real({key: (waits, work(key), memory, call) for key, (waits, _, memory, call) in tasks.items()})
 
-    def flags_of(self, crate: Any, flags: Sequence[str]) -> List[str]:
+    def flags_of(self, crate: Crate, flags: Sequence[str]) -> List[str]:
         """How many processes prove the crate: as many as the scheduler says, and those that no other crate can use."""
         # (what begins with it has begun)
         time.sleep(MOMENT)
@@ -159,7 +243,7 @@ class Lanes:
         jobs = int(flags[1])
         return ["--jobs", str(max(jobs, 1 + idle) if 2 * self.rt.need(crate) < self.rt.free() else jobs)]
 
-    def prove(self, crate: Any, flags: Sequence[str], call: Callable[[List[str]], int]) -> int:
+    def prove(self, crate: Crate, flags: Sequence[str], call: Callable[[List[str]], int]) -> int:
         """Proves the crate by this call, and tells how many are done; returns the call's status."""
         with self.turn:
             self.begun += 1
@@ -171,7 +255,7 @@ class Lanes:
             self.progress.show(ends=bool(status))
         return status
 
-    def skip(self, crate: Any) -> None:
+    def skip(self, crate: Crate) -> None:
         """Counts a crate that was proved before."""
         with self.turn:
             self.begun, self.done = self.begun + 1, self.done + 1
@@ -179,24 +263,24 @@ class Lanes:
             self.progress.show()
 
 
-def build_program(rt: Any, room: Room, name: str) -> None:
+def build_program(rt: Toolchain, room: Room, name: str) -> None:
     """Runs `rt ci CRATE` without edits and tests, and takes the program, as LLVM builds it, from the copy that it works on."""
     lanes, prove, compile_by, give, run, tell = Lanes(rt), rt.Crate.ci, rt.Crate.compile_by, rt.Kept.give, rt.run, rt.say
     to, said = f"{TOP}/crates/{name}/out", tempfile.TemporaryFile("w+", errors="replace")
 
-    def proving(crate, flags, tests):
+    def proving(crate: Crate, flags: Sequence[str], tests: bool) -> int:
         return lanes.prove(crate, flags, lambda flags: prove(crate, flags, tests))
 
-    def compiling(crate, backend, words, to):
+    def compiling(crate: Crate, backend: str, words: Sequence[str], to: str) -> int:
         return compile_by(crate, backend, words, to) if backend == "llvm" else 0
 
-    def giving(kept, crate, tests, key):
+    def giving(kept: KeptType, crate: Crate, tests: bool, key: str) -> bool:
         is_given = give(kept, crate, tests, key)
         if is_given:
             lanes.skip(crate)
         return is_given
 
-    def running(crate, tests, ending=""):
+    def running(crate: Crate, tests: bool, ending: str = "") -> bool:
         is_well = run(crate, tests, ending)
         if is_well and not ending:
             os.makedirs(to, exist_ok=True)
@@ -204,7 +288,7 @@ def build_program(rt: Any, room: Room, name: str) -> None:
             os.replace(f"{to}/{name}.new", f"{to}/{name}")
         return is_well
 
-    def telling(text, out=None):
+    def telling(text: str, out: Optional[IO[str]] = None) -> None:
         tell(text, out)
         room.end_unless("NOT PROVED" in text, said)
 
@@ -220,7 +304,7 @@ def build_program(rt: Any, room: Room, name: str) -> None:
     room.end_unless(status, said)
 
 
-def build_libraries(rt: Any, room: Room, name: str) -> None:
+def build_libraries(rt: Toolchain, room: Room, name: str) -> None:
     """Proves the libraries below the crate as `rt lib` does, and keeps them in their folders."""
     folder, lanes = f"{TOP}/crates/{name}", Lanes(rt)
     crate = rt.rtlib.Crate(folder, rt.rtlib.root_above(folder), {})
@@ -229,18 +313,18 @@ def build_libraries(rt: Any, room: Room, name: str) -> None:
     rt.share_work(True)
     left = [it for it in crate.below() if not it.is_built()]
 
-    def prove(it, jobs):
+    def prove(it: Crate, jobs: int) -> None:
         with tempfile.TemporaryFile("w+", errors="replace") as it.out:
             status = lanes.prove(it, ["--jobs", str(jobs)], lambda flags: it.build_rlib(flags, anew=False))
             room.end_unless(status, it.out)
 
-    tasks = {}
+    tasks: Dict[Key, Task] = {}
     for it in left:
         waits = [(below.name, "proof") for below in it.below() if below in left]
         tasks[it.name, "proof"] = waits, 0, rt.need(it), lambda given, jobs, it=it: prove(it, jobs)
     lanes.run(tasks)
-    for it in held:
-        os.close(it)
+    for number in held:
+        os.close(number)
 
 
 def main(words: List[str]) -> int:

@@ -1,0 +1,1 @@
+"""Judges proofs that the program prints, by `docs/REASONS.md` alone."""

@@ -1,10 +1,10 @@
 """Paths through a tree: what was done, and which sides were taken."""
 
-from typing import Any, Iterable, Tuple
+from typing import Iterable, Tuple, Union
 
-from explainlib.problem import Effect
+from explainlib.problem import Effect, Literals, Term
 
-Side = Tuple[int, str, Any, Any]
+Side = Tuple[int, str, Union[Literals, Term], Union[str, Term]]
 """A moment, `branch` or `cases`, what is chosen on, and the side."""
 
 
@@ -23,6 +23,6 @@ class Path:
         """The path with an action more."""
         return Path(self.effects + (tuple(effects),), self.sides)
 
-    def taken(self, kind: str, on: Any, side: Any) -> 'Path':
+    def taken(self, kind: str, on: Union[Literals, Term], side: Union[str, Term]) -> 'Path':
         """The path with a side more."""
         return Path(self.effects, self.sides + ((self.moment(), kind, on, side),))

@@ -8,6 +8,7 @@ of an equation first. A slot of a pattern is a term or WILD. A fact is ('lit', l
 
 from typing import Any, Dict, Iterable, List, Optional, Sequence, Tuple
 
+from pkslib import Expression
 from pkslib import expressions as forms
 
 Term = Tuple[Any, ...]
@@ -139,7 +140,7 @@ class Problem:
         self.goals = [self.literal(aim[1]) for aim in parts['goal'] if aim[0] == 'k']
 
     @staticmethod
-    def three(text: str) -> Tuple[Any, ...]:
+    def three(text: str) -> Tuple[Expression, Expression, Expression]:
         """The version, the domain and the problem; ValueError where one is missing."""
         version, domain, problem = forms(text)[:3]
         return version, domain, problem
@@ -149,18 +150,18 @@ class Problem:
         """Names with their numbers, in the order of declaration."""
         return {name: n for n, name in enumerate(names)}
 
-    def read_types(self, rows: Sequence[Any]) -> Tuple[Names, List[Optional[int]]]:
+    def read_types(self, rows: Sequence[Expression]) -> Tuple[Names, List[Optional[int]]]:
         """The types by their names, and the parent of each."""
         names = self.numbers(row if isinstance(row, str) else row[0] for row in rows)
         parents = [None if isinstance(row, str) else names[row[1]] for row in rows]
         return names, parents
 
-    def read_objects(self, rows: Sequence[Any]) -> Tuple[Names, List[int]]:
+    def read_objects(self, rows: Sequence[Expression]) -> Tuple[Names, List[int]]:
         """The objects by their names, and the type of each."""
         named = [(name, self.types[row[0]]) for row in rows for name in row[1:]]
         return self.numbers(name for name, _ in named), [kind for _, kind in named]
 
-    def read_action(self, part: Any) -> Action:
+    def read_action(self, part: Expression) -> Action:
         """An action."""
         sections = {row[0]: row[1:] for row in part[2:]}
         names = self.numbers(row[0] for row in sections.get('params', []))
@@ -168,7 +169,7 @@ class Problem:
         effects = [self.read_effect(e, names) for e in sections.get('effects', [])]
         return Action(needed, effects)
 
-    def read_effect(self, form: Any, names: Names) -> Effect:
+    def read_effect(self, form: Expression, names: Names) -> Effect:
         """An effect, over parameters with these names."""
         conditions = []
         if form[0] == 'when':
@@ -178,7 +179,7 @@ class Problem:
             return Effect(conditions, 'assign', tuple(self.term(t, names) for t in form[1:]))
         return Effect(conditions, form[0], self.pattern(form[1], names))
 
-    def read_item(self, form: Any) -> Optional[Fact]:
+    def read_item(self, form: Expression) -> Optional[Fact]:
         """A known literal, a group or the pattern of a region, or nothing where it is no fact."""
         if form[0] == 'kf':
             return ('lit', self.literal(form[1]))
@@ -190,7 +191,7 @@ class Problem:
 
     # ---- parts, in a file and in printed text
 
-    def term(self, form: Any, names: Optional[Names] = None) -> Term:
+    def term(self, form: Expression, names: Optional[Names] = None) -> Term:
         """A term, over parameters with these names."""
         if isinstance(form, tuple):
             return (2, self.functions[form[0]], tuple(self.term(t, names) for t in form[1:]))
@@ -198,12 +199,12 @@ class Problem:
             return (1, (names or {})[form])
         return (0, self.objects[form])
 
-    def pattern(self, form: Any, names: Optional[Names] = None) -> Pattern:
+    def pattern(self, form: Expression, names: Optional[Names] = None) -> Pattern:
         """A pattern or an atom."""
         slots = tuple(WILD if t == '_' else self.term(t, names) for t in form[1:])
         return (self.predicates[form[0]], slots)
 
-    def literal(self, form: Any, names: Optional[Names] = None, denied: bool = False) -> Literal:
+    def literal(self, form: Expression, names: Optional[Names] = None, denied: bool = False) -> Literal:
         """A literal, or the negation of one."""
         if form[0] == 'not':
             return self.literal(form[1], names, True)
@@ -211,7 +212,7 @@ class Problem:
             return equation(self.term(form[1], names), self.term(form[2], names), denied)
         return (0,) + self.pattern(form, names) + (denied,)
 
-    def fact(self, form: Any) -> Fact:
+    def fact(self, form: Expression) -> Fact:
         """A literal, a group `(kx ..)` or a region `(lcw ..)`, as they are printed."""
         if form[0] == 'kx' and 'kx' not in self.predicates:
             return ('kx', tuple(self.literal(l) for l in form[1:]))

@@ -1,6 +1,6 @@
 """The reasons of `docs/REASONS.md`: when a line is allowed, and when a proof is accepted."""
 
-from typing import Any, Callable, Dict, Iterator, List, NamedTuple, Optional, Sequence, Tuple
+from typing import Callable, Dict, Iterator, List, NamedTuple, Optional, Sequence, Tuple, TypeVar
 
 from explainlib.paths import Path
 from explainlib.problem import (WILD, Effect, Fact, Literal, Literals, Pattern, Problem, Target, Term, Terms,
@@ -217,7 +217,10 @@ def literal_replaced(cited: Cited, moment: int, k: Literal, l: Literal) -> bool:
             or one_of_each(cited, moment, k[1:3], (l[2], l[1])))
 
 
-def without(xs: Sequence[Any], i: int) -> Tuple[Any, ...]:
+Part = TypeVar('Part')
+
+
+def without(xs: Sequence[Part], i: int) -> Tuple[Part, ...]:
     """All but the one at this place."""
     return (*xs[:i], *xs[i + 1:])
 

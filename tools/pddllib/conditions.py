@@ -224,6 +224,8 @@ def literal_alternatives(form: Form, scope: Scope, positive: bool) -> Alternativ
         raise Refusal(form, f'`{form.head()}` can\'t stand here',
                       'What is known may be asked by a precondition or the goal alone, outside of '
                       '`or`, `not` and quantifiers.')
+    if form.head() == 'preference' and not scope.declared.names.find('predicate', 'preference'):
+        raise Refusal(form, 'preferences can\'t be said', 'Ask for what is preferred, or take it out.')
     found = equation(form, scope) if form.head() == '=' else atom(form, scope)
     if isinstance(found, bool):
         return [[]] if found == positive else []
@@ -268,6 +270,14 @@ def quantified(form: Form) -> Tuple[List[Form], Form]:
 
 
 # Queries
+
+class NeverTrue(Refusal):
+    """A condition that is never true."""
+
+
+class OneOf(Refusal):
+    """A goal that asks for one of several alternatives."""
+
 
 class Queries:
     """What a precondition or a goal asks, each as the planner's format has it."""
@@ -315,17 +325,21 @@ class Queries:
         """Takes a condition, each of its literals as known."""
         found = alternatives(form, scope)
         if not found:
-            raise Refusal(form, f'`{form.shown()}` is never true', 'Take it out.')
+            raise NeverTrue(form, f'`{form.shown()}` is never true', 'Take it out.')
         for literal in found[self.picked(form, len(found))]:
-            self.literals.append(literal)
-            self.add(f'(k {literal})')
+            self.literal(literal)
+
+    def literal(self, literal: Literal) -> None:
+        """Takes a literal as known."""
+        self.literals.append(literal)
+        self.add(f'(k {literal})')
 
     def picked(self, form: Form, number: int) -> int:
         """Which of so many alternatives is taken; a goal can have only one."""
         if number == 1:
             return 0
         if self.what == 'goal':
-            raise Refusal(form, f'a goal can\'t ask for one of {number} alternatives',
+            raise OneOf(form, f'a goal can\'t ask for one of {number} alternatives',
                           'Add an action for each, which sets a fact, and ask for that fact.')
         self.counts.append(number)
         return self.picks[len(self.counts) - 1] if len(self.counts) <= len(self.picks) else 0

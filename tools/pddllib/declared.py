@@ -1,10 +1,12 @@
 """What a domain and a problem declare: types, objects, predicates, functions."""
 
 import itertools
-from typing import TYPE_CHECKING, Dict, Iterable, Iterator, List, NoReturn, Optional, Sequence, Tuple
+from typing import TYPE_CHECKING, Collection, Dict, Iterable, Iterator, List, NoReturn, Optional, Sequence, Tuple
+
+from pkslib import Expression
 
 from . import limits
-from .names import Names
+from .names import Names, fitting
 from .text import Form, Refusal, typed
 
 if TYPE_CHECKING:
@@ -20,6 +22,21 @@ REQUIREMENTS = """:strips :typing :negative-preconditions :disjunctive-precondit
 OBJECT = 'object'
 
 
+class Amounts:
+    """A function whose values are what actions cost: the types of its arguments, its values at the start, and for each
+    cost the predicate that tells where it is so."""
+
+    def __init__(self, form: Form, types: List[str]) -> None:
+        self.form, self.types = form, types
+        self.values: Dict[Tuple[str, ...], int] = {}
+        self.predicates: Dict[int, str] = {}
+
+    def at(self, args: Sequence[Expression], objects: Collection[str]) -> List[int]:
+        """The costs that there may be at these arguments, of which those that are no objects may be any."""
+        return sorted({value for place, value in self.values.items()
+                       if all(arg == own or arg not in objects for arg, own in zip(args, place))})
+
+
 class Declared:
     """All declarations, by the names that they have here."""
 
@@ -29,6 +46,8 @@ class Declared:
         self.objects: Dict[str, str] = {}
         self.predicates: Dict[str, List[str]] = {}
         self.functions: Dict[str, Tuple[List[str], str]] = {}
+        self.amounts: Dict[str, Amounts] = {}
+        self.minimizes = False
         self.uses_object = False
         self.fixed: 'Optional[Fixed]' = None
         for form in sections(domain, ':requirements') + sections(problem, ':requirements'):
@@ -36,7 +55,7 @@ class Declared:
         self.read_types(sections(domain, ':types'))
         self.read_objects(sections(domain, ':constants') + sections(problem, ':objects'))
         self.read_predicates(sections(domain, ':predicates'))
-        self.read_functions(sections(domain, ':functions') + sections(domain, ':object-fluents'))
+        self.read_functions(sections(domain, ':functions') + sections(domain, ':object-fluents'), domain)
 
     # Types
 
@@ -81,6 +100,17 @@ class Declared:
         if found is None:
             raise Refusal(form, f'the type `{form.raw}` isn\'t declared', 'Add it to `:types`.')
         return found
+
+    def argument_type(self, form: Optional[Form]) -> str:
+        """The type of a predicate's argument: of `(either ..)` the narrowest that has all of them, since a fact of
+        another thing is merely never true."""
+        if form is None or form.head() != 'either' or len(form.parts) < 2:
+            return self.type_of(form)
+        kinds = [self.type_of(part) for part in form.rest()]
+        found: Optional[str] = kinds[0]
+        while found is not None and not all(self.fits(kind, found) for kind in kinds):
+            found = self.parents.get(found)
+        return found if found is not None else self.type_of(None)
 
     def fits(self, own: Optional[str], wanted: str) -> bool:
         """Whether a thing of the one type may stand where the other is wanted."""
@@ -128,7 +158,7 @@ class Declared:
                 if head.word == '=':
                     continue
                 raise Refusal(head, f'the predicate `{head.raw}` stands twice', 'Take one away.')
-            types = [self.type_of(kind) for _, kind in typed(form.rest())]
+            types = [self.argument_type(kind) for _, kind in typed(form.rest())]
             limits.at_most(limits.PREDICATE_ARGUMENTS, len(types), form,
                            'a predicate has at most {} arguments',
                            'Split it into predicates that share an argument.')
@@ -136,12 +166,12 @@ class Declared:
         limits.at_most(limits.PREDICATES, len(self.predicates), found[0] if found else None,
                        'there are at most {} predicates', 'Leave out those that nothing uses.')
 
-    def read_functions(self, found: Sequence[Form]) -> None:
-        """Takes the functions whose values are objects."""
+    def read_functions(self, found: Sequence[Form], domain: Form) -> None:
+        """Takes the functions whose values are objects, and those whose values are what actions cost."""
         for form, kind in [pair for section in found for pair in typed(section.rest())]:
             head = need_head(form, 'a function')
             if kind is None or kind.word == 'number':
-                self.read_number(head)
+                self.read_number(form, head, domain)
                 continue
             types = [self.type_of(t) for _, t in typed(form.rest())]
             limits.at_most(limits.FUNCTION_ARGUMENTS, len(types), form,
@@ -155,11 +185,32 @@ class Declared:
         limits.at_most(limits.FUNCTIONS, len(self.functions), found[0] if found else None,
                        'there are at most {} functions', 'Leave out those that nothing uses.')
 
-    def read_number(self, head: Form) -> None:
-        """Refuses a function whose values are numbers, but the cost of a plan."""
-        if head.word != 'total-cost':
+    def read_number(self, form: Form, head: Form, domain: Form) -> None:
+        """Refuses a function whose values are numbers, but the cost of a plan, and what an action adds to it."""
+        if head.word == 'total-cost':
+            return
+        uses = [use for action in sections(domain, ':action') for use in uses_of(action, head.word)]
+        if uses and all(uses):
+            types = [self.type_of(kind) for _, kind in typed(form.rest())]
+            limits.at_most(limits.PREDICATE_ARGUMENTS, len(types), form, 'a cost hangs on at most {} arguments',
+                           'Make an action for each cost.')
+            self.amounts[head.word] = Amounts(head, types)
+        else:
             raise Refusal(head, f'`{head.raw}` is a number, and there are no numbers but costs',
                           'Use objects for the amounts, and facts such as `(next n1 n2)`.')
+
+    def tell_amounts(self) -> List[Tuple[str, Tuple[str, ...]]]:
+        """Declares for each cost that hangs on arguments a predicate, and gives the facts of all."""
+        facts: List[Tuple[str, Tuple[str, ...]]] = []
+        for amounts in self.amounts.values() if self.minimizes else ():
+            for value in sorted(set(amounts.values.values())):
+                name = self.names.extra('predicate', f'{fitting(amounts.form.word)}-{value}')
+                self.predicates[name] = amounts.types
+                amounts.predicates[value] = name
+                facts += [(name, place) for place, own in amounts.values.items() if own == value]
+            limits.at_most(limits.PREDICATES, len(self.predicates), amounts.form,
+                           'there are at most {} predicates, with one for each cost', 'Take fewer different costs.')
+        return facts
 
     # Asking
 
@@ -175,6 +226,16 @@ class Declared:
 def sections(definition: Form, head: str) -> List[Form]:
     """The sections of a domain or a problem with this head."""
     return [form for form in definition.rest() if form.head() == head]
+
+
+def uses_of(form: Form, word: str) -> List[bool]:
+    """For each place where a function stands whether it is an amount, `(increase (total-cost) (f ..))`."""
+    if not form.is_list():
+        return [False] if form.word == word else []
+    if form.head() == 'increase' and len(form.parts) == 3 and form.parts[1].mentions(['total-cost']) \
+            and form.parts[2].head() == word:
+        return [True]
+    return [use for part in form.parts for use in uses_of(part, word)]
 
 
 def check_requirements(form: Form) -> None:

@@ -51,8 +51,11 @@ class Effect(NamedTuple):
 class Effects:
     """The effects, senses and cost of an action."""
 
-    def __init__(self, declared: Declared) -> None:
-        self.declared = declared
+    def __init__(self, declared: Declared, picks: Sequence[int] = ()) -> None:
+        """Of costs that hang on arguments those that `picks` names are taken, of others the first."""
+        self.declared, self.picks = declared, picks
+        self.counts: List[int] = []
+        self.where: List[Literal] = []
         self.effects: List[Effect] = []
         self.senses: List[str] = []
         self.cost = 0
@@ -78,7 +81,7 @@ class Effects:
         elif head == 'assign':
             self.assign(form, scope, conditions)
         elif head in NUMERIC:
-            self.increase(form, conditions)
+            self.increase(form, scope, conditions)
         elif head in OBSERVING and not self.declared.names.find('predicate', head):
             self.told(form, scope, conditions)
         elif head in CHANCE:
@@ -150,22 +153,39 @@ class Effects:
         value = arguments(form, form.parts[2:], [wanted], scope)[0]
         self.add(form, conditions, 'assign', (place, value))
 
-    def increase(self, form: Form, conditions: Conditions) -> None:
+    def increase(self, form: Form, scope: Scope, conditions: Conditions) -> None:
         """A cost."""
         place = form.parts[1].text().lower() if len(form.parts) == 3 else ''
         if form.head() != 'increase' or place not in ('(total-cost)', 'total-cost'):
             raise Refusal(form, 'there are no numbers here but costs',
                           'Use objects for the amounts, and facts such as `(next n1 n2)`.')
-        amount = form.parts[2].word or ''
-        if not amount.isdigit():
-            raise Refusal(form.parts[2], 'a cost is a whole number here',
-                          'Make an action for each cost, and scale fractions.')
+        amount = form.parts[2]
         if list(map(tuple, conditions)) != [()]:
             raise Refusal(form, 'a cost can\'t stand under a condition',
                           'Make an action for each cost.')
-        self.cost += int(amount)
+        if (amount.head() or amount.word) in self.declared.amounts:
+            self.cost += self.amount(amount, scope)
+        elif (amount.word or '').isdigit():
+            self.cost += int(amount.word)
+        else:
+            raise Refusal(amount, 'a cost is a whole number here',
+                          'Make an action for each cost, and scale fractions.')
         limits.at_most(limits.COST, self.cost, form, 'an action costs at most {}',
                        'Scale all costs.')
+
+    def amount(self, form: Form, scope: Scope) -> int:
+        """A cost that hangs on arguments: one of those that there may be, and where it is so."""
+        amounts = self.declared.amounts[form.head() or form.word]
+        args = arguments(form, form.rest() if form.is_list() else [], amounts.types, scope)
+        found = amounts.at(args, self.declared.objects)
+        if not self.declared.minimizes:
+            return 0
+        if not found:
+            raise Refusal(form, f'`{form.shown()}` has no value at the start', 'Write it into `:init`.')
+        self.counts.append(len(found))
+        at = self.picks[len(self.counts) - 1] if len(self.counts) <= len(self.picks) else 0
+        self.where.append(Literal(True, amounts.predicates[found[at]], args))
+        return found[at]
 
     def told(self, form: Form, scope: Scope, conditions: Conditions) -> None:
         """An observation that stands among the effects."""

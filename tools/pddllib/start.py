@@ -11,7 +11,7 @@ from typing import Collection, List, Optional, Sequence, Tuple, Union
 from pkslib import Expression
 
 from . import limits
-from .conditions import (NUMBER, Literal, Scope, application, atom, equation, literal_alternatives,
+from .conditions import (NUMBER, Literal, Scope, application, arguments, atom, equation, literal_alternatives,
                          only, quantified, term_text)
 from .declared import Declared
 from .text import Form, Refusal
@@ -52,6 +52,8 @@ class Start:
             self.add_clause(form)
         elif head == 'probabilistic':
             self.add_chances(form)
+        elif form.head() == '=' and place_of(form) in self.declared.amounts:
+            self.add_amount(form)
         elif is_timed(form):
             raise Refusal(form, 'a fact at a later time can\'t be said', 'Take it out.')
         elif form.parts and not is_cost(form):
@@ -136,6 +138,17 @@ class Start:
             found = atom(inner, self.scope)
             self.facts.append(found.negated() if negative else found)
 
+    def add_amount(self, form: Form) -> None:
+        """Takes what actions with some arguments cost."""
+        place, amount = form.rest()
+        amounts = self.declared.amounts[place_of(form)]
+        if not self.declared.minimizes:
+            return
+        if not (amount.word or '').isdigit():
+            raise Refusal(amount, 'a cost is a whole number here', 'Scale fractions.')
+        args = arguments(place, place.rest() if place.is_list() else [], amounts.types, self.scope)
+        amounts.values[tuple(map(str, args))] = int(amount.word)
+
     # Clauses
 
     def settle_clauses(self) -> None:
@@ -191,6 +204,7 @@ class Start:
     def finish(self) -> None:
         """Adds to what is said that all else is false."""
         self.settle_clauses()
+        self.facts += [Literal(True, name, args) for name, args in self.declared.tell_amounts()]
         stated = list(dict.fromkeys(self.facts))
         self.facts = [literal for literal in stated if literal.positive]
         self.negatives += [literal for literal in stated
@@ -235,6 +249,11 @@ def is_timed(form: Form) -> bool:
     """`(at 5 (p))`."""
     return form.head() == 'at' and len(form.parts) == 3 and form.parts[2].is_list() \
         and NUMBER.fullmatch(form.parts[1].word or '') is not None
+
+
+def place_of(form: Form) -> str:
+    """The function of which an equation of two sides tells a value, or ''."""
+    return form.parts[1].head() or form.parts[1].word or '' if len(form.parts) == 3 else ''
 
 
 def is_cost(form: Form) -> bool:

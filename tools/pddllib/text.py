@@ -122,6 +122,12 @@ def of_source(source: Source, read: pkslib.Form) -> Form:
     return form
 
 
+def listed(form: Form, parts: Sequence[Form]) -> Form:
+    """The form as a list of these parts."""
+    form.parts = list(parts)
+    return form
+
+
 def definitions(source: Source, kind: str) -> List[Form]:
     """All `(define (KIND NAME) ..)` of a file."""
     return [form for form in forms(source)
@@ -141,11 +147,15 @@ def definition(sources: Sequence[Source], kind: str, name: Optional[str] = None)
         if name is not None:
             found = [form for form in found if name_of(form) == name.lower()]
         if len(found) > 1 and kind == 'problem':
-            names = ', '.join(str(name_of(form)) for form in found)
-            raise Refusal(found[1], f'there are {len(found)} problems in this file: {names}',
-                          'Say which is meant: `tools/from-pddl --problem NAME ..`.')
+            names = [str(name_of(form)) for form in found]
+            raise Refusal(found[1], f'there are {len(found)} problems in this file: {", ".join(names)}',
+                          'Say which is meant: `tools/from-pddl --problem NAME ..`.' if len(set(names)) == len(names)
+                          else 'Take one away, or give them different names.')
         if found:
             return found[0]
+    if any(form.head() == 'pks' for source in sources for form in forms(source)):
+        raise Refusal(Form(sources[-1], 1, 1), 'this is a file for the planner, and not in PDDL',
+                      'It needs no translation: `tools/why FILE` says whether it is accepted.')
     which = kind if name is None else f'{kind} {name}'
     raise Refusal(Form(sources[-1], 1, 1), f'there is no `(define ({which if name else kind + " NAME"}) ..)` in what was read',
                   f'The {kind} is wanted too: `tools/from-pddl DOMAIN PROBLEM`, or a file that has both.')

@@ -2,15 +2,15 @@
 
 from typing import List, NoReturn, Optional, Sequence
 
-from pkslib import Code, read_refusal
+from pkslib import Code, commands, read_refusal
 
 from . import knows, layout, limits, order
-from .actions import UNSAID, Action, read_actions
-from .conditions import Queries, Scope
+from .actions import UNSAID, Action, read_actions, written_out
+from .conditions import Literal, OneOf, Queries, Scope
 from .declared import Declared, sections
 from .fixed import Fixed, growing
 from .start import Start
-from .text import Refusal, Source, definition
+from .text import Form, Refusal, Source, definition, listed
 
 SECTIONS = (':domain', ':requirements', ':objects', ':init', ':goal', ':metric')
 
@@ -27,7 +27,7 @@ class Translation:
         self.sources = self.domain.source, self.problem.source
         self.check_sections()
         self.declared = Declared(self.domain, self.problem)
-        self.minimizes = self.read_metric()
+        self.minimizes = self.declared.minimizes = self.read_metric()
         self.start = self.read_start()
         self.declared.fixed = Fixed(self.declared, sections(self.domain, ':action'), self.start)
         self.actions = read_actions(self.domain, self.declared)
@@ -67,15 +67,39 @@ class Translation:
         """The queries of the goal."""
         found = Queries('goal')
         goals = sections(self.problem, ':goal')
-        for form in goals:
-            for part in form.rest():
-                found.read(part, Scope(self.declared))
+        try:
+            for form in goals:
+                for part in form.rest():
+                    found.read(part, Scope(self.declared))
+        except OneOf as refusal:
+            return self.read_end(goals, refusal)
         place = goals[0] if goals else self.problem
         if not found.texts:
             raise Refusal(place, 'there is no goal', 'Write `(:goal (p))`.')
         limits.at_most(limits.GOALS, len(found.texts), place, 'a goal has at most {} parts',
                        'Let an action with these preconditions set a fact, and ask for that.')
         return found.texts
+
+    def read_end(self, goals: Sequence[Form], refusal: OneOf) -> List[str]:
+        """A goal that asks for one of several alternatives: an action for each way ends a plan, and sets a fact."""
+        names, at = self.declared.names, refusal.form
+        made = lambda word=None: Form(at.source, at.line, at.column, word)
+        aim = listed(made(), [made('and'), *(part for form in goals for part in form.rest())])
+        done = listed(made(), [made(names.unused('predicate', 'finished'))])
+        fact = names.declare('predicate', done.parts[0])
+        self.declared.predicates[fact] = []
+        self.start.negatives.append(Literal(False, fact, ()))
+        action = listed(made(), [made(':action'), made(names.unused('action', 'finish')), made(':precondition'), aim,
+                                 made(':effect'), done])
+        found = written_out(action, self.declared, refusal)
+        limits.at_most(limits.ACTIONS, len(self.actions) + len(found), refusal.form,
+                       'there are at most {} actions, with one for each way to meet the goal', refusal.instead)
+        limits.at_most(limits.PREDICATES, len(self.declared.predicates), refusal.form,
+                       'there are at most {} predicates, with one for the goal', refusal.instead)
+        for one in found:
+            one.remarks = ['The goal in PDDL can be met in more than one way: this ends the plan, where it is known that one is.']
+        self.actions += found
+        return [f'(k ({fact}))']
 
     # What is written
 
@@ -90,7 +114,7 @@ class Translation:
         domain, problem = self.sources
         said = problem.first_comment()
         paths = dict.fromkeys([domain.path, problem.path])
-        said.append(f'Written by tools/from-pddl from {" and ".join(paths)}, to be read and changed.')
+        said.append(f'Written by {commands.spoken("tools/from-pddl")} from {" and ".join(paths)}, to be read and changed.')
         table = self.declared.names.table()
         return said + (['Names that were changed:'] + table if table else [])
 

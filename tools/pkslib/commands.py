@@ -2,12 +2,15 @@
 
 import argparse
 import os
+import re
 import sys
 from typing import Callable, NoReturn
 
 from .errors import PksError, Refused
 from .forms import Malformed
 from .limits import DEPTH, Status
+from .program import FOLDER
+
 
 class Fault(Exception):
     """Ends a command with the status 1, and this sentence on standard error."""
@@ -17,10 +20,28 @@ WORDS = 2
 """The status where a file can't be read, the words are wrong, or the program doesn't run."""
 
 
+def is_installed() -> bool:
+    """Whether this is an installed command, and not one of a checkout."""
+    return os.path.isfile(os.path.join(os.path.dirname(FOLDER), 'INSTALLED'))
+
+
+def name() -> str:
+    """The command's name, as a user types it."""
+    own = os.path.basename(sys.argv[0])
+    return f'pks-{own}' if is_installed() else own
+
+
+def spoken(text: str) -> str:
+    """A sentence that names commands as in a checkout, `tools/why` and `./pks`, with the names that they have here."""
+    if not is_installed():
+        return text
+    return re.sub(r'(?<![\w/.-])\./pks\b', 'pks', re.sub(r'(?<![\w/.-])tools/(?=[a-z])', 'pks-', text))
+
+
 def parser(text: str) -> argparse.ArgumentParser:
     """A reader of words, whose `--help` shows the text: a line on what the command does, then the rest."""
-    return argparse.ArgumentParser(description=text, formatter_class=argparse.RawDescriptionHelpFormatter,
-                                   allow_abbrev=False)
+    return argparse.ArgumentParser(prog=name(), description=spoken(text), allow_abbrev=False,
+                                   formatter_class=argparse.RawDescriptionHelpFormatter)
 
 
 def depth(word: str) -> int:
@@ -56,7 +77,7 @@ def read_text(path: str) -> str:
 
 def say(text: str) -> None:
     """A line on standard error, behind the command's name."""
-    sys.stderr.write(f'{os.path.basename(sys.argv[0])}: {text}\n')
+    sys.stderr.write(f'{name()}: {spoken(text)}\n')
     sys.stderr.flush()
 
 

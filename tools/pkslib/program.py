@@ -4,7 +4,7 @@ import os
 import re
 import shutil
 import subprocess
-from typing import Any, Dict, List, NamedTuple, Optional, Sequence, Union
+from typing import IO, Dict, List, NamedTuple, Optional, Sequence, Union
 
 from . import limits
 from .errors import Failed, NoPlan, NoProgram, Refused, TimedOut
@@ -68,11 +68,16 @@ class Answer(NamedTuple):
     text: str
 
 
-def begin(words: Sequence[str], program: Optional[str] = None, **pipes: Any) -> 'subprocess.Popen[bytes]':
+Stream = Union[None, int, IO[bytes]]
+"""A stream of the program: a pipe, a file, or that of this process."""
+
+
+def begin(words: Sequence[str], program: Optional[str] = None, stdin: Stream = None, stdout: Stream = None,
+          stderr: Stream = None, bufsize: int = -1) -> 'subprocess.Popen[bytes]':
     """The program begun with these words; NoProgram where it doesn't run."""
     path = find(program)
     try:
-        return subprocess.Popen([path, *words], **pipes)
+        return subprocess.Popen([path, *words], bufsize=bufsize, stdin=stdin, stdout=stdout, stderr=stderr)
     except OSError as fault:
         raise NoProgram(f'{path} does not run: {fault}') from fault
 

@@ -1,0 +1,1 @@
+"""Why a file is refused, and how it is mended."""

@@ -143,7 +143,7 @@ class Patient:
         code = self.refusal.code
         rules = {
             Code.ASCII: self.ascii, Code.BAD_BYTE: self.bad_byte, Code.VERSION: self.beginning,
-            Code.DOMAIN: self.beginning, Code.FORM: self.wrong_form, Code.WORLD_FORM: self.wrong_form,
+            Code.DOMAIN: self.beginning, Code.PROBLEM: self.beginning, Code.WORLD: self.beginning, Code.FORM: self.wrong_form, Code.WORLD_FORM: self.wrong_form,
             Code.UNDECLARED: self.undeclared, Code.WORLD_UNDECLARED: self.undeclared, Code.PARAMETER: self.parameter,
             Code.ARGUMENTS: self.arguments, Code.TYPE: self.types, Code.WORLD_FACT: self.types, Code.TWICE: self.twice,
             Code.GROUP: self.twice, Code.WORLD_TWO_VALUES: self.twice, Code.ADD: self.add, Code.LIMIT: self.limit,
@@ -178,7 +178,11 @@ class Patient:
         yield Cure([(found.start(), found.end(), ' ') for found in re.finditer(re.escape(letter), self.text.code())])
 
     def beginning(self) -> Iterator[Cure]:
-        """A version, and a domain without `define`."""
+        """A version, a part of the file by its own word, and a domain without `define`."""
+        for form, word in zip(self.text.forms, ('pks', 'domain', 'problem', 'world')):
+            head = form.head() or ''
+            if head != word and (head.lower() == word or near(head, [word])):
+                yield self.instead(form.parts[0], word)
         for form in self.text.forms[:2]:
             if form.head() == 'define' and len(form.parts) > 1 and form.parts[1].head() == 'domain':
                 head: Edit = (form.start, form.parts[1].end or form.start, '(domain')
@@ -242,6 +246,9 @@ class Patient:
     def near_form(self, form: Form) -> Iterator[Cure]:
         """A form that is near to the wrong one."""
         role = grammar.role_of_list(form)
+        if form.head() == 'toggle' and role == 'effect' and len(form.parts) == 2 and form.parts[1].is_list():
+            atom = form.parts[1].text()
+            yield self.instead(form, f'(when ({atom}) (unset {atom})) (when ((not {atom})) (set {atom}))')
         if role in ('literals', 'queries'):
             yield self.instead(form, f'({form.text()})')
         if role == 'value' and form.parts and form.parts[0].word:
@@ -253,7 +260,7 @@ class Patient:
             yield self.everywhere(form.word, 'n' + form.word)
         if form.word and role in ('fact', 'place', 'atom', 'literal', 'pattern'):
             yield self.instead(form, f'({form.word})')
-        if form.head() == 'not' and form.parent is not None and form.parent.head() == 'set':
+        if form.head() == 'not' and form.rest() and form.parent is not None and form.parent.head() == 'set':
             yield self.instead(form.parent, f'(unset {form.rest()[0].text()})')
 
     def whole_section(self, section: Form) -> Iterator[Cure]:

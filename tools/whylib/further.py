@@ -74,7 +74,8 @@ def set_aside(draft: Draft, text: Text, refusal: Refusal, check: Callable[[bytes
         letter = text.text[text.at(refusal.line, refusal.column)]
         pattern = '[\x80-\xff]' if refusal.code == Code.ASCII else re.escape(letter)
         source = text.text if refusal.code == Code.ASCII else text.code()
-        draft.take([(m.start(), m.end(), ' ') for m in re.finditer(pattern, source)])
+        outcome = cures.found(text, names, refusal, check) if refusal.code == Code.BAD_BYTE else None
+        draft.take(outcome.cure.edits if outcome else [(m.start(), m.end(), ' ') for m in re.finditer(pattern, source)])
     elif refusal.code == Code.CLASH:
         kept = start.conflict(text, names, check)
         draft.blank(kept[:1] if kept else [])

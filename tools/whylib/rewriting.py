@@ -186,7 +186,7 @@ class Rewriting:
 
     def without_wildcards(self, literal: Form) -> List[str]:
         """A literal for each object at its wildcard."""
-        at = next((i for i, part in enumerate(literal.parts) if part.word == '_'), None)
+        at = next((i for i, part in enumerate(literal.parts) if i and part.word == '_'), None)
         types = self.names.predicates.get(literal.head() or '', [])
         if at is None or at > len(types):
             return [literal.text()]

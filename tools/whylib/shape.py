@@ -33,6 +33,8 @@ FOREIGN = {
                 '`(less n1 n2)`. What an action costs is `(cost 3)`, in version 2.',
     'decrease': 'There are no numbers, and nothing is counted down: take objects for the amounts, and facts such as '
                 '`(less n1 n2)`.',
+    'toggle': 'There is no `toggle`: what is true becomes false, and what is false true, by two effects, '
+              '`(when ((p)) (unset (p)))` and `(when ((not (p))) (set (p)))`.',
     'probabilistic': 'There are no chances: what may turn out in two ways is a fact that isn\'t known, under a `when`.',
 }
 
@@ -89,6 +91,7 @@ def wrong_number(form: Form) -> Optional[List[str]]:
 
 
 TOPS = ('pks', 'domain', 'problem', 'world', 'define')
+BEGINNINGS = (Code.VERSION, Code.DOMAIN, Code.PROBLEM, Code.WORLD)
 
 
 def top(form: Form) -> List[str]:
@@ -304,6 +307,10 @@ def number(form: Form) -> Optional[List[str]]:
 def beginning(text: Text, code: int) -> List[str]:
     """Codes 120 to 123."""
     heads = [f.head() or '' for f in text.forms]
+    at = BEGINNINGS.index(Code(code))
+    own = heads[at] if len(heads) > at else ''
+    if own not in TOPS and (own.lower() in TOPS or near(own, TOPS[at:at + 1])):
+        return [f'Capital letters count: write `{own.lower()}`.' if own.lower() in TOPS else f'Is `{TOPS[at]}` meant?']
     if code == Code.VERSION:
         said = ['A file begins with `(pks 1)`, or with `(pks 2)` where it has costs, parents of '
                 f'types, aims over time or more than {limits.OBJECTS[1]} objects.']

@@ -5,9 +5,13 @@ Of an equation the greater side stands first, and a function is greater the late
 """
 
 from dataclasses import dataclass
-from typing import Any, Iterable, Iterator, List, Optional, Sequence, Tuple
+from typing import Iterable, Iterator, List, Optional, Sequence, Tuple, Union
 
 from pkslib import Expression, written
+
+
+Key = Tuple[Union[int, 'Key'], ...]
+"""What terms are compared by: the kind of a term, its number, and the keys of its arguments."""
 
 
 @dataclass(frozen=True)
@@ -50,7 +54,7 @@ class Order:
     def __init__(self, objects: Iterable[str], params: Iterable[str], functions: Iterable[str]) -> None:
         self.numbers = [{name: n for n, name in enumerate(names)} for names in (objects, params, functions)]
 
-    def key(self, term: Expression) -> Tuple[Any, ...]:
+    def key(self, term: Expression) -> Key:
         """A value by which a term compares with others."""
         objects, params, functions = self.numbers
         if not isinstance(term, str):

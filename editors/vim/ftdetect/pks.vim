@@ -1,1 +1,1 @@
-autocmd BufRead,BufNewFile *.pks setfiletype pks
+autocmd BufRead,BufNewFile *.pks set filetype=pks

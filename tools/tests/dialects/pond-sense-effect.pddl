@@ -23,5 +23,4 @@
   (:domain chemistry)
   (:init (unknown (acid)))
   (:goal (or (labelled-acid) (labelled-water))))
-; says: a goal can't ask for one of 2 alternatives
-; says: Add an action for each, which sets a fact, and ask for that fact
+; plans: 5

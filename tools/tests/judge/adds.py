@@ -1,10 +1,10 @@
 """Justified adds, and the adds that follow from an action's text (RULES 10)."""
 
-from typing import Any, Callable, Iterator, Optional, Sequence, Tuple
+from typing import Callable, Iterator, Optional, Sequence, Tuple
 
-from .problems import Action, Add, Effect, Item, Query
-from .terms import (APPLICATION, EQUATION, OBJECT, WILD, Conjunction, Literal, Term, conjunction, equation, literal_of,
-                    negated)
+from .problems import Action, Add, Effect, Item, Query, What
+from .terms import (APPLICATION, EQUATION, OBJECT, WILD, Conjunction, Literal, Pattern, Term, conjunction, equation,
+                    literal_of, negated)
 
 Given = Tuple[Query, ...]
 
@@ -81,14 +81,14 @@ def assigns_known(action: Action, given: Given, place: Term) -> bool:
                for n, effect in enumerate(action.effects))
 
 
-def clears_all(action: Action, pattern: Any) -> bool:
+def clears_all(action: Action, pattern: Pattern) -> bool:
     """J8: an unconditional `clear` of the pattern, with no later `set` on the predicate."""
     return any(effect.kind == 'clear' and (effect.head, effect.slots) == pattern and not effect.condition
                and not any(later.kind == 'set' and later.head == effect.head for later in action.effects[n + 1:])
                for n, effect in enumerate(action.effects))
 
 
-def senses(action: Action, kind: str, what: Any) -> bool:
+def senses(action: Action, kind: str, what: What) -> bool:
     """Whether the action has this sense (J3, J6)."""
     return any((sense.kind, sense.what) == (kind, what) for sense in action.senses)
 

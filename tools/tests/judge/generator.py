@@ -1,7 +1,7 @@
 """Small problems that are made at random."""
 
 import random
-from typing import Any, Dict, Iterator, List, Optional, Sequence, Tuple
+from typing import Dict, Iterator, List, Optional, Sequence, Tuple
 
 from pkslib import Expression, written
 
@@ -122,7 +122,7 @@ class Maker:
 
     def term(self, kind: str, names: Parameters, height: int = 2) -> Expression:
         """A term that fits the type and is no higher, among these parameters."""
-        found: List[Any] = [self.chance.choice(self.declared.objects_of(kind))]
+        found: List[Expression] = [self.chance.choice(self.declared.objects_of(kind))]
         if height > 0:
             found += [name for name, own in names if self.declared.fits(own, kind)] * 2
             found += [name for name, (_, result) in self.declared.functions.items()
@@ -426,7 +426,7 @@ class Maker:
 
     def other_adds(self, action: Expression) -> Iterator[Expression]:
         """Adds that don't follow from the text as it stands, some of which have a case."""
-        own: Dict[Any, Any] = {part[0]: part[1:] for part in action[2:]}
+        own: Dict[Expression, Sequence[Expression]] = {part[0]: part[1:] for part in action[2:]}
         names: List[Tuple[str, str]] = list(own.get('params', ()))
         for sense in own.get('senses', ()):
             if sense[0] == 'sense-all':

@@ -1,7 +1,7 @@
 """What a file states: the signature, the actions, the start and the aims (RULES 2, FORMAT 2); and how it is spelled."""
 
 from dataclasses import dataclass, field
-from typing import Any, Dict, List, Optional, Sequence, Tuple, Union
+from typing import Callable, Dict, List, Optional, Sequence, Tuple, Union
 
 from pkslib import Expression, expressions
 
@@ -70,12 +70,16 @@ class Effect:
         return made if self.kind == 'set' else negated(made)
 
 
+What = Union[Literal, Conjunction, Term, Pattern]
+"""What a query, a sense or an item is about."""
+
+
 @dataclass(frozen=True)
 class Query:
     """`k` of a literal, `kw` of a conjunction, `kv` of a term; denied behind `not-derived`."""
 
     kind: str
-    what: Any
+    what: What
     denied: bool = False
 
     def at(self, arguments: Sequence[Term]) -> 'Query':
@@ -88,7 +92,7 @@ class Sense:
     """`sense` of a conjunction, `sense-value` of a term, `sense-all` of a pattern."""
 
     kind: str
-    what: Any
+    what: What
 
     def at(self, arguments: Sequence[Term]) -> 'Sense':
         """The sense with the arguments put in."""
@@ -100,7 +104,7 @@ class Item:
     """`kf` of a literal, `kw` of a conjunction, `kv` of a term, `lcw` of a pattern, `kx` of a group."""
 
     kind: str
-    what: Any
+    what: What
 
 
 @dataclass(frozen=True)
@@ -111,7 +115,7 @@ class Add:
     item: Item
 
 
-AT: Dict[str, Any] = {'k': literal_at, 'kf': literal_at, 'kw': conjunction_at, 'kv': term_at, 'lcw': pattern_at,
+AT: Dict[str, Callable[..., What]] = {'k': literal_at, 'kf': literal_at, 'kw': conjunction_at, 'kv': term_at, 'lcw': pattern_at,
                       'sense': conjunction_at, 'sense-value': term_at, 'sense-all': pattern_at}
 """How arguments are put in, by the word of a query, an item or a sense."""
 
@@ -216,10 +220,7 @@ class Problem:
 
 # ---- reading forms
 
-Part = Union[str, Tuple[Any, ...]]
-
-
-def sections(parts: Sequence[Part]) -> Dict[str, Tuple[Any, ...]]:
+def sections(parts: Sequence[Expression]) -> Dict[str, Tuple[Expression, ...]]:
     """The sections of a list by their heads."""
     return {str(part[0]): tuple(part[1:]) for part in parts if not isinstance(part, str)}
 
@@ -275,7 +276,7 @@ def read_sense(names: Names, form: Expression) -> Sense:
     return Sense(kind, names.term(form[1]) if kind == 'sense-value' else names.pattern(form[1]))
 
 
-def read_action(names: Names, parts: Sequence[Part]) -> Action:
+def read_action(names: Names, parts: Sequence[Expression]) -> Action:
     """An action, from its name on."""
     own = sections(parts[1:])
     names.kinds['parameter'] = [str(name) for name, _ in own.get('params', ())]
@@ -296,7 +297,7 @@ def read_aim(names: Names, form: Expression) -> Aim:
     return Aim('now', read_query(names, form))
 
 
-def read_signature(names: Names, own: Dict[str, Tuple[Any, ...]]) -> Signature:
+def read_signature(names: Names, own: Dict[str, Tuple[Expression, ...]]) -> Signature:
     """The signature that the sections of a domain declare; its names are added."""
     parents: List[Optional[int]] = []
     for kind in own.get('types', ()):

@@ -1,6 +1,6 @@
 """Progression: what is known after an action (RULES 11)."""
 
-from typing import Any, Dict, Iterator, Optional, Sequence, Set, Tuple
+from typing import Dict, Iterator, Optional, Sequence, Set, Tuple, Union
 
 from .adds import case_of, given_of, makers
 from .closing import Closer
@@ -8,10 +8,13 @@ from .interference import Interference
 from .lookup import Database, Five
 from .problems import AT, Action, Add, Effect
 from .queries import answers
-from .terms import WILD, Literal, Region, Term, application, equation, negated, parameters, pattern_at, term_at
+from .terms import WILD, Conjunction, Literal, Region, Term, application, equation, negated, parameters, pattern_at, term_at
 
 Instance = Tuple[int, Tuple[Term, ...]]
 """The number of an action, and its arguments."""
+
+Gained = Union[Literal, Conjunction, Term, Region]
+"""What an add gives: a known literal, a known conjunction, a known place, a region."""
 
 SENSED = ('J3', 'J4', 'J6')
 
@@ -57,7 +60,7 @@ class Gains:
     def __init__(self, acting: Interference, action: Action, arguments: Sequence[Term]) -> None:
         self.acting, self.action, self.arguments = acting, action, arguments
         self.normal = acting.base.normal
-        self.found: Dict[str, Set[Any]] = {kind: set() for kind in ('kf', 'kw', 'kv', 'lcw')}
+        self.found: Dict[str, Set[Gained]] = {kind: set() for kind in ('kf', 'kw', 'kv', 'lcw')}
         for add in action.adds:
             if all(answers(acting.base, query.at(arguments)) for query in add.given):
                 for what in self.given_by(add):
@@ -67,7 +70,7 @@ class Gains:
         """Whether each of the terms is stable."""
         return all(map(self.acting.is_stable, terms))
 
-    def given_by(self, add: Add) -> Iterator[Any]:
+    def given_by(self, add: Add) -> Iterator[Gained]:
         """What an add gives: one thing, or nothing."""
         case = case_of(self.action, add)
         if case in SENSED:
@@ -83,7 +86,7 @@ class Gains:
         else:
             yield from self.made(add)
 
-    def made(self, add: Add) -> Iterator[Any]:
+    def made(self, add: Add) -> Iterator[Gained]:
         """A world add in normal form, each of its terms stable."""
         what = AT[add.item.kind](add.item.what, self.arguments)
         literals = self.acting.base.lookup.normal_conjunction((what,) if add.item.kind == 'kf' else what)
@@ -106,7 +109,7 @@ class Gains:
             for place in self.place(left):
                 yield equation(place, value)
 
-    def sensed(self, add: Add) -> Iterator[Any]:
+    def sensed(self, add: Add) -> Iterator[Gained]:
         """A sensed add: the arguments in normal form, those that occur in it stable, the rest as written."""
         what = add.item.what
         terms = [what] if add.item.kind == 'kv' else [term for literal in what for term in literal[2]]

@@ -1,14 +1,17 @@
 """Worlds (RULES 3), and good runs of a printed tree in all of them (RULES 16), by trying each."""
 
 from itertools import product
-from typing import Any, Dict, FrozenSet, Iterator, List, Optional, Sequence, Tuple
+from typing import Callable, Dict, FrozenSet, Hashable, Iterable, Iterator, List, Optional, Sequence, Tuple, Union
 
 import pkslib
 
 from .lookup import initial
-from .problems import Action, Effect, Problem, Query
+from .problems import Action, Effect, Problem, Query, What
 from .terms import (APPLICATION, EQUATION, OBJECT, WILD, Atom, Conjunction, Literal, Pattern, Term, application,
                     of_objects)
+
+Found = Union[bool, Term, Tuple[Atom, ...]]
+"""What a query or a sense finds: a truth, a value, or instances."""
 
 
 class World:
@@ -44,7 +47,7 @@ class World:
         return tuple(sorted(atom for atom in self.true if atom[0] == head
                             and all(slot in (WILD, term) for slot, term in zip(fixed, atom[1]))))
 
-    def seen(self, kind: str, what: Any) -> Any:
+    def seen(self, kind: str, what: What) -> Found:
         """What a query asks for, or what a sense finds: a truth, a value, or instances."""
         if kind in ('k', 'kw', 'sense'):
             return self.holds(what) if kind == 'k' else self.all_hold(what)
@@ -66,7 +69,7 @@ class World:
                 true.discard(self.atom(effect.head, effect.slots))
         return World(frozenset(true), values)
 
-    def instances(self, effect: Effect, true: Any) -> FrozenSet[Atom]:
+    def instances(self, effect: Effect, true: Iterable[Atom]) -> FrozenSet[Atom]:
         """Those of these atoms that a `clear` makes false, its terms read in this world."""
         return frozenset(World(frozenset(true), self.values).matching((effect.head, effect.slots)))
 
@@ -95,7 +98,7 @@ def is_flat(literal: Literal) -> bool:
     return all(term[0] == OBJECT for term in terms)
 
 
-def fixed_by_start(problem: Problem) -> Dict[Any, Any]:
+def fixed_by_start(problem: Problem) -> Dict[Union[Atom, Term], Union[bool, Term]]:
     """The truth of atoms, and the values of places, that known literals fix."""
     flat = filter(is_flat, initial(problem).kf)
     return dict((terms[0], terms[1]) if kind == EQUATION else ((head, terms), not sign)
@@ -111,7 +114,7 @@ def compatible_worlds(problem: Problem, limit: int) -> Optional[List[World]]:
     places = [(application(head, things), signature.objects_of(result))
               for head, (kinds, result) in enumerate(signature.functions)
               for things in product(*map(signature.objects_of, kinds))]
-    choices: List[Sequence[Any]] = [[fixed[atom]] if atom in fixed else [False, True] for atom in atoms]
+    choices: List[Sequence[Union[bool, Term]]] = [[fixed[atom]] if atom in fixed else [False, True] for atom in atoms]
     choices += [[fixed[place]] if place in fixed else things for place, things in places]
     count = 1
     for options in choices:
@@ -137,9 +140,9 @@ Run = Tuple[World, ...]
 """The worlds of one run at its moments."""
 
 
-def parted(runs: Sequence[Run], tells: Any) -> List[List[Run]]:
+def parted(runs: Sequence[Run], tells: Callable[[Run], Hashable]) -> List[List[Run]]:
     """The runs, those together of which the same is told."""
-    groups: Dict[Any, List[Run]] = {}
+    groups: Dict[Hashable, List[Run]] = {}
     for run in runs:
         groups.setdefault(tells(run), []).append(run)
     return list(groups.values())
@@ -184,9 +187,9 @@ class Walk:
         else:
             self.end(tree, groups)
 
-    def sides(self, query: Query, groups: Sequence[List[Run]]) -> Dict[Any, List[List[Run]]]:
+    def sides(self, query: Query, groups: Sequence[List[Run]]) -> Dict[Found, List[List[Run]]]:
         """The groups by what is found; Fault where one doesn't know it."""
-        found: Dict[Any, List[List[Run]]] = {}
+        found: Dict[Found, List[List[Run]]] = {}
         for runs in groups:
             if not is_known(runs, query):
                 raise Fault(f'{query} is not known where it is tested')
@@ -208,7 +211,7 @@ class Walk:
                   for run, things in zip(runs, objects)]
         yield from parted(longer, lambda run: self.observed(action, objects[0], run[-1]))
 
-    def observed(self, action: Action, things: Sequence[Term], world: World) -> Tuple[Any, ...]:
+    def observed(self, action: Action, things: Sequence[Term], world: World) -> Tuple[Found, ...]:
         """What the senses of an action find in the world after it."""
         return tuple(world.seen(sense.kind, sense.at(things).what) for sense in action.senses)
 

@@ -3,9 +3,9 @@
 (define (domain d)
   (:requirements :strips :typing :negative-preconditions)
   (:types thing place)
-  (:predicates (p ?x - thing) (q ?x - (either thing place)) (r))
+  (:predicates (p ?x - thing) (q ?x - thing) (r))
   (:action act
-    :parameters (?x - thing)
+    :parameters (?x - (either thing place))
     :precondition (p ?x)
     :effect (r)))
 (define (problem e)

@@ -1,4 +1,4 @@
-; says: a goal can't ask for one of 2 alternatives
+; says: a goal may be met in at most 8 ways, and here are 16
 ; says: Add an action for each
 (define (domain d)
   (:requirements :strips :typing :negative-preconditions)
@@ -10,6 +10,6 @@
     :effect (r)))
 (define (problem e)
   (:domain d)
-  (:objects a b - thing)
+  (:objects a b c d - thing)
   (:init (p a))
-  (:goal (exists (?x - thing) (q ?x))))
+  (:goal (forall (?x - thing) (or (p ?x) (q ?x)))))

@@ -10,6 +10,6 @@
     :effect (r)))
 (define (problem e)
   (:domain d)
-  (:objects a b - thing)
+  (:objects a b c d e f g h i - thing)
   (:init (p a))
   (:goal (r)))

@@ -1,0 +1,12 @@
+(define (problem blocks-sensing-3)
+  (:domain blocks-sensing)
+  (:objects a b c)
+  (:init (and
+    (handempty)
+    (clear a)
+    (clear c)
+    (ontable b)
+    (ontable c)
+    (oneof (on a b) (ontable a))
+    (oneof (on a b) (clear b))))
+  (:goal (and (on b c))))

@@ -1,0 +1,5 @@
+(define (problem fuses-3)
+  (:domain fuses)
+  (:objects f1 f2 f3 - fuse)
+  (:init (and (spare) (oneof (blown f1) (blown f2) (blown f3))))
+  (:goal (lit)))

@@ -1,0 +1,10 @@
+(define (problem logistics-uncertain-1)
+  (:domain logistics-uncertain)
+  (:objects t - truck parcel - package depot mill harbour - location)
+  (:init (and
+    (at t depot)
+    (road depot mill) (road mill depot)
+    (road depot harbour) (road harbour depot)
+    (road mill harbour) (road harbour mill)
+    (oneof (at parcel mill) (at parcel harbour))))
+  (:goal (at parcel depot)))

@@ -1,0 +1,5 @@
+(define (problem tower-3)
+  (:domain tower)
+  (:objects a b c)
+  (:init (and (on a b) (on b c) (oneof (marked b) (marked c))))
+  (:goal (exists (?x) (checked ?x))))

@@ -1,0 +1,10 @@
+(define (problem unix-4)
+  (:domain unix)
+  (:objects root a b a1 - dir my-file - file)
+  (:init (and
+    (cur-dir root)
+    (sub-dir root a)
+    (sub-dir root b)
+    (sub-dir a a1)
+    (oneof (file-in-dir my-file a) (file-in-dir my-file b) (file-in-dir my-file a1))))
+  (:goal (and (file-in-dir my-file root))))

@@ -1,0 +1,7 @@
+(define (problem butler-1)
+  (:domain butler)
+  (:objects tea coffee - drink ann - guest)
+  (:init (oneof (likes ann tea) (likes ann coffee)))
+  (:goal (and (served ann)
+              (preference liked (forall (?d - drink) (imply (served-with ann ?d) (likes ann ?d))))))
+  (:metric minimize (is-violated liked)))

@@ -1,0 +1,7 @@
+(define (problem fuel-search-1)
+  (:domain fuel-search)
+  (:objects a b c - place)
+  (:init (at a) (road a b) (road b a) (road a c) (road b c)
+    (= (fuel) 6)
+    (oneof (goods-at b) (goods-at c)))
+  (:goal (done)))

@@ -1,0 +1,12 @@
+(define (problem locks-3)
+  (:domain locks)
+  (:objects n0 n1 n2 - place triangle square - shape k-tri k-sq - key)
+  (:init
+    (conn n0 n1) (conn n1 n0) (conn n1 n2) (conn n2 n1)
+    (open n0) (open n1) (locked n2)
+    (at-robot n1)
+    (arm-empty)
+    (at k-tri n0) (at k-sq n0)
+    (key-shape k-tri triangle) (key-shape k-sq square)
+    (oneof (lock-shape n2 triangle) (lock-shape n2 square)))
+  (:goal (at-robot n2)))

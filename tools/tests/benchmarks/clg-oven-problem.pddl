@@ -1,0 +1,5 @@
+(define (problem oven-1)
+  (:domain oven)
+  (:objects tart - cake)
+  (:init (warm) (unknown (raw tart)))
+  (:goal (baked tart)))

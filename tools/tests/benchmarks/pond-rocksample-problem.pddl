@@ -1,0 +1,11 @@
+(define (problem rocksample-2)
+  (:domain rocksample)
+  (:objects c1 c2 exit - cell r1 r2 - rock)
+  (:init (and
+    (at c1)
+    (next c1 c2) (next c2 c1) (next c2 exit)
+    (rock-at r1 c1) (rock-at r2 c2)
+    (unknown (good r1))
+    (unknown (good r2))))
+  (:goal (and (at exit)
+              (forall (?r - rock) (imply (good ?r) (sampled ?r))))))
