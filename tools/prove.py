@@ -12,12 +12,17 @@ The program goes through the steps of `rt ci`, but for edits, tests and its seco
 and libraries are kept where `rt ci` keeps them, so that the gate takes those that this proved, and this all that the gate proved.
 The program, which one compiler alone has built, isn't kept there.
 `rt check` and `rt try` keep libraries of their own, whole ones, in each crate's out/. The first fault ends either.
+
+All this replaces parts of the toolchain's script, which is made for one kit. Each part is looked for first: where one is missing or
+takes other parameters, a line says so, and plain `rt run` or `rt lib` does the work, one crate after another.
 """
 
 import contextlib
+import inspect
 import os
 import shutil
 import signal
+import subprocess
 import sys
 import tempfile
 import threading
@@ -30,11 +35,18 @@ sys.dont_write_bytecode = True
 sys.path.insert(0, os.path.dirname(os.path.realpath(__file__)))
 
 from pkslib import commands  # noqa: E402
+from shapelib.crates import crates  # noqa: E402
 
 TOP = os.path.dirname(os.path.dirname(os.path.realpath(__file__)))
 
-# What this takes of rt.
-NEEDED = ("STORE", "Crate", "Kept", "edits_of", "free", "in_lanes", "main", "need", "processors", "rtlib", "run", "say", "share_work")
+# What this replaces of rt, and what it calls, with the parameters of each. (It replaces the text STORE, too.)
+TAKEN = {
+    "Crate.ci": "self flags tests", "Crate.compile_by": "self backend words to", "Crate.has_tests": "self", "Kept.give": "self crate tests key",
+    "edits_of": "crate", "in_lanes": "tasks", "run": "crate tests ending", "say": "text out",
+    "Crate.below": "self", "free": "", "main": "words", "need": "crate", "processors": "", "share_work": "is_alone",
+    "rtlib.Crate.build_rlib": "self flags anew", "rtlib.Crate.is_built": "self", "rtlib.guarded": "", "rtlib.lock": "crates",
+    "rtlib.root_above": "folder",
+}
 
 # What the slow crates take, and what each other one is taken for, in processor seconds: for the order alone. (`pks_agent`, of which
 # little stands above, is to be done when the last but one begins.)
@@ -178,13 +190,36 @@ class Progress:
         sys.stderr.flush()
 
 
-def load_rt() -> Optional[Toolchain]:
-    """The toolchain's command as a module, or None where it isn't of the kit that README.md names."""
-    sys.dont_write_bytecode = True
-    loader = SourceFileLoader("rt", os.path.realpath(shutil.which("rt")))
+class Unfit(Exception):
+    """Says in what the toolchain's command isn't as this takes it."""
+
+
+def misfit(rt: object) -> str:
+    """What rt has not, or has in another form; nothing where all is as this takes it."""
+    for path, wanted in TAKEN.items():
+        found = rt
+        for name in path.split("."):
+            found = getattr(found, name, None)
+        try:
+            parameters = " ".join(inspect.signature(found).parameters) if callable(found) else None
+        except (TypeError, ValueError):
+            parameters = None
+        if parameters != wanted:
+            return f"has no {path}({', '.join(wanted.split())})"
+    return "" if isinstance(getattr(rt, "STORE", None), str) else "has no text STORE"
+
+
+def load_rt(path: str) -> Toolchain:
+    """The toolchain's command as a module; Unfit where it isn't as this takes it."""
+    loader = SourceFileLoader("rt", os.path.realpath(path))
     module = module_from_spec(spec_from_loader("rt", loader))
-    loader.exec_module(module)
-    return cast(Toolchain, module) if all(hasattr(module, name) for name in NEEDED) else None
+    try:
+        loader.exec_module(module)
+    except (Exception, SystemExit):
+        raise Unfit("isn't a script that can be read") from None
+    if misfit(module):
+        raise Unfit(misfit(module))
+    return cast(Toolchain, module)
 
 
 def seconds(name: str) -> int:
@@ -229,10 +264,12 @@ class Lanes:
 
     def run(self, tasks: Dict[Key, Task]) -> Given:
         """Runs the tasks by the scheduler, with what each crate takes."""
+        if any(len(key) != 2 or len(task) != 4 for key, task in tasks.items()):
+            raise Unfit("has other tasks for in_lanes(tasks)")
         self.progress = Progress([name for name, what in tasks if what == "proof"], self.rt.processors())
         self.progress.show()
         work = lambda key: seconds(key[0]) if key[1] == "proof" else 0
-        return self.real({key: (waits, work(key), memory, call) for key, (waits, _, memory, call) in tasks.items()})
+        return self.real({key: (waits, work(key), *rest) for key, (waits, _, *rest) in tasks.items()})
 
     def flags_of(self, crate: Crate, flags: Sequence[str]) -> List[str]:
         """How many processes prove the crate: as many as the scheduler says, and those that no other crate can use."""
@@ -240,6 +277,8 @@ class Lanes:
         time.sleep(MOMENT)
         with self.turn:
             idle = self.rt.processors() - (self.begun - self.done)
+        if [*flags[:1], *flags[2:]] != ["--jobs"]:
+            return [*flags]
         jobs = int(flags[1])
         return ["--jobs", str(max(jobs, 1 + idle) if 2 * self.rt.need(crate) < self.rt.free() else jobs)]
 
@@ -266,7 +305,7 @@ class Lanes:
 def build_program(rt: Toolchain, room: Room, name: str) -> None:
     """Runs `rt ci CRATE` without edits and tests, and takes the program, as LLVM builds it, from the copy that it works on."""
     lanes, prove, compile_by, give, run, tell = Lanes(rt), rt.Crate.ci, rt.Crate.compile_by, rt.Kept.give, rt.run, rt.say
-    to, said = f"{TOP}/crates/{name}/out", tempfile.TemporaryFile("w+", errors="replace")
+    to, said, made = f"{TOP}/crates/{name}/out", tempfile.TemporaryFile("w+", errors="replace"), []
 
     def proving(crate: Crate, flags: Sequence[str], tests: bool) -> int:
         return lanes.prove(crate, flags, lambda flags: prove(crate, flags, tests))
@@ -286,6 +325,7 @@ def build_program(rt: Toolchain, room: Room, name: str) -> None:
             os.makedirs(to, exist_ok=True)
             shutil.copy(f"{crate.folder}/out/{name}", f"{to}/{name}.new")
             os.replace(f"{to}/{name}.new", f"{to}/{name}")
+            made.append(name)
         return is_well
 
     def telling(text: str, out: Optional[IO[str]] = None) -> None:
@@ -302,6 +342,8 @@ def build_program(rt: Toolchain, room: Room, name: str) -> None:
     with contextlib.redirect_stdout(said):
         status = rt.main(["ci", name])
     room.end_unless(status, said)
+    if is_program(name) and not made:
+        raise Unfit("gives no program by run(crate, tests, ending)")
 
 
 def build_libraries(rt: Toolchain, room: Room, name: str) -> None:
@@ -318,13 +360,43 @@ def build_libraries(rt: Toolchain, room: Room, name: str) -> None:
             status = lanes.prove(it, ["--jobs", str(jobs)], lambda flags: it.build_rlib(flags, anew=False))
             room.end_unless(status, it.out)
 
-    tasks: Dict[Key, Task] = {}
+    tasks = {}
     for it in left:
         waits = [(below.name, "proof") for below in it.below() if below in left]
         tasks[it.name, "proof"] = waits, 0, rt.need(it), lambda given, jobs, it=it: prove(it, jobs)
     lanes.run(tasks)
-    for number in held:
-        os.close(number)
+    for it in held:
+        os.close(it)
+
+
+def is_program(name: str) -> bool:
+    """Whether the crate is a program."""
+    return os.path.isfile(f"{TOP}/crates/{name}/src/main.rt")
+
+
+def call_rt(verb: str, name: str) -> int:
+    """The status of plain rt in the crate's folder; it ends when this is told to."""
+    folder = f"{TOP}/crates/{name}"
+    child = subprocess.Popen(["rt", verb], cwd=folder, stdin=subprocess.DEVNULL, stdout=sys.stderr if verb == "lib" else subprocess.DEVNULL)
+    for it in (signal.SIGHUP, signal.SIGINT, signal.SIGTERM):
+        signal.signal(it, lambda number, _: child.send_signal(number))
+    return child.wait()
+
+
+def prove_plainly(name: str, libraries: bool) -> int:
+    """Has plain rt do the same, one crate after another, and gives the status."""
+    if not libraries and is_program(name):
+        program = f"{TOP}/crates/{name}/out/{name}"
+        with contextlib.suppress(FileNotFoundError):
+            os.remove(program)
+        # (the status is that of the program, which is run without words)
+        call_rt("run", name)
+        return 0 if os.path.isfile(program) else 1
+    for it in crates()[name] if libraries else [name]:
+        status = call_rt("lib", it)
+        if status:
+            return status
+    return 0
 
 
 def main(words: List[str]) -> int:
@@ -333,17 +405,21 @@ def main(words: List[str]) -> int:
     reader.add_argument("--libraries", action="store_true", help="the libraries below the crate, and no program")
     reader.add_argument("crate", metavar="CRATE", help="the name of a crate")
     given = reader.parse_args(words)
-    build = build_libraries if given.libraries else build_program
-    rt = load_rt()
-    if rt is None:
-        say("this rt isn't of the kit that README.md names, so nothing was proved.")
-        return 1
-    room = Room()
-    # (what rt starts ends when this does; it has to be called before there are threads)
-    rt.rtlib.guarded()
-    build(rt, room, given.crate)
+    path = shutil.which("rt")
+    if path is None or given.crate not in crates():
+        say("rt, the toolchain's command, isn't on the PATH." if path is None else f"crates.txt has no crate {given.crate}.")
+        return 2
+    room, status = Room(), 0
+    try:
+        rt = load_rt(path)
+        # (what rt starts ends when this does; it has to be called before there are threads)
+        rt.rtlib.guarded()
+        (build_libraries if given.libraries else build_program)(rt, room, given.crate)
+    except Unfit as fault:
+        say(f"this rt isn't of the kit that README.md names: it {fault}. So it proves one crate after another, which takes far longer.")
+        status = prove_plainly(given.crate, given.libraries)
     room.remove()
-    return 0
+    return status
 
 
 if __name__ == "__main__":

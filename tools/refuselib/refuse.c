@@ -1,19 +1,22 @@
 /* Loaded before the C library's own (LD_PRELOAD): counts a program's allocations, and tries what follows where one is refused.
    At each number that is asked for, the process is copied. The copy goes on with that one allocation refused; what it writes and
-   how it ends is looked at, and then the process itself goes on with the allocation granted. So one run tries them all. */
-#define _GNU_SOURCE
-#include <errno.h>
-#include <fcntl.h>
-#include <stdio.h>
-#include <stdlib.h>
-#include <string.h>
-#include <sys/resource.h>
-#include <sys/wait.h>
-#include <time.h>
-#include <unistd.h>
+   how it ends is looked at, and then the process itself goes on with the allocation granted. So one run tries them all.
+   No header is read, since the kit's compiler has none: what is used of the C library is declared here, and the numbers are those
+   of Linux on x86-64. */
+#define NULL ((void *)0)
+typedef __SIZE_TYPE__ size_t;
+struct limit { unsigned long soft, hard; };
 
-extern void *__libc_malloc(size_t);
-extern void *__libc_realloc(void *, size_t);
+enum { READ_ONLY = 0, WRITE_ONLY = 01, CREATE = 0100, APPEND = 02000, CLOSE_ON_EXEC = 02000000 };
+enum { FROM_START = 0, FROM_HERE = 1, PROCESSOR_TIME = 0, WANT_OF_MEMORY = 12 };
+
+int open(const char *, int, ...), close(int), dup2(int, int), pipe(int *), fork(void), waitpid(int, int *, int);
+int setrlimit(int, const struct limit *), memcmp(const void *, const void *, size_t), snprintf(char *, size_t, const char *, ...);
+long read(int, void *, size_t), write(int, const void *, size_t), lseek(int, long, int), time(long *), atol(const char *);
+char *getenv(const char *);
+void _exit(int) __attribute__((noreturn));
+int *__errno_location(void);
+void *__libc_malloc(size_t), *__libc_realloc(void *, size_t);
 
 /* Of processor time, for one copy. */
 #define SECONDS 600
@@ -22,7 +25,7 @@ static long count, ends, step, last, without, right, wrong, tried, stopped, rest
 static int is_copy, refuses_all, right_status, report = -1;
 static char right_text[1 << 20];
 static long right_length;
-static time_t deadline;
+static long deadline;
 
 static long number(const char *name) {
     const char *text = getenv(name);
@@ -35,7 +38,7 @@ __attribute__((constructor)) static void begin(void) {
     const char *path = getenv("REFUSE_REPORT");
     const char *text = getenv("REFUSE_TEXT");
     if (!path) return;
-    report = open(path, O_WRONLY | O_CREAT | O_APPEND | O_CLOEXEC, 0644);
+    report = open(path, WRITE_ONLY | CREATE | APPEND | CLOSE_ON_EXEC, 0644);
     ends = number("REFUSE_ENDS");
     step = number("REFUSE_STEP");
     last = number("REFUSE_COUNT");
@@ -43,7 +46,7 @@ __attribute__((constructor)) static void begin(void) {
     right_status = number("REFUSE_STATUS");
     deadline = time(NULL) + number("REFUSE_SECONDS");
     if (text) {
-        int from = open(text, O_RDONLY | O_CLOEXEC);
+        int from = open(text, READ_ONLY | CLOSE_ON_EXEC);
         right_length = read(from, right_text, sizeof right_text);
         close(from);
     }
@@ -65,9 +68,9 @@ static int is_tried(void) {
 
 /* The copy has a place of its own in the input. */
 static void own_streams(int out) {
-    off_t at = lseek(0, 0, SEEK_CUR);
-    int in = open("/proc/self/fd/0", O_RDONLY);
-    if (at >= 0 && in >= 0 && lseek(in, at, SEEK_SET) == at) dup2(in, 0);
+    long at = lseek(0, 0, FROM_HERE);
+    int in = open("/proc/self/fd/0", READ_ONLY);
+    if (at >= 0 && in >= 0 && lseek(in, at, FROM_START) == at) dup2(in, 0);
     if (in > 0) close(in);
     dup2(out, 1);
     close(out);
@@ -75,7 +78,7 @@ static void own_streams(int out) {
 
 static void judge(const char *text, long length, int how) {
     char line[200];
-    int status = WIFEXITED(how) ? WEXITSTATUS(how) : -WTERMSIG(how);
+    int by = how & 0x7f, status = by ? -by : (how >> 8) & 0xff;
     if (status == 6 && length == 0) without++;
     else if (status == right_status && length == right_length && !memcmp(text, right_text, length)) right++;
     else {
@@ -93,14 +96,14 @@ static int is_refused(void) {
     count++;
     if (!is_tried()) return 0;
     if (pipe(ways)) _exit(99);
-    pid_t copy = fork();
+    int copy = fork();
     if (copy < 0) _exit(99);
     if (copy == 0) {
         is_copy = 1;
         refuses_all = rest != 0;
         close(ways[0]);
         own_streams(ways[1]);
-        setrlimit(RLIMIT_CPU, &(struct rlimit){SECONDS, SECONDS});
+        setrlimit(PROCESSOR_TIME, &(struct limit){SECONDS, SECONDS});
         return 1;
     }
     close(ways[1]);
@@ -122,7 +125,7 @@ __attribute__((destructor)) static void end(void) {
 
 void *malloc(size_t size) {
     if (is_refused()) {
-        errno = ENOMEM;
+        *__errno_location() = WANT_OF_MEMORY;
         return NULL;
     }
     return __libc_malloc(size);
@@ -130,7 +133,7 @@ void *malloc(size_t size) {
 
 void *realloc(void *old, size_t size) {
     if (is_refused()) {
-        errno = ENOMEM;
+        *__errno_location() = WANT_OF_MEMORY;
         return NULL;
     }
     return __libc_realloc(old, size);

@@ -4,4 +4,5 @@ pub mod Listing
 pub mod Unfolding
 pub mod Numbering
 pub mod SharedOnce
+pub mod Depths
 pub mod Walks

@@ -1,4 +1,4 @@
--- The trees that a history keeps without its first moment.
+-- The trees that a history keeps without its first moments, and without its looks.
 use Rattle.std.proofs.Common.{suc, ◌≡◌, ◌↔◌, ◌≤◌, true, false, List, [], ◌∷◌, length, arith, refl, sym, ap, ◌∙◌, subst, inl, inr}
 use Rattle.pks_terms.specs.Sets.{Each}
 use Rattle.pks_terms.specs.Databases.{Five}
@@ -15,7 +15,12 @@ use Rattle.pks_laws_forget.specs.Transparent.{AreSetsAlong, with_first}
 use Rattle.pks_laws_forget.specs.Testing.{hides_nothing}
 use Rattle.pks_laws_forget.proofs.Cut.{cut}
 use Rattle.pks_laws_forget.proofs.Tested.{tested}
-use Rattle.pks_history_forget.specs.Same.{IsEndOf, HasSameTrees, first_hides_nothing, unsettled_from, without_settled}
+use Rattle.pks_laws_looks.specs.Looks.{IsLook, AreWithout, without_looks}
+use Rattle.pks_laws_looks.proofs.Thinned.{without_none, without_short}
+use Rattle.pks_laws_looks.proofs.Tested.{unlooked_without}
+use Rattle.pks_laws_looks.proofs.Trees.{moments_without}
+use Rattle.pks_laws_looks.proofs.Trees as trees
+use Rattle.pks_history_forget.specs.Same.{IsEndOf, EndHasSameTrees, HasSameTrees, first_hides_nothing, unsettled_from, without_settled}
 
 -- all of it is an end
 pub whole_end : (d : Five) (steps : List (Instance × Five)) → IsEndOf d steps (record { start = d; steps = steps })
@@ -29,13 +34,13 @@ end_through d (step ∷ steps) g k (inl e) b = subst (λ (x : History). IsEndOf 
 end_through d (step ∷ steps) g k (inr e) b = inr (end_through step.1 steps g k e b)
 
 -- a history has its own trees
-pub same_itself : (p : Problem) (h : History) → AreMomentsOf p h → HasSameTrees p h h
-same_itself p h m =
+pub end_itself : (p : Problem) (h : History) → AreMomentsOf p h → EndHasSameTrees p h h
+end_itself p h m =
     let short : length h.steps ≤ length h.steps = omega arith in
     record { moments = m; short = short; end = whole_end h.start h.steps; trees = λ t. (λ d. d, λ d. d) }
 
 -- what has the same trees as what has the same trees
-pub same_through : (p : Problem) (h g k : History) → HasSameTrees p h g → HasSameTrees p g k → HasSameTrees p h k
+pub same_through : (p : Problem) (h g k : History) → EndHasSameTrees p h g → EndHasSameTrees p g k → EndHasSameTrees p h k
 same_through p h g k a b =
     let one : length g.steps ≤ length h.steps = a.short in
     let two : length k.steps ≤ length g.steps = b.short in
@@ -61,7 +66,7 @@ module _ (p : Problem) (h rest : History) (w : IsWithoutFirst h rest) where
       omega (arith, same)
 
   -- where the first step hides nothing
-  pub rest_trees : IsValid p → Each IsNow p.goal → AreMomentsOf p h → AreSetsAlong h → first_hides_nothing p h ≡ true → HasSameTrees p h rest
+  pub rest_trees : IsValid p → Each IsNow p.goal → AreMomentsOf p h → AreSetsAlong h → first_hides_nothing p h ≡ true → EndHasSameTrees p h rest
   rest_trees v plain m s hides =
       let hidden : hides_nothing p h.start w.0 rest.start ≡ true = subst (λ g. first_hides_nothing p g ≡ true) whole hides in
       record {
@@ -84,3 +89,29 @@ stays_from p d (step ∷ steps) e = rw e refl
 -- where there is no first step that hides nothing, the history is left as it is
 pub stays : (p : Problem) (h : History) → first_hides_nothing p h ≡ false → without_settled p h ≡ h
 stays p h e = stays_from p h.start h.steps e
+
+-- a history has its own trees
+pub same_itself : (p : Problem) (h : History) → AreMomentsOf p h → HasSameTrees p h h
+same_itself p h m =
+    let short : length h.steps ≤ length h.steps = omega arith in
+    record { moments = m; short = short; left = record { steps = h; without = without_none (IsLook p) h.start h.steps; end = whole_end h.start h.steps }; trees = λ t. (λ d. d, λ d. d) }
+
+module _ (p : Problem) (h : History) (m : AreMomentsOf p h) (s : AreSetsAlong h) where
+  some_out : AreWithout (IsLook p) h.start h.steps (without_looks p h).start (without_looks p h).steps
+  some_out = unlooked_without p h.start h.steps s.start s.steps
+
+  -- without its looks it is one of the problem, and its sets are in order
+  pub kept_moments : AreMomentsOf p (without_looks p h) × AreSetsAlong (without_looks p h)
+  kept_moments = moments_without p h (without_looks p h) m s some_out
+
+  -- and has the same trees, so that it has those of what is left of that
+  pub same_without : (rest : History) → IsValid p → Each IsNow p.goal → EndHasSameTrees p (without_looks p h) rest → HasSameTrees p h rest
+  same_without rest v plain e =
+      let one : length (without_looks p h).steps ≤ length h.steps = without_short (IsLook p) h.start h.steps (without_looks p h).start (without_looks p h).steps some_out in
+      let two : length rest.steps ≤ length (without_looks p h).steps = e.short in
+      record {
+        moments = e.moments;
+        short = omega (arith, one, two);
+        left = record { steps = without_looks p h; without = some_out; end = e.end };
+        trees = λ t. let k = trees.without_looks p v plain h (without_looks p h) t m s some_out in (λ d. (e.trees t).0 (k.0 d), λ d. k.1 ((e.trees t).1 d));
+      }

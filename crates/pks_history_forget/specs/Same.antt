@@ -7,6 +7,7 @@ use Rattle.pks_terms.specs.Settling.{History, At}
 use Rattle.pks_terms.specs.Moments.{AreMomentsOf}
 use Rattle.pks_terms.specs.Trees.{Tree, Derives}
 use Rattle.pks_laws_forget.specs.Testing.{hides_nothing}
+use Rattle.pks_laws_looks.specs.Looks.{IsLook, AreWithout}
 
 -- there is a first step, and it hides nothing
 abbrev pub first_hides_nothing : Problem → History → Bool
@@ -27,8 +28,21 @@ IsEndOf d [] rest = rest ≡ record { start = d; steps = [] }
 IsEndOf d (step ∷ steps) rest = (rest ≡ record { start = d; steps = step ∷ steps }) ⊎ IsEndOf step.1 steps rest
 
 -- a history of the problem that begins at one of the moments, and at which the same trees are derived
-pub record HasSameTrees (p : Problem) (h rest : History) : Type 0 where
+pub record EndHasSameTrees (p : Problem) (h rest : History) : Type 0 where
   pub moments : AreMomentsOf p rest
   pub short : length rest.steps ≤ length h.steps
   pub end : IsEndOf h.start h.steps rest
+  pub trees : (t : Tree) → Derives p (At h) t ↔ Derives p (At rest) t
+
+-- what is left of a history where moments before looks go, and then some of the first
+pub record IsLeftOf (p : Problem) (h rest : History) : Type 0 where
+  pub steps : History
+  pub without : AreWithout (IsLook p) h.start h.steps steps.start steps.steps
+  pub end : IsEndOf steps.start steps.steps rest
+
+-- a history of the problem that is left of the other so, and at which the same trees are derived
+pub record HasSameTrees (p : Problem) (h rest : History) : Type 0 where
+  pub moments : AreMomentsOf p rest
+  pub short : length rest.steps ≤ length h.steps
+  pub left : IsLeftOf p h rest
   pub trees : (t : Tree) → Derives p (At h) t ↔ Derives p (At rest) t

@@ -1,4 +1,4 @@
-//! Letting go of the settled past. `docs/DECISIONS.md` says what it is.
+//! Letting go of looks and of the settled past. `docs/DECISIONS.md` says what these are.
 ghost use Rattle.std.specs.Prelude.{◌≡◌, ◌↔◌, IsTrue, map, IfOk};
 ghost use Rattle.pks_terms.specs.Moments.{AreMomentsOf};
 ghost use Rattle.pks_terms.specs.Sets.{Each};
@@ -6,9 +6,11 @@ ghost use Rattle.pks_terms.specs.ValidProblems.{IsValidProblem};
 ghost use Rattle.pks_terms.specs.Versions.{IsNow};
 ghost use Rattle.pks_terms.specs.Views.{aim_of, problem_of};
 ghost use Rattle.pks_laws_forget.specs.Transparent.{AreSetsAlong};
-ghost use Rattle.pks_history_forget.specs.Same.{HasSameTrees, first_hides_nothing, without_settled};
+ghost use Rattle.pks_laws_looks.specs.Looks.{without_looks};
+ghost use Rattle.pks_history_forget.specs.Same.{EndHasSameTrees, HasSameTrees, first_hides_nothing, without_settled};
 
 use crate::hiding::hides_nothing;
+use crate::looking::without_looks;
 use pks_history::histories::History;
 use pks_terms::problem::{Aim, Problem};
 use std::alloc::{AllocError, Global};
@@ -52,7 +54,7 @@ fn without_settled(alloc: Global, p: &Problem<'_>, h: History) -> Result<History
     requires plain { Each IsNow (problem_of p.now).goal }
     requires moments { AreMomentsOf (problem_of p.now) h }
     requires sets { AreSetsAlong h }
-    ensures trees { IfOk result (λ rest. HasSameTrees (problem_of p.now) h rest) }
+    ensures trees { IfOk result (λ rest. EndHasSameTrees (problem_of p.now) h rest) }
     ensures exact { IfOk result (λ rest. rest ≡ without_settled (problem_of p.now) h) }
 {
     if !first_hides_nothing(alloc, p, &h)? {
@@ -63,21 +65,23 @@ fn without_settled(alloc: Global, p: &Problem<'_>, h: History) -> Result<History
     Ok(rest)
 }
 
-/// The history without its settled past: where each aim is one of the last moment it lets go of the first moment as long as
-/// the step from there hides nothing, and no longer. The same trees are derived from what is left. It asks for a valid problem
-/// and for moments of it. The error is want of memory.
+/// The history without its looks and its settled past: where each aim is one of the last moment, the databases after a look
+/// stand in the place of those before it, and then the first moment goes as long as the step from there hides nothing, and no
+/// longer. The same trees are derived from what is left. It asks for a valid problem and for moments of it. The error is want
+/// of memory.
 pub fn cut(alloc: Global, p: &Problem<'_>, h: &History) -> Result<History, AllocError>
     requires valid { IsValidProblem p.now }
     requires moments { AreMomentsOf (problem_of p.now) h.now }
     ensures trees { IfOk result (λ rest. HasSameTrees (problem_of p.now) h.now rest) }
-    ensures exact { Each IsNow (problem_of p.now).goal → IfOk result (λ rest. rest ≡ without_settled (problem_of p.now) h.now) }
+    ensures exact { Each IsNow (problem_of p.now).goal → IfOk result (λ rest. rest ≡ without_settled (problem_of p.now) (without_looks (problem_of p.now) h.now)) }
     ensures whole { (Each IsNow (problem_of p.now).goal → ⊥) → IfOk result (λ rest. rest ≡ h.now) }
 {
     in_order(h);
-    let whole = h.share()?;
     if !are_now(p.goal.as_slice()) {
+        let whole = h.share()?;
         return Ok(whole);
     }
-    let rest = without_settled(alloc, p, whole)?;
+    let steps = without_looks(alloc, p, h)?;
+    let rest = without_settled(alloc, p, steps)?;
     Ok(rest)
 }

@@ -84,14 +84,14 @@ fn are_spent(d: &Five, ls: &[Literal]) -> bool
 
 /// Whether the group is one of the databases.
 #[tactic(auto, using(crate::proofs::Found::is_group_among))]
-fn has_group(d: &Five, g: &Group) -> bool
+pub(crate) fn has_group(d: &Five, g: &Group) -> bool
     ensures { result ≡ list_any (λ h. is_eq (conj_cmp (literals_in g.now) h)) (groups_of d.now.kx) }
 {
     d.kx.has(g)
 }
 
 /// Whether the group speaks of objects alone.
-fn is_group_of_objects(g: &Group) -> bool
+pub(crate) fn is_group_of_objects(g: &Group) -> bool
     ensures { result ≡ list_all is_of_objects (literals_in g.now) }
 {
     are_of_objects(g.as_slice())

@@ -6,6 +6,7 @@ pub mod Deepening
 pub mod Readiness
 pub mod Looping
 pub mod Children
+pub mod Leaving
 pub mod LettingGo
 pub mod Starting
 pub mod Witnessed

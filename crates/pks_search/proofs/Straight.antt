@@ -1,12 +1,12 @@
 -- Where the bound leaves no room for a branch, the last moment alone has the trees of a history.
-use Rattle.std.proofs.Common.{◌≡◌, ◌≤◌, ◌<◌, ◌+◌, ◌-◌, ◌&&◌, ◌==◌, ℕ, min, max, true, List, [], ◌∷◌, ◌++◌, Option, Some, None, refl, sym, ap, ◌∙◌, subst, inr, ⊎_elim, true≢false, arith}
+use Rattle.std.proofs.Common.{◌≡◌, ◌≤◌, ◌<◌, ◌+◌, ◌-◌, ◌&&◌, ◌==◌, ℕ, min, max, true, List, [], ◌∷◌, ◌++◌, Option, Some, None, refl, sym, ◌∙◌, subst, inr, ⊎_elim, true≢false, arith}
 use Rattle.std.specs.List.{list_all}
 use Rattle.std.proofs.lemmas.Bool.{ltb-true, eqb-true, or_cases}
 use Rattle.std.proofs.lemmas.Option.{none-some}
 use Rattle.pks_terms.specs.Sets.{Each, IsIn}
 use Rattle.pks_terms.specs.Worlds.{World}
 use Rattle.pks_terms.specs.Databases.{Five}
-use Rattle.pks_terms.specs.Closure.{Outcome, Next, Clash}
+use Rattle.pks_terms.specs.Closure.{Next, Clash}
 use Rattle.pks_terms.specs.Queries.{answers}
 use Rattle.pks_terms.specs.Actions.{Instance}
 use Rattle.pks_terms.specs.Progress.{Progress}
@@ -15,7 +15,7 @@ use Rattle.pks_terms.specs.Typed.{IsTyped, AllJustified}
 use Rattle.pks_terms.specs.Branching.{instances, Act}
 use Rattle.pks_terms.specs.Settling.{History, last_of, last_moment, pushed, State, At, Stopped}
 use Rattle.pks_terms.specs.Aims.{is_met, met}
-use Rattle.pks_terms.specs.Trees.{Tree, Goal, Impossible, Do, Branch, Cases, Chain, depth, chain_depth, cost, after_step, Acts, Derives, IsBestOf}
+use Rattle.pks_terms.specs.Trees.{Tree, Goal, Impossible, Do, Branch, Cases, depth, chain_depth, cost, after_step, Acts, Derives, IsBestOf}
 use Rattle.pks_terms.specs.Knowledge.{grounded, after_action}
 use Rattle.pks_terms.specs.Valid.{IsValid}
 use Rattle.pks_terms.specs.Versions.{IsNow}
@@ -25,15 +25,17 @@ use Rattle.pks_laws.proofs.SearchStates.{last_of_it}
 use Rattle.pks_laws_distance.specs.Runs.{Reaches, MayBeAt}
 use Rattle.pks_laws_distance.specs.Levels.{IsAtMost}
 use Rattle.pks_laws_distance.proofs.Running.{acted_may, may_do, reach_branch, reach_cases}
+use Rattle.pks_laws_looks.specs.Looks.{IsLook}
+use Rattle.pks_laws_looks.proofs.Thinned.{without_none}
 use Rattle.pks_search_witness.specs.declared.witness.Witness.{Witness}
 use Rattle.pks_search_witness.specs.Near.{world_in, is_above}
-use Rattle.pks_history_forget.specs.Same.{IsEndOf}
+use Rattle.pks_history_forget.specs.Same.{IsEndOf, IsLeftOf}
 use Rattle.pks_search_nogoods.specs.Failing.{HasNoTree}
 use Rattle.pks_search_nogoods.proofs.Costs.{depth_at_most_cost}
 use Rattle.pks_search.specs.Limits.{IsCheapBy}
 use Rattle.pks_search.specs.Near.{IfNear, IfNearAfter, is_far, is_tight}
 use Rattle.pks_search.specs.Straight.{IsStraight, last_alone, HasTreesWithin}
-use Rattle.pks_search.proofs.Witnessed.{end_near}
+use Rattle.pks_search.proofs.Witnessed.{left_near}
 use Rattle.pks_search.proofs.Limited.{price}
 
 not_stopped : (h : History) → At h ≡ Stopped → ⊥
@@ -140,13 +142,13 @@ module _ (p : Problem) (j : AllJustified p) (s : IsTyped p) (v : IsValid p) wher
     -- so the last moment alone has the same trees
     pub last_trees : (o : Option Witness) (n limit : ℕ) → AreMomentsOf p h → IfNear p h o → is_tight o (min n limit) ≡ true → HasTreesWithin p h (last_alone h) n limit
     last_trees o n limit moments k tight =
-        let end = last_end h.start h.steps in record {
+        let left : IsLeftOf p h (last_alone h) = record { steps = h; without = without_none (IsLook p) h.start h.steps; end = last_end h.start h.steps } in record {
           moments = record { start = last_of_it p v h moments; steps = tt };
           short = omega arith;
-          end = end;
+          left = left;
           trees = λ t deep cheap. (
             λ d. alike p plain t (tight_straight o n limit h t k tight d deep cheap) h (last_alone h) refl d,
-            λ d. alike p plain t (tight_straight o n limit (last_alone h) t (end_near p h (last_alone h) o end k) tight d deep cheap) (last_alone h) h refl d,
+            λ d. alike p plain t (tight_straight o n limit (last_alone h) t (left_near p h (last_alone h) o left k) tight d deep cheap) (last_alone h) h refl d,
           );
         }
 

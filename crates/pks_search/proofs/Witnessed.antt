@@ -1,5 +1,5 @@
 -- The witness along a search, and the trees that its bound rules out.
-use Rattle.std.proofs.Common.{◌≡◌, ◌≤◌, ◌<◌, ◌+◌, ◌-◌, ℕ, min, max, true, List, [], ◌∷◌, Option, Some, None, refl, sym, subst, inl, inr, arith, true≢false}
+use Rattle.std.proofs.Common.{◌≡◌, ◌≤◌, ◌<◌, ◌+◌, ◌-◌, ℕ, min, max, true, List, [], Option, Some, None, refl, sym, subst, arith, true≢false}
 use Rattle.std.specs.Option.{IfSome}
 use Rattle.std.proofs.lemmas.Bool.{ltb-true, eqb-true, not-true}
 use Rattle.std.proofs.lemmas.Option.{none-some}
@@ -13,19 +13,20 @@ use Rattle.pks_terms.specs.Problems.{Problem, initial}
 use Rattle.pks_terms.specs.Typed.{IsTyped, AllJustified}
 use Rattle.pks_terms.specs.Branching.{instances, Choice, Act, BranchOn, CasesOn, Side, AsTrue, AsFalse, Is, IsSo, IsMember}
 use Rattle.pks_terms.specs.Settling.{History, last_moment, At}
-use Rattle.pks_terms.specs.Trees.{Tree, Goal, Impossible, Do, Branch, Cases, Chain, depth, chain_depth, cost, Acts, Takes, Derives, IsBestOf}
+use Rattle.pks_terms.specs.Trees.{Tree, Goal, Impossible, Do, Branch, Cases, depth, chain_depth, cost, Acts, Takes, Derives, IsBestOf}
 use Rattle.pks_terms.specs.Knowledge.{grounded, after_action}
 use Rattle.pks_terms.specs.Valid.{IsValid}
 use Rattle.pks_laws.proofs.Choosing.{act_not_branch, act_not_cases, branch_not_act, branch_not_cases, cases_not_act, cases_not_branch}
 use Rattle.pks_laws_distance.specs.Runs.{Reaches, MayBeAt}
 use Rattle.pks_laws_distance.specs.Levels.{IsAtMost}
-use Rattle.pks_laws_distance.proofs.Running.{start_may, later_may, acted_may, taken_may, reach_from, reach_branch, reach_cases}
+use Rattle.pks_laws_distance.proofs.Running.{start_may, acted_may, taken_may, reach_from, reach_branch, reach_cases}
 use Rattle.pks_search_witness.specs.declared.witness.Witness.{Witness}
 use Rattle.pks_search_witness.specs.Near.{world_in, IsCounted, is_above, is_beyond}
-use Rattle.pks_history_forget.specs.Same.{IsEndOf}
+use Rattle.pks_history_forget.specs.Same.{IsLeftOf}
 use Rattle.pks_search_nogoods.proofs.Costs.{depth_at_most_cost}
 use Rattle.pks_search.specs.Limits.{IsBestWithin, IsCheapBy}
 use Rattle.pks_search.specs.Near.{IsFirst, IsNear, IfNear, IfNearAfter, Becomes, is_far, is_so, is_on}
+use Rattle.pks_search.proofs.Leaving.{left_may}
 use Rattle.pks_search.proofs.Limited.{price}
 
 -- ---- numbers
@@ -41,15 +42,9 @@ at_is g h e = cc
 module _ (p : Problem) where
   -- ---- letting go of the past
 
-  -- at one of the later moments a world may still be the present one
-  pub end_may : (d : Five) (steps : List (Instance × Five)) (rest : History) (v : World) → IsEndOf d steps rest → MayBeAt p (record { start = d; steps = steps }) v → MayBeAt p rest v
-  end_may d [] rest v e m = subst (λ g. MayBeAt p g v) (sym e) m
-  end_may d (step ∷ steps) rest v (inl e) m = subst (λ g. MayBeAt p g v) (sym e) m
-  end_may d (step ∷ steps) rest v (inr e) m = end_may step.1 steps rest v e (later_may p d step.0 (record { start = step.1; steps = steps }) v m)
-
-  pub end_near : (h rest : History) (o : Option Witness) → IsEndOf h.start h.steps rest → IfNear p h o → IfNear p rest o
-  end_near h rest None e k = tt
-  end_near h rest (Some x) e k = record { here = end_may h.start h.steps rest (world_in x) e k.here; counted = k.counted }
+  pub left_near : (h rest : History) (o : Option Witness) → IsLeftOf p h rest → IfNear p h o → IfNear p rest o
+  left_near h rest None k near = tt
+  left_near h rest (Some x) k near = record { here = left_may p h rest (world_in x) k near.here; counted = near.counted }
 
   pub near_counted : (h : History) (o : Option Witness) → IfNear p h o → IfSome o (IsCounted p)
   near_counted h None k = tt

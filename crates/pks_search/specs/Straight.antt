@@ -6,7 +6,7 @@ use Rattle.pks_terms.specs.Settling.{History, last_moment, At}
 use Rattle.pks_terms.specs.Moments.{AreMomentsOf}
 use Rattle.pks_terms.specs.Trees.{Tree, Goal, Impossible, Do, Branch, Cases, depth, cost, Derives}
 use Rattle.pks_terms.specs.Versions.{IsNow}
-use Rattle.pks_history_forget.specs.Same.{IsEndOf}
+use Rattle.pks_history_forget.specs.Same.{IsLeftOf}
 use Rattle.pks_search_nogoods.specs.Failing.{HasNoTree}
 
 -- no branch and no cases stand in the tree
@@ -21,11 +21,11 @@ IsStraight (Cases x k) = ⊥
 abbrev pub last_alone : History → History
 last_alone h = record { start = last_moment h; steps = [] }
 
--- what begins at one of the moments, and at which the same trees are derived of those no deeper than n that cost no more than the limit
+-- what is left of a history, and at which the same trees are derived of those no deeper than n that cost no more than the limit
 pub record HasTreesWithin (p : Problem) (h rest : History) (n limit : ℕ) : Type 0 where
   pub moments : AreMomentsOf p rest
   pub short : length rest.steps ≤ length h.steps
-  pub end : IsEndOf h.start h.steps rest
+  pub left : IsLeftOf p h rest
   pub trees : (t : Tree) → depth t ≤ n → cost p t ≤ limit → Derives p (At h) t ↔ Derives p (At rest) t
 
 -- where nothing but actions has room and each aim is of the last moment, this alone has no tree no deeper than n that costs at most the limit

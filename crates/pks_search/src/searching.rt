@@ -65,7 +65,7 @@ pub fn best_from(
     let h = History::start(alloc, start)?;
     let first = Start::of(alloc, p)?;
     let Start { near, deeds } = first;
-    let failures = Failures::new(alloc)?;
+    let failures = Failures::new(alloc, p)?;
     let mut notes = Notes { deeds, failures };
     let spot = Spot {
         history: &h,

@@ -1,5 +1,6 @@
 //! Where a search is, what it takes along, and what it lets go of.
 ghost use Rattle.std.specs.Prelude.{◌≡◌, true, IfOk};
+ghost use Rattle.pks_terms.specs.Moments.{AreMomentsOf};
 ghost use Rattle.pks_terms.specs.Valid.{IsValid};
 ghost use Rattle.pks_terms.specs.Views.{problem_of};
 ghost use Rattle.pks_search_nogoods.specs.Failing.{AreRight};
@@ -10,7 +11,8 @@ use crate::nearing::is_tight;
 use pks_history::histories::History;
 use pks_history_forget::{are_now, cut};
 use pks_search_distance::Deeds;
-use pks_search_nogoods::failures::Failures;
+use pks_search_nogoods::failures::{Failures, Question};
+use pks_search_symmetry::Keyed;
 use pks_search_witness::Witness;
 use pks_terms::problem::Problem;
 use std::alloc::{AllocError, Global};
@@ -70,6 +72,7 @@ pub(crate) fn last_fails(
     failures: &mut Failures,
 ) -> Result<bool, AllocError>
     requires valid { IsValid (problem_of p.now) }
+    requires moments { AreMomentsOf (problem_of p.now) h.now }
     requires right { AreRight (problem_of p.now) failures.old }
     ensures fails { IfOk result (λ b. b ≡ true → LastFails (problem_of p.now) h.now tight n limit) }
     ensures right { AreRight (problem_of p.now) failures.new }
@@ -78,6 +81,15 @@ pub(crate) fn last_fails(
         return Ok(false);
     }
     let only = last_alone(alloc, h)?;
-    let fails = failures.tells(&only, n, limit);
+    let key = failures.key_of(alloc, &only)?;
+    let asked = Question {
+        at: Keyed {
+            history: &only,
+            key: &key,
+        },
+        n,
+        limit,
+    };
+    let fails = failures.tells(alloc, p, &asked);
     Ok(fails)
 }

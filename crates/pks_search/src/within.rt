@@ -26,6 +26,8 @@ use pks_plan::{CaseChain, Tree, action_cost, cost};
 use pks_postdict::settling::{Settled, settle_after};
 use pks_progress::progressing::progress;
 use pks_query::databases::Step;
+use pks_search_nogoods::failures::Question;
+use pks_search_symmetry::Keyed;
 use pks_search_witness::Witness;
 use pks_terms::choices::{Choice, Side};
 use pks_terms::ids::ObjId;
@@ -107,13 +109,22 @@ fn best_of_rest(
     ensures best { IfOk result (λ o. IsBestWithin (problem_of p.now) (At spot.now.history.now) n limit (option_map tree_of o)) }
     ensures notes { AreSo (problem_of p.now) notes.new }
 {
-    if notes.failures.tells(spot.history, n, limit) {
+    let key = notes.failures.key_of(alloc, spot.history)?;
+    let asked = Question {
+        at: Keyed {
+            history: spot.history,
+            key: &key,
+        },
+        n,
+        limit,
+    };
+    if notes.failures.tells(alloc, p, &asked) {
         return Ok(None);
     }
     match best_of_choices(alloc, p, spot, n - 1, limit, notes)? {
         Some(t) => Ok(Some(t)),
         None => {
-            notes.failures.note(spot.history, n, limit);
+            notes.failures.note(spot.history, key, n, limit);
             Ok(None)
         }
     }

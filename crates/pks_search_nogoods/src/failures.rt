@@ -1,12 +1,17 @@
 //! The tables of failed searches.
 ghost use Rattle.std.specs.Prelude.{IsTrue, IfOk, IfSome};
-ghost use Rattle.pks_terms.specs.Problems.{Problem};
+ghost use Rattle.pks_terms.specs.Moments.{AreMomentsOf};
+ghost use Rattle.pks_terms.specs.Problems.{Problem as SProblem};
 ghost use Rattle.pks_terms.specs.Valid.{IsValid};
+ghost use Rattle.pks_terms.specs.Views.{problem_of};
+ghost use Rattle.pks_laws_forget.specs.Transparent.{AreSetsAlong};
+ghost use Rattle.pks_search_symmetry.specs.Keeping.{IsOfProblem};
 ghost use Rattle.pks_search_nogoods.specs.Failing.{HasNoTree, IsRight, AreRightIn, AreRight};
 
-use crate::mark::mark_of;
 use lru::LruCache;
 use pks_history::histories::History;
+use pks_search_symmetry::{Alike, HistoryKey, Keyed};
+use pks_terms::problem::Problem;
 use std::alloc::{AllocError, Global};
 use std::num::NonZeroUsize;
 
@@ -14,50 +19,84 @@ use std::num::NonZeroUsize;
 #[derive(Drop)]
 pub struct Failure {
     history: History,
+    key: HistoryKey,
     depth: u32,
     limit: u32,
 }
 
+/// What is asked of a table: whether there is no tree at the history no deeper than `n` that costs at most `limit`.
+#[derive(Clone, Copy)]
+pub struct Question<'h> {
+    /// The history with its key.
+    pub at: Keyed<'h>,
+    /// The depth.
+    pub n: u32,
+    /// The limit on the cost.
+    pub limit: u32,
+}
+
+/// That each set of each moment is in order. It does nothing.
+fn in_order(h: &History)
+    ensures { AreSetsAlong h.now }
+{
+    h.in_order();
+}
+
 impl Failure {
-    // Whether this failure says that there is no tree at the history no deeper than `n` that costs at most `limit`. A tree
-    // costs at least its depth.
-    fn serves(&self, h: &History, n: u32, limit: u32) -> bool
-        ensures { IsTrue result → (p : Problem) → IsValid p → IsRight p self.now → HasNoTree p h.now n limit }
+    // Whether this failure says that there is no such tree: its history is the image of the other by a renaming that the
+    // problem doesn't see. A tree costs at least its depth.
+    fn serves(&self, alloc: Global, p: &Problem<'_>, alike: &Alike, asked: &Question<'_>) -> bool
+        ensures { IsTrue result → IsValid (problem_of p.now) → IsOfProblem (problem_of p.now) alike.now → AreMomentsOf (problem_of p.now) asked.now.at.history.now
+            → IsRight (problem_of p.now) self.now → HasNoTree (problem_of p.now) asked.now.at.history.now asked.now.n asked.now.limit }
     {
-        if self.limit < limit || self.depth < n.min(limit) {
+        if self.limit < asked.limit || self.depth < asked.n.min(asked.limit) {
             return false;
         }
-        self.history.same(h)
+        in_order(asked.at.history);
+        in_order(&self.history);
+        let own = Keyed {
+            history: &self.history,
+            key: &self.key,
+        };
+        alike.are_alike(alloc, p, &asked.at, &own)
     }
 }
 
 /// A table of failures, found by the marks of their histories. Where it is full, the one that was met longest ago falls out.
-type Table = LruCache<u64, Failure>;
+type FailureTable = LruCache<u64, Failure>;
 
 /// The failures that were met last: 4,096 of them, and behind these the 65,536 that fell out of there last. Each is right of
-/// its history alone, in a problem in which all that was noted was so.
+/// its history alone, in a problem in which all that was noted was so, and serves each history that is its image.
 #[derive(Drop)]
 pub struct Failures {
-    last: Table,
-    fallen: Table,
+    last: FailureTable,
+    fallen: FailureTable,
+    alike: Alike,
 }
 
 // Whether the failure that the table has under the mark says so. It is then the one that was met last.
-fn tells_in(table: &mut Table, mark: u64, h: &History, n: u32, limit: u32) -> bool
-    ensures told { IsTrue result → (p : Problem) → IsValid p → AreRightIn p table.old → HasNoTree p h.now n limit }
-    ensures right { (p : Problem) → AreRightIn p table.old → AreRightIn p table.new }
+fn tells_in(
+    alloc: Global,
+    p: &Problem<'_>,
+    alike: &Alike,
+    table: &mut FailureTable,
+    asked: &Question<'_>,
+) -> bool
+    ensures told { IsTrue result → IsValid (problem_of p.now) → IsOfProblem (problem_of p.now) alike.now → AreMomentsOf (problem_of p.now) asked.now.at.history.now
+        → AreRightIn (problem_of p.now) table.old → HasNoTree (problem_of p.now) asked.now.at.history.now asked.now.n asked.now.limit }
+    ensures right { (p : SProblem) → AreRightIn p table.old → AreRightIn p table.new }
 {
-    table.promote(&mark);
-    match table.peek(&mark) {
-        Some(failure) => failure.serves(h, n, limit),
+    table.promote(&asked.at.key.mark);
+    match table.peek(&asked.at.key.mark) {
+        Some(failure) => failure.serves(alloc, p, alike, asked),
         None => false,
     }
 }
 
 // Puts the failure in place of one with the same mark, if there is memory, and gives back what it put out.
-fn put_in(table: &mut Table, mark: u64, failure: Failure) -> Option<(u64, Failure)>
-    ensures right { (p : Problem) → IsRight p failure → AreRightIn p table.old → AreRightIn p table.new }
-    ensures fallen { (p : Problem) → AreRightIn p table.old → IfSome result (λ e. IsRight p e.1) }
+fn put_in(table: &mut FailureTable, mark: u64, failure: Failure) -> Option<(u64, Failure)>
+    ensures right { (p : SProblem) → IsRight p failure → AreRightIn p table.old → AreRightIn p table.new }
+    ensures fallen { (p : SProblem) → AreRightIn p table.old → IfSome result (λ e. IsRight p e.1) }
 {
     match table.push(mark, failure) {
         Ok(fallen) => fallen,
@@ -66,49 +105,60 @@ fn put_in(table: &mut Table, mark: u64, failure: Failure) -> Option<(u64, Failur
 }
 
 impl Failures {
-    /// The empty tables. The error is want of memory.
-    pub fn new(alloc: Global) -> Result<Failures, AllocError>
-        ensures { IfOk result (λ f. (p : Problem) → AreRight p f) }
+    /// The empty tables for a problem. The error is want of memory.
+    pub fn new(alloc: Global, p: &Problem<'_>) -> Result<Failures, AllocError>
+        ensures { IfOk result (AreRight (problem_of p.now)) }
     {
         let last = LruCache::new(alloc, NonZeroUsize::new(4_096).unwrap())?;
         let fallen = LruCache::sparse(alloc, NonZeroUsize::new(65_536).unwrap())?;
-        Ok(Failures { last, fallen })
+        let alike = Alike::of(alloc, p)?;
+        Ok(Failures {
+            last,
+            fallen,
+            alike,
+        })
     }
 
-    /// Whether a failure in the tables says that no tree at the history, no deeper than `n`, costs at most `limit`. Where it
-    /// says nothing there may be one. It takes no memory.
-    pub fn tells(&mut self, h: &History, n: u32, limit: u32) -> bool
-        ensures told { IsTrue result → (p : Problem) → IsValid p → AreRight p self.old → HasNoTree p h.now n limit }
-        ensures right { (p : Problem) → AreRight p self.old → AreRight p self.new }
+    /// The key under which the history's images are found. The error is want of memory.
+    pub fn key_of(&self, alloc: Global, h: &History) -> Result<HistoryKey, AllocError> {
+        self.alike.key_of(alloc, h)
+    }
+
+    /// Whether a failure in the tables says that no tree at the history, no deeper than `n`, costs at most `limit`, or none at
+    /// one that is its image. Where it says nothing there may be one. Where memory is wanting it says nothing.
+    pub fn tells(&mut self, alloc: Global, p: &Problem<'_>, asked: &Question<'_>) -> bool
+        ensures told { IsTrue result → IsValid (problem_of p.now) → AreMomentsOf (problem_of p.now) asked.now.at.history.now → AreRight (problem_of p.now) self.old
+            → HasNoTree (problem_of p.now) asked.now.at.history.now asked.now.n asked.now.limit }
+        ensures right { (p : SProblem) → AreRight p self.old → AreRight p self.new }
     {
-        let mark = mark_of(h);
-        if tells_in(&mut self.last, mark, h, n, limit) {
+        if tells_in(alloc, p, &self.alike, &mut self.last, asked) {
             return true;
         }
-        tells_in(&mut self.fallen, mark, h, n, limit)
+        tells_in(alloc, p, &self.alike, &mut self.fallen, asked)
     }
 
-    /// Notes that no tree at the history, no deeper than `depth`, costs at most `limit`. Where memory is wanting the tables
-    /// lose a failure or stay as they are. For a depth of 1 or less it notes nothing where the first table is full, since that
-    /// is cheap to find again, and else would put out what is dear.
-    pub fn note(&mut self, h: &History, depth: u32, limit: u32)
-        ensures { (p : Problem) → HasNoTree p h.now depth limit → AreRight p self.old → AreRight p self.new }
+    /// Notes under its key that no tree at the history, no deeper than `depth`, costs at most `limit`. Where memory is wanting
+    /// the tables lose a failure or stay as they are. For a depth of 1 or less it notes nothing where the first table is full,
+    /// since that is cheap to find again, and else would put out what is dear.
+    pub fn note(&mut self, h: &History, key: HistoryKey, depth: u32, limit: u32)
+        ensures { (p : SProblem) → AreMomentsOf p h.now → HasNoTree p h.now depth limit → AreRight p self.old → AreRight p self.new }
     {
         if depth <= 1 && self.last.len() >= 4_096 {
             return;
         }
         if let Ok(history) = h.share() {
-            self.put(history, depth, limit);
+            self.put(history, key, depth, limit);
         }
     }
 
     // Puts the failure in place of one with the same mark, if there is memory. What falls out goes to the second table.
-    fn put(&mut self, history: History, depth: u32, limit: u32)
-        ensures { (p : Problem) → HasNoTree p history depth limit → AreRight p self.old → AreRight p self.new }
+    fn put(&mut self, history: History, key: HistoryKey, depth: u32, limit: u32)
+        ensures { (p : SProblem) → AreMomentsOf p history → HasNoTree p history depth limit → AreRight p self.old → AreRight p self.new }
     {
-        let mark = mark_of(&history);
+        let mark = key.mark;
         let failure = Failure {
             history,
+            key,
             depth,
             limit,
         };

@@ -10,7 +10,7 @@ const SEVENTEEN: &str =
   (p13) (p14) (p15) (p16) (p17))";
 
 /// A list of numbered parts, and how many of them there may be.
-struct Counted {
+struct CountLimit {
     /// The text before the first part.
     front: (&'static str, &'static str),
     /// What stands before the number of a part, and behind it.
@@ -23,14 +23,14 @@ struct Counted {
 }
 
 /// A part with this in the place of its number.
-fn part_of(alloc: Global, row: &Counted, middle: &str) -> Result<String, AllocError> {
+fn part_of(alloc: Global, row: &CountLimit, middle: &str) -> Result<String, AllocError> {
     let mut part = String::from_str(alloc, row.part.0)?;
     part.push_str(middle)?;
     part.push_str(row.part.1)?;
     Ok(part)
 }
 
-fn push_part(alloc: Global, row: &Counted, k: u16, text: &mut String) -> Result<(), AllocError> {
+fn push_part(alloc: Global, row: &CountLimit, k: u16, text: &mut String) -> Result<(), AllocError> {
     let number = format!(in alloc; "{k}")?;
     let part = part_of(alloc, row, number.as_str())?;
     text.push_str(part.as_str())?;
@@ -38,7 +38,7 @@ fn push_part(alloc: Global, row: &Counted, k: u16, text: &mut String) -> Result<
 }
 
 /// The text with as many parts as there may be and then a last one, and where that begins.
-fn text_of(alloc: Global, row: &Counted, last: &str) -> Result<(String, usize), AllocError> {
+fn text_of(alloc: Global, row: &CountLimit, last: &str) -> Result<(String, usize), AllocError> {
     let mut text = String::from_str(alloc, row.front.0)?;
     text.push_str(row.front.1)?;
     for k in 1..=row.most {
@@ -51,13 +51,13 @@ fn text_of(alloc: Global, row: &Counted, last: &str) -> Result<(String, usize), 
 }
 
 /// Whether as many parts as there may be are taken.
-fn is_taken(alloc: Global, row: &Counted) -> Result<bool, AllocError> {
+fn is_taken(alloc: Global, row: &CountLimit) -> Result<bool, AllocError> {
     let (text, _begin) = text_of(alloc, row, "")?;
     Ok(refusal_of(alloc, text.as_str()) == (0, 0))
 }
 
 /// Whether the text with this last part is refused with this code at the name of that part.
-fn is_refused(alloc: Global, row: &Counted, last: &str, code: u16) -> Result<bool, AllocError> {
+fn is_refused(alloc: Global, row: &CountLimit, last: &str, code: u16) -> Result<bool, AllocError> {
     let (text, begin) = text_of(alloc, row, last)?;
     let (at, found) = refusal_of(alloc, text.as_str());
     let placed = (at as usize).checked_sub(begin) == Some(usize::from(row.shift));
@@ -67,7 +67,7 @@ fn is_refused(alloc: Global, row: &Counted, last: &str, code: u16) -> Result<boo
 /// The same of a last part with this in the place of its number.
 fn is_named_refused(
     alloc: Global,
-    row: &Counted,
+    row: &CountLimit,
     middle: &str,
     code: u16,
 ) -> Result<bool, AllocError> {
@@ -76,25 +76,25 @@ fn is_named_refused(
 }
 
 /// Whether the next part is refused as one too many.
-fn is_next_refused(alloc: Global, row: &Counted) -> Result<bool, AllocError> {
+fn is_next_refused(alloc: Global, row: &CountLimit) -> Result<bool, AllocError> {
     let next = u32::from(row.most) + 1;
     let number = format!(in alloc; "{next}")?;
     is_named_refused(alloc, row, number.as_str(), 208)
 }
 
 /// Whether so many parts are taken, and one more is refused at its place.
-fn is_limit(alloc: Global, row: &Counted) -> Result<bool, AllocError> {
+fn is_limit(alloc: Global, row: &CountLimit) -> Result<bool, AllocError> {
     Ok(is_taken(alloc, row)? && is_next_refused(alloc, row)?)
 }
 
 /// Whether the first name past the limit is refused as any other, where it stands twice and where it has 65 bytes.
-fn is_asked_past(alloc: Global, row: &Counted) -> Result<bool, AllocError> {
+fn is_asked_past(alloc: Global, row: &CountLimit) -> Result<bool, AllocError> {
     let long = with_name(alloc, "", 64, "")?;
     Ok(is_named_refused(alloc, row, "1", 202)? && is_named_refused(alloc, row, long.as_str(), 200)?)
 }
 
 /// Fails at the first list that takes fewer parts or more.
-fn are_limits(alloc: Global, rows: &[Counted]) -> Result<(), Fail> {
+fn are_limits(alloc: Global, rows: &[CountLimit]) -> Result<(), Fail> {
     for row in rows {
         if !is_limit(alloc, row)? {
             return Err(Fail::new(row.front.1));
@@ -104,7 +104,7 @@ fn are_limits(alloc: Global, rows: &[Counted]) -> Result<(), Fail> {
 }
 
 /// Fails at the first list whose first name past the limit isn't refused as any other.
-fn are_asked_past(alloc: Global, rows: &[Counted]) -> Result<(), Fail> {
+fn are_asked_past(alloc: Global, rows: &[CountLimit]) -> Result<(), Fail> {
     for row in rows {
         if !is_asked_past(alloc, row)? {
             return Err(Fail::new(row.front.1));
@@ -113,57 +113,57 @@ fn are_asked_past(alloc: Global, rows: &[Counted]) -> Result<(), Fail> {
     Ok(())
 }
 
-const DECLARED: &[Counted] = &[
-    Counted {
+const DECLARED: &[CountLimit] = &[
+    CountLimit {
         front: ("(pks 1) (domain", " (types"),
         part: (" t", ""),
         back: ") (predicates (p))) (problem (goal (k (p))))",
         most: 16,
         shift: 1,
     },
-    Counted {
+    CountLimit {
         front: ("(pks 1) (domain", " (types t) (objects (t"),
         part: (" c", ""),
         back: ")) (predicates (p))) (problem (goal (k (p))))",
         most: 64,
         shift: 1,
     },
-    Counted {
+    CountLimit {
         front: ("(pks 1) (domain", " (types t) (objects"),
         part: (" (t c", ")"),
         back: ") (predicates (p))) (problem (goal (k (p))))",
         most: 64,
         shift: 4,
     },
-    Counted {
+    CountLimit {
         front: ("(pks 2) (domain", " (types t) (objects (t"),
         part: (" c", ""),
         back: ")) (predicates (p))) (problem (goal (k (p))))",
         most: 256,
         shift: 1,
     },
-    Counted {
+    CountLimit {
         front: ("(pks 1) (domain", " (predicates"),
         part: (" (p", ")"),
         back: ")) (problem (goal (k (p1))))",
         most: 32,
         shift: 2,
     },
-    Counted {
+    CountLimit {
         front: (FOUR_TYPES, " (functions"),
         part: (" (f", " t1)"),
         back: ")) (problem (goal (kv (f1))))",
         most: 32,
         shift: 2,
     },
-    Counted {
+    CountLimit {
         front: ("(pks 1) (domain", " (predicates (p))"),
         part: (" (action a", ")"),
         back: ") (problem (goal (k (p))))",
         most: 64,
         shift: 9,
     },
-    Counted {
+    CountLimit {
         front: (FOUR_TYPES, " (predicates (p)) (action a (params"),
         part: (" (?x", " t1)"),
         back: "))) (problem (goal (k (p))))",
@@ -180,12 +180,12 @@ fn declared_names_are_counted(rt: HostRuntime) -> Result<(), Fail> {
 
 /// A part behind as many as there may be, and the code of its refusal.
 struct Last {
-    list: &'static Counted,
+    list: &'static CountLimit,
     part: &'static str,
     code: u16,
 }
 
-const TYPES: Counted = Counted {
+const TYPES: CountLimit = CountLimit {
     front: ("(pks 2) (domain (types", ""),
     part: (" t", ""),
     back: ") (predicates (p))) (problem (goal (k (p))))",
@@ -193,7 +193,7 @@ const TYPES: Counted = Counted {
     shift: 2,
 };
 
-const PREDICATES: Counted = Counted {
+const PREDICATES: CountLimit = CountLimit {
     front: ("(pks 1) (domain (predicates", ""),
     part: (" (p", ")"),
     back: ")) (problem (goal (k (p1))))",
@@ -201,7 +201,7 @@ const PREDICATES: Counted = Counted {
     shift: 2,
 };
 
-const ARGUMENTS_OF_ONE: Counted = Counted {
+const ARGUMENTS_OF_ONE: CountLimit = CountLimit {
     front: ("(pks 1) (domain (types t1 t2 t3) (predicates (p) (q", ""),
     part: (" t", ""),
     back: "))) (problem (goal (k (p))))",
@@ -209,7 +209,7 @@ const ARGUMENTS_OF_ONE: Counted = Counted {
     shift: 1,
 };
 
-const LITERALS: Counted = Counted {
+const LITERALS: CountLimit = CountLimit {
     front: (
         "(pks 1) (domain (predicates (p1) (p2) (p3) (p4))) (problem (goal (kw",
         "",
@@ -263,15 +263,15 @@ fn first_parts_past_a_limit_are_asked(rt: HostRuntime) -> Result<(), Fail> {
     are_last(rt.alloc(), LASTS)
 }
 
-const ARGUMENTS: &[Counted] = &[
-    Counted {
+const ARGUMENTS: &[CountLimit] = &[
+    CountLimit {
         front: (FOUR_TYPES, " (predicates (q) (p"),
         part: (" t", ""),
         back: "))) (problem (goal (k (q))))",
         most: 3,
         shift: 1,
     },
-    Counted {
+    CountLimit {
         front: (FOUR_TYPES, " (functions (g t1) (f"),
         part: (" t", ""),
         back: " t1))) (problem (goal (kv (g))))",
@@ -285,64 +285,64 @@ fn arguments_are_counted(rt: HostRuntime) -> Result<(), Fail> {
     are_limits(rt.alloc(), ARGUMENTS)
 }
 
-const OF_AN_ACTION: &[Counted] = &[
-    Counted {
+const OF_AN_ACTION: &[CountLimit] = &[
+    CountLimit {
         front: (SEVENTEEN, " (action a (pre"),
         part: (" (k (p", "))"),
         back: "))) (problem (goal (k (p1))))",
         most: 16,
         shift: 1,
     },
-    Counted {
+    CountLimit {
         front: (SEVENTEEN, " (action a (effects"),
         part: (" (set (p", "))"),
         back: "))) (problem (goal (k (p1))))",
         most: 16,
         shift: 1,
     },
-    Counted {
+    CountLimit {
         front: (SEVENTEEN, " (action a (senses"),
         part: (" (sense (p", "))"),
         back: "))) (problem (goal (k (p1))))",
         most: 16,
         shift: 1,
     },
-    Counted {
+    CountLimit {
         front: (SEVENTEEN, " (action a (knows"),
         part: (" (kf (p", "))"),
         back: "))) (problem (goal (k (p1))))",
         most: 16,
         shift: 1,
     },
-    Counted {
+    CountLimit {
         front: (SEVENTEEN, " (action a (effects (when ("),
         part: (" (p", ")"),
         back: ") (set (p1)))))) (problem (goal (k (p1))))",
         most: 4,
         shift: 1,
     },
-    Counted {
+    CountLimit {
         front: (SEVENTEEN, " (action a (senses (sense"),
         part: (" (p", ")"),
         back: ")))) (problem (goal (k (p1))))",
         most: 4,
         shift: 1,
     },
-    Counted {
+    CountLimit {
         front: (SEVENTEEN, " (action a (knows (kw"),
         part: (" (p", ")"),
         back: ")))) (problem (goal (k (p1))))",
         most: 4,
         shift: 1,
     },
-    Counted {
+    CountLimit {
         front: (SEVENTEEN, " (action a (knows (if ("),
         part: (" (k (p", "))"),
         back: ") (kf (p1)))))) (problem (goal (k (p1))))",
         most: 4,
         shift: 1,
     },
-    Counted {
+    CountLimit {
         front: (SEVENTEEN, " (action a (pre (kw"),
         part: (" (p", ")"),
         back: ")))) (problem (goal (k (p1))))",
@@ -356,29 +356,29 @@ fn parts_of_an_action_are_counted(rt: HostRuntime) -> Result<(), Fail> {
     are_limits(rt.alloc(), OF_AN_ACTION)
 }
 
-const OF_A_PROBLEM: &[Counted] = &[
-    Counted {
+const OF_A_PROBLEM: &[CountLimit] = &[
+    CountLimit {
         front: (SEVENTEEN, ") (problem (init (kw"),
         part: (" (p", ")"),
         back: ")) (goal (k (p1))))",
         most: 4,
         shift: 1,
     },
-    Counted {
+    CountLimit {
         front: (SEVENTEEN, ") (problem (init (kx"),
         part: (" (p", ")"),
         back: ")) (goal (k (p1))))",
         most: 16,
         shift: 1,
     },
-    Counted {
+    CountLimit {
         front: (SEVENTEEN, ") (problem (goal (kw"),
         part: (" (p", ")"),
         back: ")))",
         most: 4,
         shift: 1,
     },
-    Counted {
+    CountLimit {
         front: (SEVENTEEN, ") (problem (goal"),
         part: (" (k (p", "))"),
         back: "))",

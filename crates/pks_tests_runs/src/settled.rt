@@ -126,6 +126,28 @@ const LAMPLIGHTER: &str = "(pks 1)
     (k (lit f)) (k (lit g)) (k (lit h))))
 ";
 
+/// Whether it is full is never known, so the past stays open; but the 720 orders in which the gauges may be read come to the
+/// same.
+const GAUGES: &str = "(pks 1)
+(domain (types gauge) (objects (gauge a b c d e f)) (predicates (high gauge) (hot) (full) (lit))
+  (action fire (effects (when ((hot)) (set (full))) (set (lit))) (knows (kf (lit))))
+  (action read (params (?g gauge)) (pre (k (lit))) (senses (sense (high ?g))) (knows (kw (high ?g)))))
+(problem
+  (init (kf (not (lit))))
+  (goal (kw (high a)) (kw (high b)) (kw (high c)) (kw (high d)) (kw (high e)) (kw (high f))))
+";
+
+const GAUGES_PLAN: &str = "plan depth 7
+(fire)
+(read a)
+(read b)
+(read c)
+(read d)
+(read e)
+(read f)
+goal
+";
+
 /// Eleven formulas to branch on, in any order, and a goal that none of them tells. It asks for no literal, so no bound is counted.
 const ELEVEN: &str = "(pks 1)
 (domain (predicates (p1) (p2) (p3) (p4) (p5) (p6) (p7) (p8) (p9) (p10) (p11) (g)))
@@ -159,6 +181,7 @@ fn what_the_past_may_tell_is_kept(rt: HostRuntime) -> Result<(), Fail> {
 const SAME_ORDERS: &[Answered] = &[
     Answered("plan 8", LAMPS, Done, LAMPS_PLAN),
     Answered("plan 8", LAMPLIGHTER, Done, LAMPS_PLAN),
+    Answered("plan 7", GAUGES, Done, GAUGES_PLAN),
 ];
 
 #[test]

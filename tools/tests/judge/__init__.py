@@ -10,5 +10,6 @@ program, nor any of the ways in which that saves work. A module stands for a rul
     progression, choices        RULES 11, 12
     settling, search            RULES 13, 15; what `recall` prints
     worlds                      RULES 3 and 16, by trying all worlds
-    generator, comparison       the problems, and what is compared
+    generator, templates        the problems, by chance and around one rule each
+    comparison                  what is compared
 """

@@ -5,13 +5,11 @@ from typing import Dict, Iterator, List, Optional, Sequence, Tuple
 
 from pkslib import Expression, written
 
+from . import templates
+from .templates import opposite
+
 Parameters = Sequence[Tuple[str, str]]
 """The parameters of an action, each with its type."""
-
-
-def opposite(literal: Expression) -> Expression:
-    """The negation of a literal."""
-    return literal[1] if literal[0] == 'not' else ('not', literal)
 
 
 class Declared:
@@ -36,6 +34,36 @@ class Declared:
         self.parents['u'] = 't' if version == 2 and self.chance.random() < 0.7 else None
         if version == 2 and self.chance.random() < 0.3:
             self.parents['w'], self.objects['w'] = 't', ['g']
+
+    # ---- what a template adds
+
+    def with_predicate(self, *kinds: str) -> str:
+        """A further predicate over these types; gives its name."""
+        name = f'q{len(self.predicates)}'
+        self.predicates[name] = kinds
+        self.true |= {atom for atom in self.instances({name: kinds}) if self.chance.random() < 0.4}
+        return name
+
+    def with_function(self, result: str, *kinds: str) -> str:
+        """A further function of this type over these; gives its name."""
+        name = f'g{len(self.functions)}'
+        self.functions[name] = (kinds, result)
+        for place in self.instances({name: kinds}):
+            self.values[place] = self.chance.choice(self.objects_of(result))
+        return name
+
+    def with_type(self, count: int) -> str:
+        """A further type of so many objects, below none; gives its name."""
+        self.parents['r'], self.objects['r'] = None, ['k', 'l', 'm'][:count]
+        return 'r'
+
+    def with_subtype(self) -> str:
+        """A further type below the first, and things of its own at each place that is new by that; gives its name."""
+        self.parents['v'], self.objects['v'] = 't', ['h', 'i'][:self.chance.choice([1, 2])]
+        for place in self.instances({name: kinds for name, (kinds, _) in self.functions.items()}):
+            if place not in self.values:
+                self.values[place] = self.chance.choice(self.objects_of(self.functions[place[0]][1]))
+        return 'v'
 
     def _kind(self) -> str:
         return self.chance.choice(list(self.parents))
@@ -111,6 +139,10 @@ class Maker:
         """Queries that an action may answer."""
         self.known: List[Expression] = []
         """Items that the start must have."""
+        self.goals: List[Expression] = []
+        """The aims, where a template says them."""
+        self.aim_atom: Optional[Expression] = None
+        """The atom that a template has for its aim."""
         self.depth = 0
         """To what depth it is planned."""
 
@@ -408,17 +440,20 @@ class Maker:
         """The forms of the file, without adds."""
         self.depth = self.chance.choice([1, 2, 3, 3, 3])
         actions = self.actions()
-        aims = [self.aim() for _ in range(self.chance.choice([1, 1, 1, 2]))]
+        aims = self.goals or [self.aim() for _ in range(self.chance.choice([1, 1, 1, 2]))]
         return [('pks', str(self.version)), ('domain', *self.declared.forms(), *actions),
                 ('problem', ('init', *self.init()), ('goal', *aims))]
 
     def actions(self) -> List[Expression]:
         """The actions, of one of a few kinds."""
         kind = self.chance.random()
-        if kind < 0.2:
+        if kind < 0.1:
             self.depth = 4
             return self.learning()
-        if kind < 0.65:
+        if kind < 0.6:
+            self.depth = 3
+            return self.chance.choice(templates.KINDS)(self)
+        if kind < 0.8:
             self.depth = 3
             found = self.chance.choice([self.reading, self.chain, self.sweeping, self.knowing, self.holding])()
             return found + [self.action(0)] * self.may(0.4)
@@ -443,10 +478,17 @@ class Maker:
         if self.may(0.04):
             yield ('kf', self.literal(names))
 
+    def put_in(self, kind: str, names: Parameters) -> Expression:
+        """An object or a parameter of the type; sometimes a place, where there is one."""
+        places = [name for name, (_, result) in self.declared.functions.items() if self.declared.fits(result, kind)]
+        if places and self.may(0.6):
+            return self.place(self.chance.choice(places), names, 1)
+        return self.term(kind, names, 0)
+
     def filled(self, pattern: Expression, names: Parameters) -> Expression:
-        """The pattern with objects or parameters at its wildcards."""
+        """The pattern with objects or parameters at its wildcards, and sometimes with a place, where no case fits."""
         kinds = self.declared.predicates[str(pattern[0])]
-        return (pattern[0], *(self.term(kind, names, 0) if term == '_' else term
+        return (pattern[0], *(self.put_in(kind, names) if term == '_' else term
                               for term, kind in zip(pattern[1:], kinds)))
 
 

@@ -26,7 +26,7 @@ best_rising-requires-clause-spot c =
     }
 
 pub best_rising-requires-clause-notes : goal.best_rising-requires-clause-notes
-best_rising-requires-clause-notes c = record { deeds = c.in_ok-first.ensures.deeds; failures = c.in_ok-failures.ensures (problem_of c.args.p.now) }
+best_rising-requires-clause-notes c = record { deeds = c.in_ok-first.ensures.deeds; failures = c.in_ok-failures.ensures }
 
 pub best_rising-requires-clause-limit : goal.best_rising-requires-clause-limit
 best_rising-requires-clause-limit c =

@@ -1,9 +1,12 @@
-use Rattle.std.proofs.Common.{◌≡◌, true, map, subst, rules}
+use Rattle.std.proofs.Common.{◌≡◌, true, map, sym, subst, rules}
+use Rattle.pks_terms.specs.Moments.{AreMomentsOf}
 use Rattle.pks_terms.specs.Sets.{Each}
 use Rattle.pks_terms.specs.Settling.{History}
 use Rattle.pks_terms.specs.Versions.{IsNow}
 use Rattle.pks_terms.specs.Views.{aim_of, problem_of}
+use Rattle.pks_laws.proofs.SearchStates.{last_of_it}
 use Rattle.pks_search_nogoods.specs.Failing.{HasNoTree}
+use Rattle.pks_search.specs.Straight.{last_alone}
 use Rattle.pks_search.proofs.spots.last_fails.Goals as goal
 
 pub returns-clause-fails : goal.returns-clause-fails
@@ -11,10 +14,13 @@ returns-clause-fails c = λ k.
     let p = problem_of c.args.p.now in
     let tight : c.args.tight ≡ true = search rules in
     let now : c.are_now.result ≡ true = search rules in
+    let h = c.args.h.now in
+    let alone : AreMomentsOf p (last_alone h) = record { start = last_of_it p c.requires.valid h c.requires.moments; steps = tt } in
+    let moments : AreMomentsOf p c.in_ok-only.only = subst (AreMomentsOf p) (sym c.in_ok-only.ensures) alone in
     record {
       tight_is = tight;
       plain = subst (λ xs. Each IsNow (map aim_of xs)) c.as_slice.ensures (c.are_now.ensures.0 now);
-      none = subst (λ (g : History). HasNoTree p g c.args.n c.args.limit) c.in_ok-only.ensures (c.tells-fails.ensures.told k p c.requires.valid c.requires.right);
+      none = subst (λ (g : History). HasNoTree p g c.args.n c.args.limit) c.in_ok-only.ensures (c.tells-fails.ensures.told k c.requires.valid moments c.requires.right);
     }
 
 pub returns-clause-right : goal.returns-clause-right

@@ -30,11 +30,11 @@ use Rattle.pks_search.proofs.Readiness.{ready_last, ready_acted, ready_taken, ch
 use Rattle.pks_search.proofs.Children.{after_clash, after_next, taking_clash, taking_next, takes, found_act, found_branch, no_true_side, no_false_side, some_limit, found_cases, chain_found, chain_no_first, chain_no_rest, chain_empty, acted}
 use Rattle.pks_search.proofs.LettingGo.{rest_ready, rest_unmet, best_of_rest}
 use Rattle.pks_search.specs.Near.{IfNear, IfNearAfter, is_far, is_tight}
-use Rattle.pks_search.specs.Spots.{MayGoOn, AreSo}
+use Rattle.pks_search.specs.Spots.{MayGoOn}
 use Rattle.pks_search.specs.Straight.{HasTreesWithin, LastFails}
 use Rattle.pks_search.proofs.Straight.{none_straight}
 use Rattle.pks_laws.proofs.Validity.{valid_typed}
-use Rattle.pks_search.proofs.Witnessed.{near_counted, end_near, acted_near, taken_near, none_near, none_branching, none_splitting, none_acting}
+use Rattle.pks_search.proofs.Witnessed.{near_counted, left_near, acted_near, taken_near, none_near, none_branching, none_splitting, none_acting}
 use Rattle.pks_search.proofs.within.+searching.Goals as goal
 use Rattle.pks_search.proofs.within.+searching.Goals.{best_within-then-n-eq0-via-then-n-eq0, best_within-then-n-eq0-via-else-n-eq0+then-limit-eq0}
 
@@ -416,7 +416,7 @@ best_unmet-best_of_rest-requires t c =
     let rest = c.in_ok-rest.rest in
     let same : HasTreesWithin p h rest c.args.n c.args.limit = c.in_ok-rest.ensures in
     let ready = rest_ready c.args.p.now h rest c.args.spot.now.unread c.args.n c.args.limit same c.requires.spot.ready in
-    let near = end_near p h rest c.args.spot.now.near.now same.end c.requires.spot.near in
+    let near = left_near p h rest c.args.spot.now.near.now same.left c.requires.spot.near in
     (less, (record { ready = ready; near = near }, (rest_unmet p h rest c.args.n c.args.limit same c.requires.unmet, (c.requires.some, c.requires.notes))))
 
 pub best_unmet-returns-clause-best : goal.best_unmet-returns-clause-best
@@ -430,7 +430,7 @@ best_unmet-returns-clause-best t c =
     c.best_of_rest.ensures.best
 
 pub best_of_rest-returns-then-tells-clause-best : goal.best_of_rest-returns-then-tells-clause-best
-best_of_rest-returns-then-tells-clause-best t c = c.tells.ensures.told c.if-tells.true (problem_of c.args.p.now) c.requires.spot.ready.valid.says c.requires.notes.failures
+best_of_rest-returns-then-tells-clause-best t c = c.tells.ensures.told c.if-tells.true c.requires.spot.ready.valid.says c.requires.spot.ready.moments c.requires.notes.failures
 
 pub best_of_rest-returns-then-tells-clause-notes : goal.best_of_rest-returns-then-tells-clause-notes
 best_of_rest-returns-then-tells-clause-notes t c = record { deeds = c.requires.notes.deeds; failures = c.tells.ensures.right (problem_of c.args.p.now) c.requires.notes.failures }
@@ -448,4 +448,4 @@ best_of_rest-returns-in-None-clause-notes t c =
     let h = c.args.spot.now.history.now in
     let same : c.args.n - 1 + 1 ≡ c.args.n = omega (arith, c.requires.some) in
     let none : IsBestWithin p (At h) (c.args.n - 1 + 1) c.args.limit None = subst (λ o. IsBestWithin p (At h) (c.args.n - 1 + 1) c.args.limit (option_map tree_of o)) c.in-None.is c.in_ok-t.ensures.best in
-    record { deeds = c.in_ok-t.ensures.notes.deeds; failures = c.note.ensures p (subst (λ k. HasNoTree p h k c.args.limit) same none) c.in_ok-t.ensures.notes.failures }
+    record { deeds = c.in_ok-t.ensures.notes.deeds; failures = c.note.ensures p c.requires.spot.ready.moments (subst (λ k. HasNoTree p h k c.args.limit) same none) c.in_ok-t.ensures.notes.failures }

@@ -4,15 +4,16 @@ use Rattle.std.specs.Option.{option_copied}
 use Rattle.pks_search_nogoods.proofs.failures.tells_in.Goals as goal
 
 pub returns-in-Some-clause-told : goal.returns-in-Some-clause-told
-returns-in-Some-clause-told c = λ yes p v right.
-    let found = Contains-lookup (nat_eq c.args.mark) c.promote.new.self.entries c.in-Some.failure.now (sym c.peek.ensures ∙ ap option_copied c.in-Some.is) in
-    let before = Contains-promoted (nat_eq c.args.mark) c.args.table.now.entries (found.0, c.in-Some.failure.now) (subst (λ y. Contains y.entries (found.0, c.in-Some.failure.now)) c.promote.ensures.entries found.1) in
-    c.serves.ensures yes p v (right found.0 c.in-Some.failure.now before)
+returns-in-Some-clause-told c = λ yes v kept moments right.
+    let mark = c.args.asked.now.at.key.now.mark in
+    let found = Contains-lookup (nat_eq mark) c.promote.new.self.entries c.in-Some.failure.now (sym c.peek.ensures ∙ ap option_copied c.in-Some.is) in
+    let before = Contains-promoted (nat_eq mark) c.args.table.now.entries (found.0, c.in-Some.failure.now) (subst (λ y. Contains y.entries (found.0, c.in-Some.failure.now)) c.promote.ensures.entries found.1) in
+    c.serves.ensures yes v kept moments (right found.0 c.in-Some.failure.now before)
 
 pub returns-in-Some-clause-right : goal.returns-in-Some-clause-right
 returns-in-Some-clause-right c = λ p right mark x there.
-    right mark x (Contains-promoted (nat_eq c.args.mark) c.args.table.now.entries (mark, x) (subst (λ y. Contains y.entries (mark, x)) c.promote.ensures.entries there))
+    right mark x (Contains-promoted (nat_eq c.args.asked.now.at.key.now.mark) c.args.table.now.entries (mark, x) (subst (λ y. Contains y.entries (mark, x)) c.promote.ensures.entries there))
 
 pub returns-in-None-clause-right : goal.returns-in-None-clause-right
 returns-in-None-clause-right c = λ p right mark x there.
-    right mark x (Contains-promoted (nat_eq c.args.mark) c.args.table.now.entries (mark, x) (subst (λ y. Contains y.entries (mark, x)) c.promote.ensures.entries there))
+    right mark x (Contains-promoted (nat_eq c.args.asked.now.at.key.now.mark) c.args.table.now.entries (mark, x) (subst (λ y. Contains y.entries (mark, x)) c.promote.ensures.entries there))

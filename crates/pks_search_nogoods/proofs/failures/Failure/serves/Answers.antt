@@ -1,9 +1,12 @@
 use Rattle.std.proofs.Common.{◌≤◌, min, arith}
+use Rattle.pks_terms.specs.Views.{problem_of}
 use Rattle.pks_search_nogoods.proofs.Serving.{served}
 use Rattle.pks_search_nogoods.proofs.failures.Failure.serves.Goals as goal
 
 pub returns : goal.returns
-returns c = λ yes p v right.
-    let cheap : c.args.limit ≤ c.args.self.now.limit = omega (arith, c.if-self-limit.false) in
-    let shallow : min c.args.n c.args.limit ≤ c.args.self.now.depth = omega (arith, c.if-self-min.false, c.min.ensures) in
-    served p c.args.self.now.history c.args.h.now c.args.self.now.depth c.args.self.now.limit c.args.n c.args.limit cheap shallow (c.same.ensures.0 yes) v right
+returns c = λ yes v kept moments right.
+    let self = c.args.self.now in
+    let asked = c.args.asked.now in
+    let cheap : asked.limit ≤ self.limit = omega (arith, c.if-self-asked.false) in
+    let shallow : min asked.n asked.limit ≤ self.depth = omega (arith, c.if-self-min.false, c.min.ensures) in
+    served (problem_of c.args.p.now) self.history asked.at.history.now v (c.are_alike.ensures yes kept) moments right.moments c.in_order.ensures c.in_order-2.ensures self.depth self.limit asked.n asked.limit cheap shallow right.none

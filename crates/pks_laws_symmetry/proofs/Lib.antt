@@ -1,0 +1,16 @@
+pub mod Trivial
+pub mod Mirrors
+pub mod Permuted
+pub mod Images
+pub mod Reading
+pub mod Neat
+pub mod Adding
+pub mod Closing
+pub mod Answering
+pub mod Acting
+pub mod Progressing
+pub mod Choosing
+pub mod Forms
+pub mod Families
+pub mod Settling
+pub mod Trees

@@ -1,0 +1,3 @@
+pub mod Trivial
+pub mod Renamed
+pub mod Fixed

@@ -1,5 +1,0 @@
-pub mod Looks
-pub mod Steps
-pub mod Clashes
-pub mod Past
-pub mod Derived
