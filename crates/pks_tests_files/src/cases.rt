@@ -1,5 +1,5 @@
 //! Adds with and without a case.
-use crate::justifying::{Add, have_cases};
+use crate::justifying::{Add, have_cases, have_other_cases};
 use pks_justify::Case;
 use std::test::Fail;
 
@@ -143,4 +143,22 @@ const VALUES_AND_REGIONS: &[Add] = &[
 #[test]
 fn cases_of_values_and_regions(rt: HostRuntime) -> Result<(), Fail> {
     have_cases(rt.alloc(), VALUES_AND_REGIONS)
+}
+
+/// Adds of another action, which makes r true.
+const ELSEWHERE: &[Add] = &[
+    Add("(effects (set (p ?x)))", "(kf (p ?x))", Some(Case::J1)),
+    Add("(effects (set (p ?x)))", "(kf (p ?y))", None),
+    Add("(effects (set (p ?x)))", "(kf (r))", None),
+    Add(
+        "(effects (assign (f) ?y))",
+        "(kf (= (f) ?y))",
+        Some(Case::J2),
+    ),
+    Add("(senses (sense-value (g)))", "(kv (g))", Some(Case::J6)),
+];
+
+#[test]
+fn cases_in_an_action_without_the_add(rt: HostRuntime) -> Result<(), Fail> {
+    have_other_cases(rt.alloc(), ELSEWHERE)
 }

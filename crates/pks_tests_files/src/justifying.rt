@@ -2,7 +2,7 @@
 ghost use Rattle.pks_terms.specs.ValidProblems.{IsValidProblem};
 
 use crate::reading::read;
-use pks_justify::{Case, case_of, justify};
+use pks_justify::{Case, case_of, case_with, justify};
 use pks_terms::ids::ActId;
 use pks_terms::problem::Problem;
 use std::alloc::{AllocError, Global};
@@ -16,6 +16,10 @@ const BEFORE: &str = "(pks 1)
   (functions (f t) (g t))
   (action act (params (?x t) (?y t))
     ";
+
+/// What ends the first action and begins a second one, which makes r true.
+const OTHER: &str = ")
+  (action other (params (?x t) (?y t)) (effects (set (r))) (knows ";
 
 const AFTER: &str = ")))
 (problem (goal (k (r))))
@@ -87,6 +91,37 @@ fn has_case(alloc: Global, add: &Add) -> Result<bool, Fail> {
 pub fn have_cases(alloc: Global, adds: &[Add]) -> Result<(), Fail> {
     for add in adds {
         if !has_case(alloc, add)? {
+            return Err(Fail::new(format_args!("{} {}", add.0, add.1)));
+        }
+    }
+    Ok(())
+}
+
+/// The case that the first add of the second action has in the first action.
+fn other_case(p: &Problem<'_>) -> Result<Option<Case>, Fail>
+    requires { IsValidProblem p.now }
+{
+    let [_, other] = p.schemas.as_slice() else {
+        return Err(Fail::new("there aren't two actions"));
+    };
+    if other.adds.is_empty() {
+        return Err(Fail::new("the second action knows nothing"));
+    }
+    Ok(case_with(p, ActId(0), &other.adds.as_slice()[0]))
+}
+
+/// Whether an add that doesn't stand in the action of these parts has this case in it.
+fn has_other_case(alloc: Global, add: &Add) -> Result<bool, Fail> {
+    let text = joined(alloc, &[BEFORE, add.0, OTHER, add.1, AFTER])?;
+    let p = read(alloc, text.as_str())?;
+    let case = other_case(&p)?;
+    Ok(case == add.2)
+}
+
+/// Fails at the first add that has another case in an action in which it doesn't stand.
+pub fn have_other_cases(alloc: Global, adds: &[Add]) -> Result<(), Fail> {
+    for add in adds {
+        if !has_other_case(alloc, add)? {
             return Err(Fail::new(format_args!("{} {}", add.0, add.1)));
         }
     }

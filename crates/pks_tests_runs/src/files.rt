@@ -560,6 +560,22 @@ pub const LAWN_ALWAYS: &str = "(pks 2)
 (problem (init (kf (alive))) (goal (always (k (alive))) (kw (poison))))
 ";
 
+/// Whoever is at home has been to the shop.
+pub const ERRAND: &str = "(pks 2)
+(domain
+  (types place)
+  (objects (place home shop))
+  (functions (here place))
+  (action go (params (?p place)) (effects (assign (here) ?p)) (knows (kf (= (here) ?p)))))
+(problem (init (kf (= (here) home))) (goal (once (k (= (here) shop))) (k (= (here) home))))
+";
+
+pub const ERRAND_PLAN: &str = "plan depth 2
+(go shop)
+(go home)
+goal
+";
+
 /// What is seen is two moments after the pouring.
 pub const RESTED_LAWN: &str = "(pks 2)
 (domain

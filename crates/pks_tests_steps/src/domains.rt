@@ -103,6 +103,19 @@ pub const LAWN: DomainText = DomainText {
     goal: "(kw (poison))",
 };
 
+/// Two objects, of which two predicates and a function tell. There are no actions.
+pub const LETTERS: DomainText = DomainText {
+    text: "(pks 1)
+(domain
+  (types t)
+  (objects (t a b))
+  (predicates (p t) (q t))
+  (functions (f t)))
+",
+    known: "",
+    goal: "(k (p a))",
+};
+
 /// A lawn whose poison kills only together with the sun.
 pub const SUNNY_LAWN: DomainText = DomainText {
     text: "(pks 1)

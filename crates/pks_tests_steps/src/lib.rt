@@ -9,6 +9,8 @@ mod domains;
 #[cfg(test)]
 mod occurrences;
 #[cfg(test)]
+mod plans;
+#[cfg(test)]
 mod rows;
 #[cfg(test)]
 mod tests;
