@@ -92,10 +92,37 @@ false
   goal
 ";
 
-/// Eight lamps: 40,320 orders in which to light them, and 256 ways in which they may be lit.
+/// Nine lamps, each told apart by its place: 362,880 orders in which to light them, and 512 ways in
+/// which they may be lit.
 const LAMPS: &str = "(pks 1)
-(domain (types lamp) (objects (lamp a b c d e f g h)) (predicates (lit lamp))
+(domain (types lamp) (objects (lamp a b c d e f g h i)) (predicates (lit lamp) (left lamp lamp))
   (action light (params (?l lamp)) (effects (set (lit ?l))) (knows (kf (lit ?l)))))
+(problem
+  (init (kf (left a b)) (kf (left b c)) (kf (left c d)) (kf (left d e)) (kf (left e f)) (kf (left f g))
+    (kf (left g h)) (kf (left h i)) (kf (not (lit a))) (kf (not (lit b))) (kf (not (lit c)))
+    (kf (not (lit d))) (kf (not (lit e))) (kf (not (lit f))) (kf (not (lit g))) (kf (not (lit h)))
+    (kf (not (lit i))))
+  (goal (k (lit a)) (k (lit b)) (k (lit c)) (k (lit d)) (k (lit e))
+    (k (lit f)) (k (lit g)) (k (lit h)) (k (lit i))))
+";
+
+const LAMPS_PLAN: &str = "plan depth 9
+(light a)
+(light b)
+(light c)
+(light d)
+(light e)
+(light f)
+(light g)
+(light h)
+(light i)
+goal
+";
+
+/// Eight lamps and a lamplighter, of whom it isn't known where he is at the start.
+const LAMPLIGHTER: &str = "(pks 1)
+(domain (types lamp) (objects (lamp a b c d e f g h)) (predicates (lit lamp)) (functions (at lamp))
+  (action light (params (?l lamp)) (effects (set (lit ?l)) (assign (at) ?l)) (knows (kf (lit ?l)) (kf (= (at) ?l)))))
 (problem
   (init (kf (not (lit a))) (kf (not (lit b))) (kf (not (lit c))) (kf (not (lit d))) (kf (not (lit e)))
     (kf (not (lit f))) (kf (not (lit g))) (kf (not (lit h))))
@@ -103,7 +130,7 @@ const LAMPS: &str = "(pks 1)
     (k (lit f)) (k (lit g)) (k (lit h))))
 ";
 
-const LAMPS_PLAN: &str = "plan depth 8
+const LAMPLIGHTER_PLAN: &str = "plan depth 8
 (light a)
 (light b)
 (light c)
@@ -113,17 +140,6 @@ const LAMPS_PLAN: &str = "plan depth 8
 (light g)
 (light h)
 goal
-";
-
-/// The same by a lamplighter, of whom it isn't known where he is at the start.
-const LAMPLIGHTER: &str = "(pks 1)
-(domain (types lamp) (objects (lamp a b c d e f g h)) (predicates (lit lamp)) (functions (at lamp))
-  (action light (params (?l lamp)) (effects (set (lit ?l)) (assign (at) ?l)) (knows (kf (lit ?l)) (kf (= (at) ?l)))))
-(problem
-  (init (kf (not (lit a))) (kf (not (lit b))) (kf (not (lit c))) (kf (not (lit d))) (kf (not (lit e)))
-    (kf (not (lit f))) (kf (not (lit g))) (kf (not (lit h))))
-  (goal (k (lit a)) (k (lit b)) (k (lit c)) (k (lit d)) (k (lit e))
-    (k (lit f)) (k (lit g)) (k (lit h))))
 ";
 
 /// Whether it is full is never known, so the past stays open; but the 720 orders in which the gauges may be read come to the
@@ -155,11 +171,17 @@ const ELEVEN: &str = "(pks 1)
   (kw (p7)) (kw (p8)) (kw (p9)) (kw (p10)) (kw (p11))) (goal (kw (g))))
 ";
 
-/// Sixteen lamps, and a goal that no action makes true.
+/// Twenty lamps, each told apart by its place, and a goal that no action makes true.
 const NO_LAMP: &str = "(pks 1)
-(domain (types lamp) (objects (lamp a b c d e f g h i j k l m n o p)) (predicates (lit lamp) (dawn))
+(domain (types lamp) (objects (lamp a b c d e f g h i j k l m n o p q r s t))
+  (predicates (lit lamp) (left lamp lamp) (dawn))
   (action light (params (?l lamp)) (effects (set (lit ?l))) (knows (kf (lit ?l)))))
-(problem (init) (goal (k (dawn))))
+(problem
+  (init (kf (left a b)) (kf (left b c)) (kf (left c d)) (kf (left d e)) (kf (left e f)) (kf (left f g))
+    (kf (left g h)) (kf (left h i)) (kf (left i j)) (kf (left j k)) (kf (left k l)) (kf (left l m))
+    (kf (left m n)) (kf (left n o)) (kf (left o p)) (kf (left p q)) (kf (left q r))
+    (kf (left r s)) (kf (left s t)))
+  (goal (k (dawn))))
 ";
 
 const KEPT: &[Answered] = &[
@@ -179,11 +201,12 @@ fn what_the_past_may_tell_is_kept(rt: HostRuntime) -> Result<(), Fail> {
 }
 
 const SAME_ORDERS: &[Answered] = &[
-    Answered("plan 8", LAMPS, Done, LAMPS_PLAN),
-    Answered("plan 8", LAMPLIGHTER, Done, LAMPS_PLAN),
+    Answered("plan 9", LAMPS, Done, LAMPS_PLAN),
+    Answered("plan 8", LAMPLIGHTER, Done, LAMPLIGHTER_PLAN),
     Answered("plan 7", GAUGES, Done, GAUGES_PLAN),
 ];
 
+/// The lamps take a quarter of a second of a processor; where the settled past isn't let go of, more than a minute.
 #[test]
 fn orders_that_come_to_the_same(rt: HostRuntime) -> Result<(), Fail> {
     all_so(rt.alloc(), SAME_ORDERS)
@@ -191,6 +214,7 @@ fn orders_that_come_to_the_same(rt: HostRuntime) -> Result<(), Fail> {
 
 const FAILED: &[Answered] = &[Answered("plan 11", ELEVEN, NoPlan, "none to depth 11\n")];
 
+/// A second and a half of a processor; where the tables tell nothing, more than a minute.
 #[test]
 fn what_failed_is_not_searched_again(rt: HostRuntime) -> Result<(), Fail> {
     all_so(rt.alloc(), FAILED)
@@ -198,6 +222,7 @@ fn what_failed_is_not_searched_again(rt: HostRuntime) -> Result<(), Fail> {
 
 const IMPOSSIBLE: &[Answered] = &[Answered("plan 16", NO_LAMP, NoPlan, "none to depth 16\n")];
 
+/// A hundredth of a second of a processor; where the bound rules nothing out, more than a minute.
 #[test]
 fn what_cannot_be_is_not_looked_for(rt: HostRuntime) -> Result<(), Fail> {
     all_so(rt.alloc(), IMPOSSIBLE)
