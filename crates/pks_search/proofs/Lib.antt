@@ -11,3 +11,4 @@ pub mod LettingGo
 pub mod Starting
 pub mod Witnessed
 pub mod Straight
+pub mod Unmet

@@ -3,3 +3,4 @@ pub mod Ready
 pub mod Near
 pub mod Straight
 pub mod Spots
+pub mod Fewer

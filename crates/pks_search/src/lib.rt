@@ -1,6 +1,8 @@
 //! The best tree.
 #![tactic(auto)]
 
+mod copying;
+mod fewer;
 mod nearing;
 mod parts;
 mod rising;

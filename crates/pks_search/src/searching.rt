@@ -13,6 +13,7 @@ ghost use Rattle.pks_query_lookup.specs.Fives.{five_of};
 ghost use Rattle.pks_plan.specs.TreeViews.{tree_of};
 ghost use Rattle.pks_terms.specs.Remembering.{RemembersPast};
 
+use crate::fewer::{some_is_met, without_met};
 use crate::nearing::Start;
 use crate::rising::best_rising;
 use crate::spots::{Notes, Spot};
@@ -61,6 +62,42 @@ pub fn best_from(
     ensures best { IfOk result (λ o. IsBest (problem_of p.now) depth (option_map tree_of o)) }
     ensures good { IfOk result (λ o. IfSome o (λ t. (w : World) → IsCompatible (problem_of p.now) w → Good (problem_of p.now) (tree_of t) w)) }
     ensures past { IfOk result (λ o. IfSome o (λ t. RemembersPast (problem_of p.now) (tree_of t))) }
+{
+    best_of_unmet(alloc, p, start, depth)
+}
+
+/// The same, searched without the aims that are met for good.
+fn best_of_unmet(
+    alloc: Global,
+    p: &Problem<'_>,
+    start: Db,
+    depth: u8,
+) -> Result<Option<Tree>, AllocError>
+    requires valid { IsValidProblem p.now }
+    requires depth { depth ≤ 16 }
+    requires justified { unjustified (problem_of p.now) ≡ [] }
+    requires start { Closes (problem_of p.now).signature (initial (problem_of p.now)) (Next (five_of start)) }
+    ensures { IfOk result (λ o. IsBest (problem_of p.now) depth (option_map tree_of o)) }
+{
+    if !some_is_met(&p.signature, &start, p.goal.as_slice()) {
+        return best_of_all(alloc, p, start, depth);
+    }
+    let fewer = without_met(alloc, p, &start)?;
+    best_of_all(alloc, &fewer, start, depth)
+}
+
+/// The same, with each aim of the problem.
+fn best_of_all(
+    alloc: Global,
+    p: &Problem<'_>,
+    start: Db,
+    depth: u8,
+) -> Result<Option<Tree>, AllocError>
+    requires valid { IsValidProblem p.now }
+    requires depth { depth ≤ 16 }
+    requires justified { unjustified (problem_of p.now) ≡ [] }
+    requires start { Closes (problem_of p.now).signature (initial (problem_of p.now)) (Next (five_of start)) }
+    ensures { IfOk result (λ o. IsBest (problem_of p.now) depth (option_map tree_of o)) }
 {
     let h = History::start(alloc, start)?;
     let first = Start::of(alloc, p)?;

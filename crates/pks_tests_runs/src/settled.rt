@@ -184,6 +184,50 @@ const NO_LAMP: &str = "(pks 1)
   (goal (k (dawn))))
 ";
 
+/// To remove a file wherever it is, of four directories, and to be where one was. Where one was is known at the start.
+const LEAVE_AS_FOUND: &str = "(pks 2)
+(domain (types dir file) (objects (dir d1 d2 d3 d4) (file old)) (predicates (in file dir)) (functions (pwd dir))
+  (action cd (params (?d dir)) (effects (assign (pwd) ?d)) (knows (kf (= (pwd) ?d)) (kv (pwd))))
+  (action ls (params (?f file)) (senses (sense (in ?f (pwd)))) (knows (kw (in ?f (pwd)))))
+  (action rm (params (?f file)) (pre (k (in ?f (pwd)))) (effects (unset (in ?f (pwd)))) (knows (kf (not (in ?f (pwd)))))))
+(problem
+  (init (kf (= (pwd) d1)) (kx (in old d1) (in old d2) (in old d3) (in old d4)))
+  (goal (k (not (in old d1))) (k (not (in old d2))) (k (not (in old d3))) (k (not (in old d4)))
+    (k (= (pwd) d1)) (at-start (k (= (pwd) d1)))))
+";
+
+const LEAVE_AS_FOUND_PLAN: &str = "plan depth 11
+(cd d2)
+(ls old)
+(cd d3)
+(ls old)
+(cd d4)
+(ls old)
+branch (in old d2)
+true
+  (cd d2)
+  (rm old)
+  (cd d1)
+  goal
+false
+  branch (in old d3)
+  true
+    (cd d3)
+    (rm old)
+    (cd d1)
+    goal
+  false
+    branch (in old d4)
+    true
+      (rm old)
+      (cd d1)
+      goal
+    false
+      (cd d1)
+      (rm old)
+      goal
+";
+
 const KEPT: &[Answered] = &[
     Answered("plan 4", OPEN_CONDITION, NoPlan, "none to depth 4\n"),
     Answered("plan 5", OPEN_CONDITION, Done, OPEN_CONDITION_PLAN),
@@ -210,6 +254,13 @@ const SAME_ORDERS: &[Answered] = &[
 #[test]
 fn orders_that_come_to_the_same(rt: HostRuntime) -> Result<(), Fail> {
     all_so(rt.alloc(), SAME_ORDERS)
+}
+
+const MET_AT_START: &[Answered] = &[Answered("plan 16", LEAVE_AS_FOUND, Done, LEAVE_AS_FOUND_PLAN)];
+
+#[test]
+fn an_aim_that_is_met_keeps_no_past(rt: HostRuntime) -> Result<(), Fail> {
+    all_so(rt.alloc(), MET_AT_START)
 }
 
 const FAILED: &[Answered] = &[Answered("plan 11", ELEVEN, NoPlan, "none to depth 11\n")];

@@ -1,0 +1,34 @@
+use Rattle.std.proofs.Common.{◌≤◌, option_map, arith}
+use Rattle.std.proofs.lemmas.Result.{IfOk-weaker}
+use Rattle.pks_terms.specs.Settling.{At}
+use Rattle.pks_terms.specs.Trees.{IsBestAt, IsBest}
+use Rattle.pks_terms.specs.Views.{problem_of}
+use Rattle.pks_query_lookup.specs.Fives.{five_of}
+use Rattle.pks_plan.specs.TreeViews.{tree_of}
+use Rattle.pks_search.proofs.Deepening.{limit_first}
+use Rattle.pks_search.proofs.Starting.{start_ready, start_best}
+use Rattle.pks_search.proofs.Witnessed.{first_near}
+use Rattle.pks_search.proofs.searching.best_of_all.Goals as goal
+
+pub best_rising-requires-clause-spot : goal.best_rising-requires-clause-spot
+best_rising-requires-clause-spot c =
+    let p = problem_of c.args.p.now in
+    let few : c.from.result ≤ 16 = omega (arith, c.from.ensures, c.requires.depth) in
+    record {
+      ready = start_ready c.args.p.now (five_of c.args.start) c.in_ok-h.h c.from.result c.requires.valid c.requires.justified c.requires.start c.in_ok-h.ensures few;
+      near = first_near p (five_of c.args.start) c.in_ok-h.h c.in_ok-first.first.near c.requires.start c.in_ok-h.ensures c.in_ok-first.ensures.near;
+    }
+
+pub best_rising-requires-clause-notes : goal.best_rising-requires-clause-notes
+best_rising-requires-clause-notes c = record { deeds = c.in_ok-first.ensures.deeds; failures = c.in_ok-failures.ensures }
+
+pub best_rising-requires-clause-limit : goal.best_rising-requires-clause-limit
+best_rising-requires-clause-limit c =
+    let few : c.from.result ≤ 16 = omega (arith, c.from.ensures, c.requires.depth) in
+    limit_first (problem_of c.args.p.now) (At c.in_ok-h.h) c.requires.valid.says c.from.result few
+
+pub returns : goal.returns
+returns c =
+    let p = problem_of c.args.p.now in
+    IfOk-weaker c.best_rising.result (λ o. IsBestAt p (At c.in_ok-h.h) c.from.result (option_map tree_of o)) (λ o. IsBest p c.args.depth (option_map tree_of o))
+    (λ o b. start_best p (five_of c.args.start) c.in_ok-h.h c.args.depth c.from.result (option_map tree_of o) c.requires.start c.in_ok-h.ensures c.from.ensures b) c.best_rising.ensures
