@@ -18,8 +18,10 @@ use Rattle.pks_exec.specs.declared.runs.End.{End}
 use Rattle.pks_agent.specs.declared.peers.PeerFault.{PeerFault}
 use Rattle.pks_agent.specs.declared.ends.TalkEnd.{TalkEnd as Stop}
 use Rattle.pks_agent.specs.declared.ends.TalkEnd.TheVariants.{Misfit, Silent, Failed}
-use Rattle.pks_agent.specs.Hearing.{Stay, HasPeerCause}
-use Rattle.pks_agent.specs.Leading.{Led, Moment, IsLed, LeadsOn, EndsIn, Leads, each_behind, stating, doing}
+use Rattle.pks_terms.specs.Sets.{Each}
+use Rattle.pks_agent.specs.Bounds.{IsShortLine}
+use Rattle.pks_agent.specs.Hearing.{Stay, HasPeerCause, IsServed}
+use Rattle.pks_agent.specs.Leading.{Led, IsSafe, TalkServed, Moment, IsLed, LeadsOn, EndsIn, Leads, each_behind, stating, doing}
 use Rattle.pks_agent.specs.Asking.{Answered, IsAsked}
 use Rattle.pks_agent.specs.Rooms.{IsSpoken, argument_count}
 use Rattle.pks_agent.proofs.Causing.{cause_behind, cause_ends, cause_unfit, cause_well, cause_failed, cause_still}
@@ -58,6 +60,17 @@ led_behind old mid new left (Err (Misfit k)) said talked a led = (led.0, appends
 led_behind old mid new left (Err (Silent k)) said talked a led = (led.0, appends_more old mid new (line (said_text said)) (talked_text talked) a led.1)
 led_behind old mid new left (Err (Failed fault)) said talked a led = front_behind old mid new (line (said_text said)) (talked_text talked) a led
 
+-- one call fewer is left, and one line more
+safe_behind : (sure sure' : ℕ) (result : Result End Stop) (said : Said) (talked : Talked) → sure ≤ sure' + 1 → IsSafe sure' result talked → IsSafe sure result (saying said talked)
+safe_behind sure sure' (Ok end) said talked fewer safe = tt
+safe_behind sure sure' (Err (Misfit k)) said talked fewer safe = tt
+safe_behind sure sure' (Err (Silent k)) said talked fewer safe = tt
+safe_behind sure sure' (Err (Failed fault)) said talked fewer safe = λ each. let more = safe each.1 in omega (arith, fewer, more)
+
+-- the call for the line failed
+safe_first : (sure : ℕ) (fault : PeerFault) (said : Said) (talked : Talked) → (IsShortLine (said_text said) → sure ≡ 0) → IsSafe sure (Err (Failed fault)) (saying said talked)
+safe_first sure fault said talked none = λ each. let zero_left = none each.0 in omega (arith, zero_left)
+
 -- ---- a question
 
 not_short : (answer : Text) → 64 < length answer → is_short answer ≡ false
@@ -75,6 +88,7 @@ module _ {Y : Type 0} (reads : Text → Option Y) (question : Text) (k : ℕ) (m
   pub asked_on : {X : Type 0} (answer : Text) (x : X) (y : Y) → IsAsked {X = X} m m' question k answer (Ok x) → length answer ≤ 64 → reads answer ≡ Some y → LeadsOn (asking reads question) k (k + 1) y m m'
   asked_on {X = X} answer x y a few fit go m'' result behind = record {
     led = on m.answers a.answered;
+    safe = safely m.answers a.answered;
     cause = cause_behind m.sends m'.sends m''.sends m.receipts m'.receipts m''.receipts x result a.cause behind.cause;
     kept = behind.kept ∙ a.kept;
   }
@@ -88,6 +102,15 @@ module _ {Y : Type 0} (reads : Text → Option Y) (question : Text) (k : ℕ) (m
           (sym (told_fit answer next h.0 few ∙ fit))
           (led_behind m.said m'.said m''.said m''.answers result (Question question) (go y (k + 1) rest) h.1 next_led)
 
+      safely : (before : Option (List Text)) → IfSome before (Answered {X = X} m m' question k answer (Ok x)) → IfSome before (λ answers. IsSafe m.sure result (asking reads question go k answers))
+      safely None h = tt
+      safely (Some []) h = absurd h
+      safely (Some (next ∷ rest)) h =
+          let next_safe : IsSafe m'.sure result (go y (k + 1) rest) = subst (λ o. IfSome o (λ answers. IsSafe m'.sure result (go y (k + 1) answers))) h.2 behind.safe in
+          subst (λ o. IsSafe m.sure result (saying (Question question) (option_map_or (λ x. go x (k + 1) rest) o (record { lines = []; end = Unfit k; left = rest }))))
+          (sym (told_fit answer next h.0 few ∙ fit))
+          (safe_behind m.sure m'.sure result (Question question) (go y (k + 1) rest) a.served next_safe)
+
   unfit_led : (go : Y → GoesOn) (next : Text) (rest : List Text) → Appends m.said m'.said (line question) → told_by reads next ≡ None → Led m.said m'.said m'.answers (Err (Misfit k)) (asking reads question go k (next ∷ rest))
   unfit_led go next rest said none =
       subst (λ o. Led m.said m'.said m'.answers (Err (Misfit k)) (saying (Question question) (option_map_or (λ x. go x (k + 1) rest) o (record { lines = []; end = Unfit k; left = rest }))))
@@ -98,6 +121,7 @@ module _ {Y : Type 0} (reads : Text → Option Y) (question : Text) (k : ℕ) (m
   pub asked_unfit : {X : Type 0} (answer : Text) (x : X) → IsAsked {X = X} m m' question k answer (Ok x) → length answer ≤ 64 → reads answer ≡ None → EndsIn (asking reads question) k (Misfit k) m m'
   asked_unfit {X = X} answer x a few none go = record {
     led = ends m.answers a.answered;
+    safe = all_some m.answers;
     cause = cause_unfit m.sends m'.sends m.receipts m'.receipts x k a.cause;
     kept = a.kept;
   }
@@ -107,15 +131,24 @@ module _ {Y : Type 0} (reads : Text → Option Y) (question : Text) (k : ℕ) (m
       ends (Some []) h = absurd h
       ends (Some (next ∷ rest)) h = unfit_led go next rest h.1 (told_fit answer next h.0 few ∙ none)
 
+      all_some : (before : Option (List Text)) → IfSome before (λ answers. Unit {0})
+      all_some None = tt
+      all_some (Some answers) = tt
+
   -- a question begins with its line
   begins : (go : Y → GoesOn) (answers : List Text) → (rest : Text) × (talked_text (asking reads question go k answers) ≡ line question ++ rest)
   begins go [] = ([], refl)
   begins go (next ∷ rest) = (_, refl)
 
+  opens : (go : Y → GoesOn) (answers : List Text) → (talked : Talked) × (asking reads question go k answers ≡ saying (Question question) talked)
+  opens go [] = (record { lines = []; end = Missing k; left = [] }, refl)
+  opens go (next ∷ rest) = (option_map_or (λ x. go x (k + 1) rest) (told_by reads next) (record { lines = []; end = Unfit k; left = rest }), refl)
+
   -- the dialogue ends with it
   pub asked_ends : {X : Type 0} (answer : Text) (end : Stop) → IsAsked {X = X} m m' question k answer (Err end) → EndsIn (asking reads question) k end m m'
   asked_ends {X = X} answer end a go = record {
     led = ends m.answers end a.answered;
+    safe = safely m.answers end a.served;
     cause = cause_ends m.sends m'.sends m.receipts m'.receipts end a.cause;
     kept = a.kept;
   }
@@ -131,6 +164,14 @@ module _ {Y : Type 0} (reads : Text → Option Y) (question : Text) (k : ℕ) (m
       ends (Some answers) (Failed fault) h =
           let text = begins go answers in
           subst (AppendsFront m.said m'.said) (sym text.1) (front_first m.said m'.said (line question) text.0 h)
+
+      safely : (before : Option (List Text)) (end : Stop) → TalkServed {X = X} m.sure m'.sure question (Err end) → IfSome before (λ answers. IsSafe m.sure (Err end) (asking reads question go k answers))
+      safely None end served = tt
+      safely (Some answers) (Misfit j) served = tt
+      safely (Some answers) (Silent j) served = tt
+      safely (Some answers) (Failed fault) served =
+          let asked = opens go answers in
+          subst (IsSafe m.sure (Err (Failed fault))) (sym asked.1) (safe_first m.sure fault (Question question) asked.0 served)
 
 -- ---- the arguments of an action
 
@@ -203,9 +244,10 @@ module _ (s : Signature) (names : Names) where
 -- ---- a line that asks for no answer
 
 module _ (m m' : Moment) (text : Text) (k : ℕ) where
-  pub told_on : {X : Type 0} (x : X) → HasPeerCause {X = X} m.sends m'.sends m.receipts m'.receipts (Ok x) → Appends m.said m'.said (line text) → Stay m.answers m'.answers → m'.kept ≡ m.kept → LeadsOn {Y = Unit {0}} (λ go. stating text (go tt)) k k tt m m'
-  told_on x cause said stay same go m'' result behind = record {
+  pub told_on : {X : Type 0} (x : X) → HasPeerCause {X = X} m.sends m'.sends m.receipts m'.receipts (Ok x) → Appends m.said m'.said (line text) → Stay m.answers m'.answers → IsServed {X = X} m.sure m'.sure text (Ok x) → m'.kept ≡ m.kept → LeadsOn {Y = Unit {0}} (λ go. stating text (go tt)) k k tt m m'
+  told_on x cause said stay served same go m'' result behind = record {
     led = on m.answers stay;
+    safe = safely m.answers stay;
     cause = cause_behind m.sends m'.sends m''.sends m.receipts m'.receipts m''.receipts (tt {0}) result (cause_well m.sends m'.sends m.receipts m'.receipts x (tt {0}) cause) behind.cause;
     kept = behind.kept ∙ same;
   }
@@ -214,9 +256,14 @@ module _ (m m' : Moment) (text : Text) (k : ℕ) where
       on None s = tt
       on (Some answers) s = led_behind m.said m'.said m''.said m''.answers result (Statement text) (go tt k answers) said (subst (λ o. IfSome o (λ answers. Led m'.said m''.said m''.answers result (go tt k answers))) s behind.led)
 
-  pub told_ends : {X : Type 0} (fault : PeerFault) → HasPeerCause {X = X} m.sends m'.sends m.receipts m'.receipts (Err fault) → AppendsFront m.said m'.said (line text) → m'.kept ≡ m.kept → EndsIn {Y = Unit {0}} (λ go. stating text (go tt)) k (Failed fault) m m'
-  told_ends fault cause said same go = record {
+      safely : (before : Option (List Text)) → Stay before m'.answers → IfSome before (λ answers. IsSafe m.sure result (stating text (go tt) k answers))
+      safely None s = tt
+      safely (Some answers) s = safe_behind m.sure m'.sure result (Statement text) (go tt k answers) served.well (subst (λ o. IfSome o (λ answers. IsSafe m'.sure result (go tt k answers))) s behind.safe)
+
+  pub told_ends : {X : Type 0} (fault : PeerFault) → HasPeerCause {X = X} m.sends m'.sends m.receipts m'.receipts (Err fault) → AppendsFront m.said m'.said (line text) → IsServed {X = X} m.sure m'.sure text (Err fault) → m'.kept ≡ m.kept → EndsIn {Y = Unit {0}} (λ go. stating text (go tt)) k (Failed fault) m m'
+  told_ends fault cause said served same go = record {
     led = ends m.answers;
+    safe = safely m.answers;
     cause = cause_failed m.sends m'.sends m.receipts m'.receipts fault cause;
     kept = same;
   }
@@ -224,6 +271,10 @@ module _ (m m' : Moment) (text : Text) (k : ℕ) where
       ends : (before : Option (List Text)) → IfSome before (λ answers. Led m.said m'.said m'.answers (Err (Failed fault)) (stating text (go tt) k answers))
       ends None = tt
       ends (Some answers) = front_first m.said m'.said (line text) (talked_text (go tt k answers)) said
+
+      safely : (before : Option (List Text)) → IfSome before (λ answers. IsSafe m.sure (Err (Failed fault)) (stating text (go tt) k answers))
+      safely None = tt
+      safely (Some answers) = safe_first m.sure fault (Statement text) (go tt k answers) served.failed
 
 -- the last line
 module _ (end : End) (k : ℕ) (m m' : Moment) where
@@ -233,6 +284,7 @@ module _ (end : End) (k : ℕ) (m m' : Moment) where
   over_led : IsLed m' m' (Ok end) (over tt k)
   over_led = record {
     led = still m'.answers;
+    safe = safely m'.answers;
     cause = cause_still m'.sends m'.receipts end;
     kept = refl;
   }
@@ -240,6 +292,10 @@ module _ (end : End) (k : ℕ) (m m' : Moment) where
       still : (now : Option (List Text)) → IfSome now (λ answers. Led m'.said m'.said now (Ok end) (over tt k answers))
       still None = tt
       still (Some answers) = (refl, appends_none m'.said, refl)
+
+      safely : (now : Option (List Text)) → IfSome now (λ answers. Unit {0})
+      safely None = tt
+      safely (Some answers) = tt
 
   pub ended_on : LeadsOn {Y = Unit {0}} (λ go. stating (end_text (ending_of end)) (go tt)) k k tt m m' → IsLed m m' (Ok end) (ending (ending_of end))
   ended_on told = told over m' (Ok end) over_led

@@ -1,4 +1,6 @@
 pub mod AlongRuns
+pub mod Beginning
+pub mod Bounding
 pub mod Causing
 pub mod Joining
 pub mod Told
@@ -6,5 +8,6 @@ pub mod Fronts
 pub mod Sizes
 pub mod Longest
 pub mod Serving
+pub mod Widths
 pub mod Lines
 pub mod Streams

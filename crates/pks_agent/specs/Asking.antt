@@ -8,7 +8,7 @@ use Rattle.pks_terms.specs.Sets.{Each}
 use Rattle.pks_terms.specs.Views.{inner_of}
 use Rattle.pks_terms.specs.declared.term.Inner.{Inner as DInner}
 use Rattle.pks_agent.specs.Rooms.{argument_count, IsSpoken}
-use Rattle.pks_agent.specs.Leading.{HasTalkCause, Moment}
+use Rattle.pks_agent.specs.Leading.{HasTalkCause, TalkServed, Moment}
 use Rattle.pks_agent.specs.declared.ends.TalkEnd.{TalkEnd}
 use Rattle.pks_agent.specs.declared.ends.TalkEnd.TheVariants.{Misfit, Silent, Failed}
 
@@ -26,6 +26,7 @@ Answered m m' question k answer (Err (Failed fault)) answers = AppendsFront m.sa
 pub record IsAsked {X : Type 0} (m m' : Moment) (question : Text) (k : ℕ) (answer : Text) (result : Result X TalkEnd) : Type 0 where
   pub answered : IfSome m.answers (Answered m m' question k answer result)
   pub cause : HasTalkCause m.sends m'.sends m.receipts m'.receipts result
+  pub served : TalkServed m.sure m'.sure question result
   pub kept : m'.kept ≡ m.kept
 
 -- the arguments were added to those before them, each as it is spoken, within the same room, and the next answer has this number

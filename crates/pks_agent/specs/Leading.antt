@@ -1,15 +1,17 @@
 -- How a dialogue over a peer is led.
-use Rattle.std.specs.Prelude.{ℕ, ◌≡◌, ◌≤◌, List, ◌++◌, Option, Some, Result, Ok, Err, IfSome, IfErr, OnOk}
+use Rattle.std.specs.Prelude.{ℕ, ◌≡◌, ◌≤◌, ◌<◌, ◌+◌, List, ◌++◌, length, Option, Some, Result, Ok, Err, IfSome, IfErr, OnOk}
 use Rattle.std.specs.Borrow.{GName}
 use Rattle.std.specs.Io.KnownBytes.{Appends}
 use Rattle.pks_io.specs.Writing.{AppendsFront}
+use Rattle.pks_terms.specs.Sets.{Each}
 use Rattle.pks_terms.specs.Syntax.{Inner}
 use Rattle.pks_terms.specs.Actions.{Instance}
 use Rattle.pks_terms.specs.Signatures.{Signature}
 use Rattle.pks_terms.specs.Printed.{Text, Names}
-use Rattle.pks_terms.specs.Talk.{Talked, Over, Unfit, Missing, Statement, talked_text, GoesOn, saying, asking_each, do_text}
+use Rattle.pks_terms.specs.Talk.{Talked, Over, Unfit, Missing, Statement, said_text, talked_text, GoesOn, saying, asking_each, do_text}
 use Rattle.pks_exec.specs.Runs.{ending_of}
 use Rattle.pks_exec.specs.declared.runs.End.{End}
+use Rattle.pks_agent.specs.Bounds.{IsShortLine}
 use Rattle.pks_agent.specs.Hearing.{FaultRose, BothStand, OtherStands}
 use Rattle.pks_agent.specs.declared.ends.TalkEnd.{TalkEnd}
 use Rattle.pks_agent.specs.declared.ends.TalkEnd.TheVariants.{Misfit, Silent, Failed}
@@ -41,6 +43,20 @@ pub record HasTalkCause {X : Type 0} (sends sends' receipts receipts' : ℕ) (re
   pub still : OnOk result (BothStand sends sends' receipts receipts')
   pub other : IfErr result (EndStands sends sends' receipts receipts')
 
+-- where the peer failed, a line of the dialogue has more than 8,192 bytes, or it has more lines than calls that surely don't fail
+abbrev pub IsSafe : ℕ → Result End TalkEnd → Talked → Type 0
+IsSafe sure (Ok end) talked = Unit {0}
+IsSafe sure (Err (Misfit k)) talked = Unit {0}
+IsSafe sure (Err (Silent k)) talked = Unit {0}
+IsSafe sure (Err (Failed fault)) talked = Each (λ said. IsShortLine (said_text said)) talked.lines → sure < length talked.lines
+
+-- of the calls that surely don't fail one was taken for the question; where it failed its line has more than 8,192 bytes, or there was none
+abbrev pub TalkServed : {X : Type 0} → ℕ → ℕ → Text → Result X TalkEnd → Type 0
+TalkServed sure sure' text (Ok x) = sure ≤ sure' + 1
+TalkServed sure sure' text (Err (Misfit k)) = Unit {0}
+TalkServed sure sure' text (Err (Silent k)) = Unit {0}
+TalkServed sure sure' text (Err (Failed fault)) = IsShortLine text → sure ≡ 0
+
 -- ---- parts of a dialogue
 
 -- what a peer tells of itself
@@ -51,14 +67,17 @@ pub record Moment : Type 0 where
   pub receipts : ℕ
   -- the places that it borrows
   pub kept : List GName
+  -- how many more calls surely don't fail, where no line has more than 8,192 bytes
+  pub sure : ℕ
 
 -- so of a peer
-abbrev pub moment : {P : Type 0} → (P → Option (List Text)) → (P → Option Text) → (P → ℕ) → (P → ℕ) → (P → List GName) → P → Moment
-moment answers said sends receipts kept peer = record { answers = answers peer; said = said peer; sends = sends peer; receipts = receipts peer; kept = kept peer }
+abbrev pub moment : {P : Type 0} → (P → Option (List Text)) → (P → Option Text) → (P → ℕ) → (P → ℕ) → (P → List GName) → (P → ℕ) → P → Moment
+moment answers said sends receipts kept sure peer = record { answers = answers peer; said = said peer; sends = sends peer; receipts = receipts peer; kept = kept peer; sure = sure peer }
 
 -- the dialogue that comes of the answers was led, a fault has its cause, and the peer borrows the same places
 pub record IsLed (m m' : Moment) (result : Result End TalkEnd) (talk : List Text → Talked) : Type 0 where
   pub led : IfSome m.answers (λ answers. Led m.said m'.said m'.answers result (talk answers))
+  pub safe : IfSome m.answers (λ answers. IsSafe m.sure result (talk answers))
   pub cause : HasTalkCause m.sends m'.sends m.receipts m'.receipts result
   pub kept : m'.kept ≡ m.kept
 

@@ -1,6 +1,7 @@
 pub mod Along
 pub mod Answers
 pub mod Asking
+pub mod Bounds
 pub mod Hearing
 pub mod Leading
 pub mod Memory

@@ -1,5 +1,5 @@
 -- What a peer in memory shows.
-use Rattle.std.specs.Prelude.{ℕ, ◌+◌, ◌<◌, ◌-◌, ◌^◌, ◌⊎◌, min, List, [], drop, length, Contains}
+use Rattle.std.specs.Prelude.{ℕ, ◌+◌, ◌<◌, ◌-◌, ◌^◌, ◌⊎◌, min, List, [], ◌∷◌, drop, length, Contains}
 use Rattle.std.specs.Borrow.{GName}
 use Rattle.pks_terms.specs.Printed.{Text}
 use Rattle.pks_agent.specs.Rooms.{texts_in}
@@ -44,3 +44,12 @@ Fails failing call line = Contains failing call ⊎ ((8192 < length line) ⊎ (9
 -- a count that rises, up to its end
 abbrev pub raised : ℕ → ℕ
 raised n = min (n + 1) (2 ^ 64 - 1)
+
+-- up to call 96 no call fails where none is listed
+abbrev pub sure_calls : List ℕ → ℕ → ℕ
+sure_calls [] calls = 96 - calls
+sure_calls (n ∷ failing) calls = 0
+
+-- how many more calls don't fail, whatever short lines they say
+abbrev pub peer_sure : MemPeer → ℕ
+peer_sure x = sure_calls x.failing.items x.calls

@@ -21,7 +21,7 @@ use pks_terms::term::{Inner, Term};
 
 /// Asks the question and takes its answer, the one with the number `k`.
 fn ask<P: Peer>(peer: &mut P, question: &[u8], k: u32, into: &mut Answer) -> Result<(), TalkEnd>
-    ensures { IsAsked (moment P.answers P.said P.sends P.receipts P.kept peer.old) (moment P.answers P.said P.sends P.receipts P.kept peer.new) question.now k (answer_text into.new) result }
+    ensures { IsAsked (moment P.answers P.said P.sends P.receipts P.kept P.sure peer.old) (moment P.answers P.said P.sends P.receipts P.kept P.sure peer.new) question.now k (answer_text into.new) result }
 {
     match peer.ask(question, into) {
         Ok(Heard::Line) => Ok(()),
@@ -33,7 +33,7 @@ fn ask<P: Peer>(peer: &mut P, question: &[u8], k: u32, into: &mut Answer) -> Res
 
 /// Asks for a truth.
 pub(crate) fn ask_truth<P: Peer>(peer: &mut P, question: &[u8], k: u32) -> Result<bool, TalkEnd>
-    ensures { Leads (λ b. b) (asking truth_told question.now) k (k + 1) result (moment P.answers P.said P.sends P.receipts P.kept peer.old) (moment P.answers P.said P.sends P.receipts P.kept peer.new) }
+    ensures { Leads (λ b. b) (asking truth_told question.now) k (k + 1) result (moment P.answers P.said P.sends P.receipts P.kept P.sure peer.old) (moment P.answers P.said P.sends P.receipts P.kept P.sure peer.new) }
 {
     let mut answer = Answer::empty();
     ask(peer, question, k, &mut answer)?;
@@ -52,7 +52,7 @@ pub(crate) fn ask_value<P: Peer>(
     k: u32,
 ) -> Result<ObjId, TalkEnd>
     requires { length p.now.signature.objects ≤ 65536 }
-    ensures { Leads object_of (asking (object_named (names_of p.now) (range_of (signature_of p.now.signature) (term_of t.now))) question.now) k (k + 1) result (moment P.answers P.said P.sends P.receipts P.kept peer.old) (moment P.answers P.said P.sends P.receipts P.kept peer.new) }
+    ensures { Leads object_of (asking (object_named (names_of p.now) (range_of (signature_of p.now.signature) (term_of t.now))) question.now) k (k + 1) result (moment P.answers P.said P.sends P.receipts P.kept P.sure peer.old) (moment P.answers P.said P.sends P.receipts P.kept P.sure peer.new) }
 {
     let mut answer = Answer::empty();
     ask(peer, question, k, &mut answer)?;
@@ -77,7 +77,7 @@ fn ask_argument<P: Peer>(
     requires spoken { Each IsSpoken (map inner_of told.old.items) }
     requires numbers { k + 1 < 2 ^ 32 }
     ensures leads { Leads (λ next. map inner_of told.new.items) (each_behind (signature_of p.now.signature) (names_of p.now) (map inner_of told.old.items) (inner_of t.now ∷ []))
-        k (k + argument_count (inner_of t.now ∷ [])) result (moment P.answers P.said P.sends P.receipts P.kept peer.old) (moment P.answers P.said P.sends P.receipts P.kept peer.new) }
+        k (k + argument_count (inner_of t.now ∷ [])) result (moment P.answers P.said P.sends P.receipts P.kept P.sure peer.old) (moment P.answers P.said P.sends P.receipts P.kept P.sure peer.new) }
     ensures next { IfOk result (λ next. next ≡ k + argument_count (inner_of t.now ∷ [])) }
     ensures few { IfOk result (λ next. next ≤ k + 1) }
     ensures spoken { OnOk result (Each IsSpoken (map inner_of told.new.items)) }
@@ -114,7 +114,7 @@ pub(crate) fn ask_each<P: Peer>(
     requires spoken { Each IsSpoken (map inner_of told.old.items) }
     requires numbers { k + length arguments.now < 2 ^ 32 }
     ensures leads { Leads (λ next. map inner_of told.new.items) (each_behind (signature_of p.now.signature) (names_of p.now) (map inner_of told.old.items) (map inner_of arguments.now))
-        k (k + argument_count (map inner_of arguments.now)) result (moment P.answers P.said P.sends P.receipts P.kept peer.old) (moment P.answers P.said P.sends P.receipts P.kept peer.new) }
+        k (k + argument_count (map inner_of arguments.now)) result (moment P.answers P.said P.sends P.receipts P.kept P.sure peer.old) (moment P.answers P.said P.sends P.receipts P.kept P.sure peer.new) }
     ensures told { IfOk result (λ next. HasTold arguments.now k next told.old told.new) }
 {
     if arguments.is_empty() {

@@ -5,7 +5,7 @@ ghost use Rattle.pks_terms.specs.Talk.{ending, talk, talk_from, talk_case};
 ghost use Rattle.pks_terms.specs.Views.{instance_of, signature_of, names_of};
 ghost use Rattle.pks_plan.specs.TreeViews.{tree_of, chain_of};
 ghost use Rattle.pks_exec.specs.Runs.{ending_of};
-ghost use Rattle.pks_agent.specs.Leading.{moment, Led, HasTalkCause, IsLed, Tells, Does};
+ghost use Rattle.pks_agent.specs.Leading.{moment, Led, HasTalkCause, IsSafe, IsLed, Tells, Does};
 ghost use Rattle.pks_agent.specs.Rooms.{argument_questions, argument_count, questions_of, case_questions, texts_in, Opens, IsDesk, IsRoomOf};
 
 use crate::asking::{ask_each, ask_truth, ask_value};
@@ -23,7 +23,7 @@ use pks_terms::term::front;
 
 /// Tells a line.
 fn tell<P: Peer>(peer: &mut P, text: &[u8]) -> Result<(), TalkEnd>
-    ensures { (k : ℕ) → Tells text.now k result (moment P.answers P.said P.sends P.receipts P.kept peer.old) (moment P.answers P.said P.sends P.receipts P.kept peer.new) }
+    ensures { (k : ℕ) → Tells text.now k result (moment P.answers P.said P.sends P.receipts P.kept P.sure peer.old) (moment P.answers P.said P.sends P.receipts P.kept P.sure peer.new) }
 {
     match peer.tell(text) {
         Ok(()) => Ok(()),
@@ -33,7 +33,7 @@ fn tell<P: Peer>(peer: &mut P, text: &[u8]) -> Result<(), TalkEnd>
 
 /// Tells an end, and ends with it.
 fn tell_end<P: Peer>(end: End, peer: &mut P) -> Result<End, TalkEnd>
-    ensures { IsLed (moment P.answers P.said P.sends P.receipts P.kept peer.old) (moment P.answers P.said P.sends P.receipts P.kept peer.new) result (ending (ending_of end)) }
+    ensures { IsLed (moment P.answers P.said P.sends P.receipts P.kept P.sure peer.old) (moment P.answers P.said P.sends P.receipts P.kept P.sure peer.new) result (ending (ending_of end)) }
 {
     match tell(peer, end_words(end).as_bytes()) {
         Ok(()) => Ok(end),
@@ -55,7 +55,7 @@ fn act<P: Peer>(
     requires desk { IsDesk (names_of p.now) desk.old }
     requires numbers { k + 4 < 2 ^ 32 }
     ensures leads { Does (signature_of p.now.signature) (names_of p.now) (instance_of step.now) k
-        (k + argument_count (instance_of step.now).arguments) result (moment P.answers P.said P.sends P.receipts P.kept peer.old) (moment P.answers P.said P.sends P.receipts P.kept peer.new) }
+        (k + argument_count (instance_of step.now).arguments) result (moment P.answers P.said P.sends P.receipts P.kept P.sure peer.old) (moment P.answers P.said P.sends P.receipts P.kept P.sure peer.new) }
     ensures next { IfOk result (λ next. next ≡ k + argument_count (instance_of step.now).arguments) }
     ensures few { IfOk result (λ next. next ≤ k + 4) }
     ensures desk { OnOk result (IsDesk (names_of p.now) desk.new) }
@@ -94,7 +94,7 @@ fn walk<P: Peer>(
     requires questions { Opens (texts_in questions.now) (questions_of (names_of p.now) (tree_of t.now)) }
     requires desk { IsDesk (names_of p.now) desk.old }
     requires numbers { k + 4 * depth (tree_of t.now) < 2 ^ 32 }
-    ensures { IsLed (moment P.answers P.said P.sends P.receipts P.kept peer.old) (moment P.answers P.said P.sends P.receipts P.kept peer.new) result
+    ensures { IsLed (moment P.answers P.said P.sends P.receipts P.kept P.sure peer.old) (moment P.answers P.said P.sends P.receipts P.kept P.sure peer.new) result
         (talk_from (signature_of p.now.signature) (names_of p.now) (tree_of t.now) k) }
 {
     match t {
@@ -143,7 +143,7 @@ fn walk_case<P: Peer>(
     requires questions { Opens (texts_in questions.now) (case_questions (names_of p.now) (chain_of cases.now)) }
     requires desk { IsDesk (names_of p.now) desk.old }
     requires numbers { k + 4 * chain_depth (chain_of cases.now) < 2 ^ 32 }
-    ensures { IsLed (moment P.answers P.said P.sends P.receipts P.kept peer.old) (moment P.answers P.said P.sends P.receipts P.kept peer.new) result
+    ensures { IsLed (moment P.answers P.said P.sends P.receipts P.kept P.sure peer.old) (moment P.answers P.said P.sends P.receipts P.kept P.sure peer.new) result
         (talk_case (signature_of p.now.signature) (names_of p.now) (chain_of cases.now) value.0 k) }
 {
     match cases {
@@ -164,7 +164,8 @@ fn walk_case<P: Peer>(
 ///
 /// Where the peer tells its answers, the text said is the lines of the dialogue that comes of them, or where the peer failed a front of
 /// these. `Misfit` comes exactly where the answer with its number isn't fit or is too long, `Silent` exactly where it is missing, `Failed` only
-/// where that count of the peer's faults rose, which stands still else. Where the dialogue comes to its end, the answers that are left are those that it doesn't take.
+/// where that count of the peer's faults rose, which stands still else, and only where a line has more than 8,192 bytes or there are more
+/// lines than calls of the peer that surely don't fail. Where the dialogue comes to its end, the answers that are left are those that it doesn't take.
 #[tactic(auto, unfolding(pks_terms::specs::Talk::talk))]
 pub fn converse<P: Peer>(
     p: &Problem<'_>,
@@ -175,6 +176,7 @@ pub fn converse<P: Peer>(
     requires objects { length p.now.signature.objects ≤ 65536 }
     requires room { IsRoomOf (names_of p.now) (tree_of t.now) room.old }
     ensures led { IfSome (P.answers peer.old) (λ answers. Led (P.said peer.old) (P.said peer.new) (P.answers peer.new) result (talk (signature_of p.now.signature) (names_of p.now) (tree_of t.now) answers)) }
+    ensures safe { IfSome (P.answers peer.old) (λ answers. IsSafe (P.sure peer.old) result (talk (signature_of p.now.signature) (names_of p.now) (tree_of t.now) answers)) }
     ensures cause { HasTalkCause (P.sends peer.old) (P.sends peer.new) (P.receipts peer.old) (P.receipts peer.new) result }
     ensures kept { P.kept peer.new ≡ P.kept peer.old }
 {

@@ -4,7 +4,7 @@ ghost use Rattle.std.specs.Io.KnownBytes.{Appends};
 ghost use Rattle.pks_io.specs.Writing.{AppendsFront};
 ghost use Rattle.pks_terms.specs.Printed.{line};
 ghost use Rattle.pks_agent.specs.Answers.{answer_text};
-ghost use Rattle.pks_agent.specs.Hearing.{Stay, Hears, HasPeerCause};
+ghost use Rattle.pks_agent.specs.Hearing.{Stay, Hears, HasPeerCause, IsServed};
 ghost use Rattle.pks_agent.specs.Rooms.{texts_in};
 
 use crate::answers::Answer;
@@ -113,7 +113,7 @@ impl MemPeer {
 }
 
 impl Peer for MemPeer {
-    ghost use Rattle.pks_agent.specs.Memory.{peer_text, peer_answers, peer_failing, peer_calls, peer_sends, peer_receipts, peer_kept, next_call, Fails, raised};
+    ghost use Rattle.pks_agent.specs.Memory.{peer_text, peer_answers, peer_failing, peer_calls, peer_sends, peer_receipts, peer_kept, peer_sure, next_call, Fails, raised};
 
     ghost answers = { λ x. Some (peer_answers x) };
 
@@ -125,12 +125,16 @@ impl Peer for MemPeer {
 
     ghost kept = { peer_kept };
 
+    ghost sure = { peer_sure };
+
+    #[tactic(auto, using(crate::proofs::Serving::served_well, crate::proofs::Serving::served_not))]
     fn tell(&mut self, text: &[u8]) -> Result<(), PeerFault>
         ensures ok { OnOk result (Appends (Some (peer_text self.old)) (Some (peer_text self.new)) (line text.now)) }
         ensures err { OnErr result (AppendsFront (Some (peer_text self.old)) (Some (peer_text self.new)) (line text.now)) }
         ensures answers { Stay (Some (peer_answers self.old)) (Some (peer_answers self.new)) }
         ensures cause { HasPeerCause (peer_sends self.old) (peer_sends self.new) (peer_receipts self.old) (peer_receipts self.new) result }
         ensures kept { peer_kept self.new ≡ peer_kept self.old }
+        ensures served { IsServed (peer_sure self.old) (peer_sure self.new) text.now result }
 
         // It fails exactly there, and the fault is counted and nothing else is.
         ensures fails { IsErr result ↔ Fails (peer_failing self.old) (next_call (peer_calls self.old)) text.now }
@@ -146,12 +150,14 @@ impl Peer for MemPeer {
         Err(PeerFault::Send)
     }
 
+    #[tactic(auto, using(crate::proofs::Serving::served_well, crate::proofs::Serving::served_not))]
     fn ask(&mut self, text: &[u8], into: &mut Answer) -> Result<Heard, PeerFault>
         ensures ok { OnOk result (Appends (Some (peer_text self.old)) (Some (peer_text self.new)) (line text.now)) }
         ensures err { OnErr result (AppendsFront (Some (peer_text self.old)) (Some (peer_text self.new)) (line text.now)) }
         ensures hears { Hears (Some (peer_answers self.old)) (Some (peer_answers self.new)) (answer_text into.new) result }
         ensures cause { HasPeerCause (peer_sends self.old) (peer_sends self.new) (peer_receipts self.old) (peer_receipts self.new) result }
         ensures kept { peer_kept self.new ≡ peer_kept self.old }
+        ensures served { IsServed (peer_sure self.old) (peer_sure self.new) text.now result }
 
         // It fails exactly there, and the fault is counted and nothing else is.
         ensures fails { IsErr result ↔ Fails (peer_failing self.old) (next_call (peer_calls self.old)) text.now }

@@ -5,7 +5,7 @@ ghost use Rattle.std.specs.Io.KnownBytes.{Appends};
 ghost use Rattle.pks_io.specs.Writing.{AppendsFront};
 ghost use Rattle.pks_terms.specs.Printed.{Text, line};
 ghost use Rattle.pks_agent.specs.Answers.{answer_text};
-ghost use Rattle.pks_agent.specs.Hearing.{Stay, Hears, HasPeerCause};
+ghost use Rattle.pks_agent.specs.Hearing.{Stay, Hears, HasPeerCause, IsServed};
 
 use crate::answers::Answer;
 
@@ -46,6 +46,9 @@ pub trait Peer {
     /// The places that the peer borrows, which stay the same.
     ghost kept: { Self → List GName };
 
+    /// How many more calls surely don't fail, where no line has more than 8,192 bytes.
+    ghost sure: { Self → ℕ };
+
     /// Says the line and a line feed, or where it fails a front of them. The answers stay as they are. Neither count
     /// falls, each fault comes only where its count rose, and a count stands still where its fault isn't answered.
     fn tell(&mut self, text: &[u8]) -> Result<(), PeerFault>
@@ -53,6 +56,7 @@ pub trait Peer {
         ensures err { OnErr result (AppendsFront (said self.old) (said self.new) (line text.now)) }
         ensures answers { Stay (answers self.old) (answers self.new) }
         ensures cause { HasPeerCause (sends self.old) (sends self.new) (receipts self.old) (receipts self.new) result }
+        ensures served { IsServed (sure self.old) (sure self.new) text.now result }
         ensures kept { kept self.new ≡ kept self.old };
 
     /// Says the line and a line feed, and takes the next answer. `Long` comes exactly where that has more than 64
@@ -63,5 +67,6 @@ pub trait Peer {
         ensures err { OnErr result (AppendsFront (said self.old) (said self.new) (line text.now)) }
         ensures hears { Hears (answers self.old) (answers self.new) (answer_text into.new) result }
         ensures cause { HasPeerCause (sends self.old) (sends self.new) (receipts self.old) (receipts self.new) result }
+        ensures served { IsServed (sure self.old) (sure self.new) text.now result }
         ensures kept { kept self.new ≡ kept self.old };
 }

@@ -74,6 +74,8 @@ impl<S: Source, K: Sink> Peer for Wire<'_, '_, S, K> {
 
     ghost kept = { λ w. w.source.ghost_name ∷ w.sink.ghost_name ∷ [] };
 
+    ghost sure = { λ w. 0 };
+
     fn tell(&mut self, text: &[u8]) -> Result<(), PeerFault> {
         match say(self.sink, text) {
             Ok(()) => Ok(()),

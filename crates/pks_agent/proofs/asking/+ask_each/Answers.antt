@@ -17,9 +17,9 @@ ask_argument-requires-clause-questions g t c =
 
 pub returns-in-Ok-clause-leads : goal.returns-in-Ok-clause-leads
 returns-in-Ok-clause-leads g t c =
-    let m = moment g.P.Peer.answers g.P.Peer.said g.P.Peer.sends g.P.Peer.receipts g.P.Peer.kept c.args.peer.now in
-    let m' = moment g.P.Peer.answers g.P.Peer.said g.P.Peer.sends g.P.Peer.receipts g.P.Peer.kept c.ask_argument.new.peer in
-    let m'' = moment g.P.Peer.answers g.P.Peer.said g.P.Peer.sends g.P.Peer.receipts g.P.Peer.kept c.ask_each.new.peer in
+    let m = moment g.P.Peer.answers g.P.Peer.said g.P.Peer.sends g.P.Peer.receipts g.P.Peer.kept g.P.Peer.sure c.args.peer.now in
+    let m' = moment g.P.Peer.answers g.P.Peer.said g.P.Peer.sends g.P.Peer.receipts g.P.Peer.kept g.P.Peer.sure c.ask_argument.new.peer in
+    let m'' = moment g.P.Peer.answers g.P.Peer.said g.P.Peer.sends g.P.Peer.receipts g.P.Peer.kept g.P.Peer.sure c.ask_each.new.peer in
     let s = signature_of c.args.p.now.signature in
     let names = names_of c.args.p.now in
     let some : (length c.args.arguments.now == 0) ≡ false = sym c.is_empty.ensures ∙ c.if-is_empty.false in
@@ -28,8 +28,8 @@ returns-in-Ok-clause-leads g t c =
 
 pub returns-in-Err-clause-leads : goal.returns-in-Err-clause-leads
 returns-in-Err-clause-leads g t c =
-    let m = moment g.P.Peer.answers g.P.Peer.said g.P.Peer.sends g.P.Peer.receipts g.P.Peer.kept c.args.peer.now in
-    let m' = moment g.P.Peer.answers g.P.Peer.said g.P.Peer.sends g.P.Peer.receipts g.P.Peer.kept c.ask_argument.new.peer in
+    let m = moment g.P.Peer.answers g.P.Peer.said g.P.Peer.sends g.P.Peer.receipts g.P.Peer.kept g.P.Peer.sure c.args.peer.now in
+    let m' = moment g.P.Peer.answers g.P.Peer.said g.P.Peer.sends g.P.Peer.receipts g.P.Peer.kept g.P.Peer.sure c.ask_argument.new.peer in
     let s = signature_of c.args.p.now.signature in
     let names = names_of c.args.p.now in
     let some : (length c.args.arguments.now == 0) ≡ false = sym c.is_empty.ensures ∙ c.if-is_empty.false in

@@ -9,8 +9,8 @@ use Rattle.pks_agent.proofs.asking.ask_value.Goals as goal
 
 pub returns-in-Some : goal.returns-in-Some
 returns-in-Some g c =
-    let m = moment g.P.Peer.answers g.P.Peer.said g.P.Peer.sends g.P.Peer.receipts g.P.Peer.kept c.args.peer.now in
-    let m' = moment g.P.Peer.answers g.P.Peer.said g.P.Peer.sends g.P.Peer.receipts g.P.Peer.kept c.ask.new.peer in
+    let m = moment g.P.Peer.answers g.P.Peer.said g.P.Peer.sends g.P.Peer.receipts g.P.Peer.kept g.P.Peer.sure c.args.peer.now in
+    let m' = moment g.P.Peer.answers g.P.Peer.said g.P.Peer.sends g.P.Peer.receipts g.P.Peer.kept g.P.Peer.sure c.ask.new.peer in
     let reads = object_named (names_of c.args.p.now) (range_of (signature_of c.args.p.now.signature) (term_of c.args.t.now)) in
     let short : length (answer_text c.ask.new.into) ≤ 64 = subst (λ text. length text ≤ 64) c.text.ensures.text c.text.ensures.short in
     let fit : reads (answer_text c.ask.new.into) ≡ Some c.in-Some.object.0 = ap reads (sym c.text.ensures.text) ∙ sym c.value.ensures ∙ ap (option_map object_of) c.in-Some.is in

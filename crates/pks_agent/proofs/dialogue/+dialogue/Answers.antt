@@ -19,9 +19,9 @@ walk-act-requires-clause-questions g t c =
 
 pub walk-returns-in-Ok : goal.walk-returns-in-Ok
 walk-returns-in-Ok g t c =
-    let m = moment g.P.Peer.answers g.P.Peer.said g.P.Peer.sends g.P.Peer.receipts g.P.Peer.kept c.args.peer.now in
-    let m' = moment g.P.Peer.answers g.P.Peer.said g.P.Peer.sends g.P.Peer.receipts g.P.Peer.kept c.act.new.peer in
-    let m'' = moment g.P.Peer.answers g.P.Peer.said g.P.Peer.sends g.P.Peer.receipts g.P.Peer.kept c.walk.new.peer in
+    let m = moment g.P.Peer.answers g.P.Peer.said g.P.Peer.sends g.P.Peer.receipts g.P.Peer.kept g.P.Peer.sure c.args.peer.now in
+    let m' = moment g.P.Peer.answers g.P.Peer.said g.P.Peer.sends g.P.Peer.receipts g.P.Peer.kept g.P.Peer.sure c.act.new.peer in
+    let m'' = moment g.P.Peer.answers g.P.Peer.said g.P.Peer.sends g.P.Peer.receipts g.P.Peer.kept g.P.Peer.sure c.walk.new.peer in
     let s = signature_of c.args.p.now.signature in
     let names = names_of c.args.p.now in
     let i = instance_of c.in-Act.step in
@@ -32,8 +32,8 @@ walk-returns-in-Ok g t c =
 
 pub walk-returns-in-Err : goal.walk-returns-in-Err
 walk-returns-in-Err g t c =
-    let m = moment g.P.Peer.answers g.P.Peer.said g.P.Peer.sends g.P.Peer.receipts g.P.Peer.kept c.args.peer.now in
-    let m' = moment g.P.Peer.answers g.P.Peer.said g.P.Peer.sends g.P.Peer.receipts g.P.Peer.kept c.act.new.peer in
+    let m = moment g.P.Peer.answers g.P.Peer.said g.P.Peer.sends g.P.Peer.receipts g.P.Peer.kept g.P.Peer.sure c.args.peer.now in
+    let m' = moment g.P.Peer.answers g.P.Peer.said g.P.Peer.sends g.P.Peer.receipts g.P.Peer.kept g.P.Peer.sure c.act.new.peer in
     let s = signature_of c.args.p.now.signature in
     let names = names_of c.args.p.now in
     subst (λ y. IsLed m m' (Err c.in-Err.stop) (talk_from s names (tree_of y) c.args.k)) (sym c.in-Act.is)
@@ -41,9 +41,9 @@ walk-returns-in-Err g t c =
 
 pub walk-returns-in-Ok-true : goal.walk-returns-in-Ok-true
 walk-returns-in-Ok-true g t c =
-    let m = moment g.P.Peer.answers g.P.Peer.said g.P.Peer.sends g.P.Peer.receipts g.P.Peer.kept c.args.peer.now in
-    let m' = moment g.P.Peer.answers g.P.Peer.said g.P.Peer.sends g.P.Peer.receipts g.P.Peer.kept c.ask_truth.new.peer in
-    let m'' = moment g.P.Peer.answers g.P.Peer.said g.P.Peer.sends g.P.Peer.receipts g.P.Peer.kept c.walk-in-Ok-true.new.peer in
+    let m = moment g.P.Peer.answers g.P.Peer.said g.P.Peer.sends g.P.Peer.receipts g.P.Peer.kept g.P.Peer.sure c.args.peer.now in
+    let m' = moment g.P.Peer.answers g.P.Peer.said g.P.Peer.sends g.P.Peer.receipts g.P.Peer.kept g.P.Peer.sure c.ask_truth.new.peer in
+    let m'' = moment g.P.Peer.answers g.P.Peer.said g.P.Peer.sends g.P.Peer.receipts g.P.Peer.kept g.P.Peer.sure c.walk-in-Ok-true.new.peer in
     let s = signature_of c.args.p.now.signature in
     let names = names_of c.args.p.now in
     let test = conj_of c.in-Branch.test in
@@ -57,9 +57,9 @@ walk-returns-in-Ok-true g t c =
 
 pub walk-returns-in-Ok-false : goal.walk-returns-in-Ok-false
 walk-returns-in-Ok-false g t c =
-    let m = moment g.P.Peer.answers g.P.Peer.said g.P.Peer.sends g.P.Peer.receipts g.P.Peer.kept c.args.peer.now in
-    let m' = moment g.P.Peer.answers g.P.Peer.said g.P.Peer.sends g.P.Peer.receipts g.P.Peer.kept c.ask_truth.new.peer in
-    let m'' = moment g.P.Peer.answers g.P.Peer.said g.P.Peer.sends g.P.Peer.receipts g.P.Peer.kept c.walk-in-Ok-false.new.peer in
+    let m = moment g.P.Peer.answers g.P.Peer.said g.P.Peer.sends g.P.Peer.receipts g.P.Peer.kept g.P.Peer.sure c.args.peer.now in
+    let m' = moment g.P.Peer.answers g.P.Peer.said g.P.Peer.sends g.P.Peer.receipts g.P.Peer.kept g.P.Peer.sure c.ask_truth.new.peer in
+    let m'' = moment g.P.Peer.answers g.P.Peer.said g.P.Peer.sends g.P.Peer.receipts g.P.Peer.kept g.P.Peer.sure c.walk-in-Ok-false.new.peer in
     let s = signature_of c.args.p.now.signature in
     let names = names_of c.args.p.now in
     let test = conj_of c.in-Branch.test in
@@ -73,8 +73,8 @@ walk-returns-in-Ok-false g t c =
 
 pub walk-returns-in-Err-ask_truth : goal.walk-returns-in-Err-ask_truth
 walk-returns-in-Err-ask_truth g t c =
-    let m = moment g.P.Peer.answers g.P.Peer.said g.P.Peer.sends g.P.Peer.receipts g.P.Peer.kept c.args.peer.now in
-    let m' = moment g.P.Peer.answers g.P.Peer.said g.P.Peer.sends g.P.Peer.receipts g.P.Peer.kept c.ask_truth.new.peer in
+    let m = moment g.P.Peer.answers g.P.Peer.said g.P.Peer.sends g.P.Peer.receipts g.P.Peer.kept g.P.Peer.sure c.args.peer.now in
+    let m' = moment g.P.Peer.answers g.P.Peer.said g.P.Peer.sends g.P.Peer.receipts g.P.Peer.kept g.P.Peer.sure c.ask_truth.new.peer in
     let s = signature_of c.args.p.now.signature in
     let names = names_of c.args.p.now in
     let test = conj_of c.in-Branch.test in
@@ -87,9 +87,9 @@ walk-returns-in-Err-ask_truth g t c =
 
 pub walk-returns-in-Ok-ask_value : goal.walk-returns-in-Ok-ask_value
 walk-returns-in-Ok-ask_value g t c =
-    let m = moment g.P.Peer.answers g.P.Peer.said g.P.Peer.sends g.P.Peer.receipts g.P.Peer.kept c.args.peer.now in
-    let m' = moment g.P.Peer.answers g.P.Peer.said g.P.Peer.sends g.P.Peer.receipts g.P.Peer.kept c.ask_value.new.peer in
-    let m'' = moment g.P.Peer.answers g.P.Peer.said g.P.Peer.sends g.P.Peer.receipts g.P.Peer.kept c.walk_case.new.peer in
+    let m = moment g.P.Peer.answers g.P.Peer.said g.P.Peer.sends g.P.Peer.receipts g.P.Peer.kept g.P.Peer.sure c.args.peer.now in
+    let m' = moment g.P.Peer.answers g.P.Peer.said g.P.Peer.sends g.P.Peer.receipts g.P.Peer.kept g.P.Peer.sure c.ask_value.new.peer in
+    let m'' = moment g.P.Peer.answers g.P.Peer.said g.P.Peer.sends g.P.Peer.receipts g.P.Peer.kept g.P.Peer.sure c.walk_case.new.peer in
     let s = signature_of c.args.p.now.signature in
     let names = names_of c.args.p.now in
     let x = term_of c.in-Cases.term in
@@ -102,8 +102,8 @@ walk-returns-in-Ok-ask_value g t c =
 
 pub walk-returns-in-Err-ask_value : goal.walk-returns-in-Err-ask_value
 walk-returns-in-Err-ask_value g t c =
-    let m = moment g.P.Peer.answers g.P.Peer.said g.P.Peer.sends g.P.Peer.receipts g.P.Peer.kept c.args.peer.now in
-    let m' = moment g.P.Peer.answers g.P.Peer.said g.P.Peer.sends g.P.Peer.receipts g.P.Peer.kept c.ask_value.new.peer in
+    let m = moment g.P.Peer.answers g.P.Peer.said g.P.Peer.sends g.P.Peer.receipts g.P.Peer.kept g.P.Peer.sure c.args.peer.now in
+    let m' = moment g.P.Peer.answers g.P.Peer.said g.P.Peer.sends g.P.Peer.receipts g.P.Peer.kept g.P.Peer.sure c.ask_value.new.peer in
     let s = signature_of c.args.p.now.signature in
     let names = names_of c.args.p.now in
     let x = term_of c.in-Cases.term in

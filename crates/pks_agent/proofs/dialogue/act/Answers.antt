@@ -8,15 +8,15 @@ use Rattle.pks_agent.proofs.dialogue.act.Goals as goal
 
 pub returns-in-Ok-tell-clause-leads : goal.returns-in-Ok-tell-clause-leads
 returns-in-Ok-tell-clause-leads g c =
-    let m = moment g.P.Peer.answers g.P.Peer.said g.P.Peer.sends g.P.Peer.receipts g.P.Peer.kept c.args.peer.now in
-    let m' = moment g.P.Peer.answers g.P.Peer.said g.P.Peer.sends g.P.Peer.receipts g.P.Peer.kept c.ask_each.new.peer in
+    let m = moment g.P.Peer.answers g.P.Peer.said g.P.Peer.sends g.P.Peer.receipts g.P.Peer.kept g.P.Peer.sure c.args.peer.now in
+    let m' = moment g.P.Peer.answers g.P.Peer.said g.P.Peer.sends g.P.Peer.receipts g.P.Peer.kept g.P.Peer.sure c.ask_each.new.peer in
     let s = signature_of c.args.p.now.signature in
     let names = names_of c.args.p.now in
     let i = instance_of c.args.step.now in
     let k = c.args.k in
     let none = ap (map inner_of) c.clear.ensures.items in
     let all = ap (map inner_of) c.front.ensures in
-    let m'' = moment g.P.Peer.answers g.P.Peer.said g.P.Peer.sends g.P.Peer.receipts g.P.Peer.kept c.tell.new.peer in
+    let m'' = moment g.P.Peer.answers g.P.Peer.said g.P.Peer.sends g.P.Peer.receipts g.P.Peer.kept g.P.Peer.sure c.tell.new.peer in
     let us = map inner_of c.ask_each.new.told.items in
     let each : LeadsOn (each_behind s names [] i.arguments) k (k + argument_count i.arguments) us m m' =
     subst (λ ts. LeadsOn (each_behind s names [] ts) k (k + argument_count ts) us m m') all (subst (λ before. LeadsOn (each_behind s names before (map inner_of c.front.result.now)) k (k + argument_count (map inner_of c.front.result.now)) us m m') none c.in-Ok.ensures.leads) in
@@ -26,15 +26,15 @@ returns-in-Ok-tell-clause-leads g c =
 
 pub returns-in-Err-tell-clause-leads : goal.returns-in-Err-tell-clause-leads
 returns-in-Err-tell-clause-leads g c =
-    let m = moment g.P.Peer.answers g.P.Peer.said g.P.Peer.sends g.P.Peer.receipts g.P.Peer.kept c.args.peer.now in
-    let m' = moment g.P.Peer.answers g.P.Peer.said g.P.Peer.sends g.P.Peer.receipts g.P.Peer.kept c.ask_each.new.peer in
+    let m = moment g.P.Peer.answers g.P.Peer.said g.P.Peer.sends g.P.Peer.receipts g.P.Peer.kept g.P.Peer.sure c.args.peer.now in
+    let m' = moment g.P.Peer.answers g.P.Peer.said g.P.Peer.sends g.P.Peer.receipts g.P.Peer.kept g.P.Peer.sure c.ask_each.new.peer in
     let s = signature_of c.args.p.now.signature in
     let names = names_of c.args.p.now in
     let i = instance_of c.args.step.now in
     let k = c.args.k in
     let none = ap (map inner_of) c.clear.ensures.items in
     let all = ap (map inner_of) c.front.ensures in
-    let m'' = moment g.P.Peer.answers g.P.Peer.said g.P.Peer.sends g.P.Peer.receipts g.P.Peer.kept c.tell.new.peer in
+    let m'' = moment g.P.Peer.answers g.P.Peer.said g.P.Peer.sends g.P.Peer.receipts g.P.Peer.kept g.P.Peer.sure c.tell.new.peer in
     let us = map inner_of c.ask_each.new.told.items in
     let each : LeadsOn (each_behind s names [] i.arguments) k (k + argument_count i.arguments) us m m' =
     subst (λ ts. LeadsOn (each_behind s names [] ts) k (k + argument_count ts) us m m') all (subst (λ before. LeadsOn (each_behind s names before (map inner_of c.front.result.now)) k (k + argument_count (map inner_of c.front.result.now)) us m m') none c.in-Ok.ensures.leads) in
@@ -44,8 +44,8 @@ returns-in-Err-tell-clause-leads g c =
 
 pub returns-in-Err-clause-leads : goal.returns-in-Err-clause-leads
 returns-in-Err-clause-leads g c =
-    let m = moment g.P.Peer.answers g.P.Peer.said g.P.Peer.sends g.P.Peer.receipts g.P.Peer.kept c.args.peer.now in
-    let m' = moment g.P.Peer.answers g.P.Peer.said g.P.Peer.sends g.P.Peer.receipts g.P.Peer.kept c.ask_each.new.peer in
+    let m = moment g.P.Peer.answers g.P.Peer.said g.P.Peer.sends g.P.Peer.receipts g.P.Peer.kept g.P.Peer.sure c.args.peer.now in
+    let m' = moment g.P.Peer.answers g.P.Peer.said g.P.Peer.sends g.P.Peer.receipts g.P.Peer.kept g.P.Peer.sure c.ask_each.new.peer in
     let s = signature_of c.args.p.now.signature in
     let names = names_of c.args.p.now in
     let i = instance_of c.args.step.now in
