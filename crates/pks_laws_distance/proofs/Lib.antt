@@ -1,3 +1,4 @@
 pub mod Running
 pub mod Stepping
 pub mod Bounding
+pub mod Meeting

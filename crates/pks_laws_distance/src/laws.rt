@@ -1,6 +1,6 @@
 //! The laws, each the clause of a function that does nothing.
 
-ghost use Rattle.std.specs.Prelude.{◌≡◌, ℕ, max, List, [], ◌∷◌, Option};
+ghost use Rattle.std.specs.Prelude.{◌≡◌, ◌≤◌, ◌*◌, ℕ, max, List, [], ◌∷◌, Option};
 ghost use Rattle.pks_terms.specs.Sets.{IsIn};
 ghost use Rattle.pks_terms.specs.Syntax.{Term, Literal};
 ghost use Rattle.pks_terms.specs.Worlds.{World};
@@ -15,6 +15,7 @@ ghost use Rattle.pks_terms.specs.Trees.{Tree, Branch, Cases, Chain, depth, chain
 ghost use Rattle.pks_terms.specs.Knowledge.{grounded, after_action};
 ghost use Rattle.pks_laws_distance.specs.Runs.{MayBeDone, IsGoal, MayBeAt, Reaches};
 ghost use Rattle.pks_laws_distance.specs.Levels.{Chances, Allows, IsNext, IsBound, IsAtMost, AreLevels};
+ghost use Rattle.pks_laws_distance.specs.Unmet.{AreWanted, unmet, MeetsAtMost, fewest, greater};
 
 /// A compatible world may be the present one at the start.
 pub fn compatible_worlds_may_be_first()
@@ -69,4 +70,21 @@ pub fn runs_stay_within_levels()
 /// none is derived.
 pub fn derived_trees_are_bounded()
     ensures { (p : Problem) (h : History) (w : World) (t : Tree) (o : Option ℕ) → AllJustified p → IsTyped p → MayBeAt p h w → Derives p (At h) t → IsBound p w o → IsAtMost o (depth t) }
+{}
+
+// ---- unmet literals
+
+/// A run that reaches the goal has at least one action for each m literals that are unmet where it begins, if no action meets more.
+pub fn runs_meet_what_is_unmet()
+    ensures { (p : Problem) (w : World) (ls : List Literal) (m k : ℕ) → AreWanted p ls → MeetsAtMost p ls m → Reaches p w k → unmet w ls ≤ k * m }
+{}
+
+/// So many actions are a bound; where none meets a literal and one is unmet, there is no run at all.
+pub fn unmet_literals_bound()
+    ensures { (p : Problem) (w : World) (ls : List Literal) (m : ℕ) → AreWanted p ls → MeetsAtMost p ls m → IsBound p w (fewest m (unmet w ls)) }
+{}
+
+/// The greater of two bounds is one.
+pub fn greater_bounds_hold()
+    ensures { (p : Problem) (w : World) (a b : Option ℕ) → IsBound p w a → IsBound p w b → IsBound p w (greater a b) }
 {}

@@ -2,5 +2,8 @@ pub mod Lists
 pub mod Sound
 pub mod Growing
 pub mod Bounded
+pub mod Unmet
 pub mod Grounding
 pub mod Remembering
+pub mod Least
+pub mod Wanting

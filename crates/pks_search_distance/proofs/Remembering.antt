@@ -12,7 +12,7 @@ pub beside : (p : Problem) (x : Deeds) (t : Counts) (w : World) → AreDeeds p x
 beside p x t w d = record { placed = d.placed; listed = d.listed }
 
 pub with_table : (p : Problem) (x : Deeds) (t : Counts) → AreItsDeeds p x → AreRight p t → AreItsDeeds p (record x { counts = t })
-with_table p x t d r = record { listed = λ w. beside p x t w (d.listed w); counted = r }
+with_table p x t d r = record { listed = λ w. beside p x t w (d.listed w); wanted = d.wanted; few = d.few; counted = r }
 
 -- what stands after either end
 pub either : {X E : Type 0} (r : Result X E) (A B : Type 0) → OnOk r A → OnErr r B → A ⊎ B

@@ -1,3 +1,4 @@
 pub mod Relaxed
 pub mod Gained
+pub mod Counted
 pub mod Remembered

@@ -2,8 +2,10 @@
 use Rattle.std.specs.Prelude.{ℕ, Contains}
 use Rattle.pks_terms.specs.Worlds.{World}
 use Rattle.pks_terms.specs.Problems.{Problem}
+use Rattle.pks_terms.specs.Views.{literals_in}
 use Rattle.pks_world.specs.Contents.{world_of}
 use Rattle.pks_laws_distance.specs.Levels.{IsBound}
+use Rattle.pks_laws_distance.specs.Unmet.{AreWanted, MeetsAtMost}
 use Rattle.pks_search_distance.specs.declared.counted.Counted.{Counted}
 use Rattle.pks_search_distance.specs.declared.counted.Counts.{Counts}
 use Rattle.pks_search_distance.specs.declared.deeds.Deeds.{Deeds}
@@ -17,7 +19,9 @@ IsRight p x = IsBound p (world_of x.world.value) x.bound.needs
 abbrev pub AreRight : Problem → Counts → Type 0
 AreRight p t = (mark : ℕ) (x : Counted) → Contains t.table.entries (mark, x) → IsRight p x
 
--- the ground actions are those of the problem, and the bounds that were counted by them are right
+-- the ground actions are those of the problem, none of them meets more of the wanted literals than is noted, and the bounds that were counted are right
 pub record AreItsDeeds (p : Problem) (x : Deeds) : Type 0 where
   pub listed : (w : World) → AreDeeds p x w
+  pub wanted : AreWanted p (literals_in x.wanted.items)
+  pub few : MeetsAtMost p (literals_in x.wanted.items) x.met
   pub counted : AreRight p x.counts

@@ -10,6 +10,7 @@ ghost use Rattle.pks_search_distance.specs.Gained.{deed_of};
 ghost use Rattle.pks_search_distance.specs.Remembered.{AreItsDeeds};
 
 use crate::counted::Counts;
+use crate::wanted::{add_all_wanted, most_met};
 use pks_terms::ids::{ActId, ObjId, TypeId};
 use pks_terms::literal::Literal;
 use pks_terms::problem::{Problem, Signature};
@@ -28,10 +29,13 @@ pub(crate) struct Deed {
     pub(crate) effects: Vec<Effect>,
 }
 
-/// The ground actions of a problem, and the bounds that were counted by them.
+/// The ground actions of a problem, the literals that its goal asks for, the most of them that one action may make true, and the bounds
+/// that were counted.
 #[derive(Drop)]
 pub struct Deeds {
     pub(crate) deeds: Vec<Deed>,
+    pub(crate) wanted: Vec<Literal>,
+    pub(crate) met: usize,
     pub(crate) counts: Counts,
 }
 
@@ -211,7 +215,15 @@ impl Deeds {
         }
         let mut deeds = Vec::new(alloc);
         add_all_deeds(alloc, &p.signature, p.schemas.as_slice(), &mut deeds)?;
+        let mut wanted = Vec::new(alloc);
+        add_all_wanted(p.goal.as_slice(), &mut wanted)?;
+        let met = most_met(deeds.as_slice(), wanted.as_slice());
         let counts = Counts::new(alloc)?;
-        Ok(Some(Deeds { deeds, counts }))
+        Ok(Some(Deeds {
+            deeds,
+            wanted,
+            met,
+            counts,
+        }))
     }
 }

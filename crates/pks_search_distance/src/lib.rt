@@ -11,5 +11,6 @@ mod news;
 mod objects;
 mod taking;
 mod values;
+mod wanted;
 
 pub use deeds::Deeds;

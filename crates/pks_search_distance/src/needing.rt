@@ -1,10 +1,11 @@
 //! The bound.
-ghost use Rattle.std.specs.Prelude.{◌≡◌, false, map, IfOk, OnOk};
+ghost use Rattle.std.specs.Prelude.{◌≡◌, false, map, min, option_map, IfOk, OnOk};
 ghost use Rattle.std.specs.List.{flat_map};
 ghost use Rattle.pks_terms.specs.Sets.{Each};
 ghost use Rattle.pks_terms.specs.Views.{problem_of};
 ghost use Rattle.pks_world.specs.Contents.{world_of};
 ghost use Rattle.pks_laws_distance.specs.Levels.{Grows, IsBound};
+ghost use Rattle.pks_laws_distance.specs.Unmet.{fewest, greater};
 ghost use Rattle.pks_search_distance.specs.Relaxed.{deed_news, IsNewIn};
 ghost use Rattle.pks_terms.specs.ValidProblems.{ArePlaced};
 ghost use Rattle.pks_search_distance.specs.Gained.{chances_of, deed_of, AreDeeds};
@@ -13,6 +14,7 @@ ghost use Rattle.pks_search_distance.specs.Remembered.{AreItsDeeds};
 use crate::counted::Bound;
 use crate::deeds::Deeds;
 use crate::gains::Gains;
+use crate::wanted::unmet;
 use pks_terms::problem::Problem;
 use pks_world::World;
 use std::alloc::{AllocError, Global};
@@ -23,6 +25,41 @@ const MOST_WORK: usize = 200_000;
 
 fn is_too_much(values: usize, actions: usize) -> bool {
     values.saturating_mul(values).saturating_mul(actions) > MOST_WORK
+}
+
+/// How many actions meet so many literals, where one meets at most `met`, as far as `most`; `None` where none meets any.
+fn fewest(met: usize, unmet: usize, most: u32) -> Option<u32>
+    ensures { result ≡ option_map (min most) (fewest met unmet) }
+{
+    if unmet == 0 {
+        return Some(0);
+    }
+    if met == 0 {
+        return None;
+    }
+    let needs = (unmet - 1) / met;
+    if needs >= most as usize {
+        return Some(most);
+    }
+    Some(needs as u32 + 1)
+}
+
+/// The greater of two bounds: none where one of them is none.
+fn greater(a: Option<u32>, b: Option<u32>) -> Option<u32>
+    ensures { result ≡ greater a b }
+{
+    match (a, b) {
+        (Some(a), Some(b)) => Some(a.max(b)),
+        _ => None,
+    }
+}
+
+/// Whether counting up to `most` can't add to the bound.
+fn is_enough(needs: Option<u32>, most: u32) -> bool {
+    match needs {
+        Some(k) => most <= k,
+        None => true,
+    }
 }
 
 impl Deeds {
@@ -85,11 +122,16 @@ impl Deeds {
         ensures deeds { AreItsDeeds (problem_of p.now) self.new }
     {
         let world: &World = w;
+        let few = fewest(self.met, unmet(world, self.wanted.as_slice()), most);
+        if is_enough(few, most) {
+            return Ok(few);
+        }
         let mark = world.mark();
         if let Some(known) = self.counts.tells(mark, world, most) {
             return Ok(known.needs);
         }
-        let needs = self.needs(alloc, p, world, most)?;
+        let levels = self.needs(alloc, p, world, most)?;
+        let needs = greater(few, levels);
         self.counts.note(mark, w, Bound { needs, most });
         Ok(needs)
     }

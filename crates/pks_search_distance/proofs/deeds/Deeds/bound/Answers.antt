@@ -1,9 +1,13 @@
-use Rattle.std.proofs.Common.{subst}
+use Rattle.std.proofs.Common.{List, ap, ◌∙◌, sym, subst}
 use Rattle.std.specs.Option.{IfSome}
-use Rattle.pks_terms.specs.Views.{problem_of}
+use Rattle.pks_terms.specs.declared.literal.Literal.{Literal}
+use Rattle.pks_terms.specs.Views.{literals_in, problem_of}
 use Rattle.pks_world.specs.Contents.{world_of}
 use Rattle.pks_world.specs.declared.worlds.World.{World}
 use Rattle.pks_laws_distance.specs.Levels.{IsBound}
+use Rattle.pks_laws_distance.specs.Unmet.{unmet}
+use Rattle.pks_laws_distance.proofs.Meeting.{greater_bounds}
+use Rattle.pks_search_distance.proofs.Least.{least_bounds}
 use Rattle.pks_search_distance.proofs.Remembering.{beside, with_table}
 use Rattle.pks_search_distance.proofs.deeds.Deeds.bound.Goals as goal
 
@@ -11,6 +15,14 @@ pub needs-requires : goal.needs-requires
 needs-requires c =
     let w = world_of c.deref-world.result.now in
     beside (problem_of c.args.p.now) c.args.self.now c.tells.new.self w (c.requires.listed w)
+
+pub returns-then-is_enough-clause-bound : goal.returns-then-is_enough-clause-bound
+returns-then-is_enough-clause-bound c =
+    let p = problem_of c.args.p.now in
+    let x = c.args.self.now in
+    let counted = c.unmet.ensures ∙ ap (λ (ls : List Literal). unmet (world_of c.deref-world.result.now) (literals_in ls)) c.as_slice.ensures.value in
+    subst (λ (w : World). IsBound p (world_of w) c.fewest-few.result) c.deref-world.ensures
+    (least_bounds p (world_of c.deref-world.result.now) (literals_in x.wanted.items) x.met c.unmet.result c.args.most c.fewest-few.result c.requires.wanted c.requires.few counted c.fewest-few.ensures)
 
 pub returns-in-Some-clause-bound : goal.returns-in-Some-clause-bound
 returns-in-Some-clause-bound c =
@@ -24,15 +36,27 @@ returns-in-Some-clause-deeds c =
     with_table p c.args.self.now c.tells.new.self c.requires (c.tells.ensures.right p c.requires.counted)
 
 pub returns-clause-bound : goal.returns-clause-bound
-returns-clause-bound c = subst (λ (w : World). IsBound (problem_of c.args.p.now) (world_of w) c.in_ok-needs.needs) c.deref-world.ensures c.in_ok-needs.ensures
+returns-clause-bound c =
+    let p = problem_of c.args.p.now in
+    let x = c.args.self.now in
+    let w = world_of c.deref-world.result.now in
+    let counted = c.unmet.ensures ∙ ap (λ (ls : List Literal). unmet w (literals_in ls)) c.as_slice.ensures.value in
+    let few = least_bounds p w (literals_in x.wanted.items) x.met c.unmet.result c.args.most c.fewest-few.result c.requires.wanted c.requires.few counted c.fewest-few.ensures in
+    let both = subst (IsBound p w) (sym c.greater-needs.ensures) (greater_bounds p w c.fewest-few.result c.in_ok-levels.levels few c.in_ok-levels.ensures) in
+    subst (λ (w : World). IsBound p (world_of w) c.greater-needs.result) c.deref-world.ensures both
 
 pub returns-clause-deeds : goal.returns-clause-deeds
 returns-clause-deeds c =
     let p = problem_of c.args.p.now in
-    let holds = subst (λ (w : World). IsBound p (world_of w) c.in_ok-needs.needs) c.deref-world.ensures c.in_ok-needs.ensures in
+    let x = c.args.self.now in
+    let w = world_of c.deref-world.result.now in
+    let counted = c.unmet.ensures ∙ ap (λ (ls : List Literal). unmet w (literals_in ls)) c.as_slice.ensures.value in
+    let few = least_bounds p w (literals_in x.wanted.items) x.met c.unmet.result c.args.most c.fewest-few.result c.requires.wanted c.requires.few counted c.fewest-few.ensures in
+    let both = subst (IsBound p w) (sym c.greater-needs.ensures) (greater_bounds p w c.fewest-few.result c.in_ok-levels.levels few c.in_ok-levels.ensures) in
+    let holds = subst (λ (w : World). IsBound p (world_of w) c.greater-needs.result) c.deref-world.ensures both in
     with_table p c.args.self.now c.note.new.self c.requires (c.note.ensures p holds (c.tells.ensures.right p c.requires.counted))
 
-pub returns-in_err-needs-clause-deeds : goal.returns-in_err-needs-clause-deeds
-returns-in_err-needs-clause-deeds c =
+pub returns-in_err-levels-clause-deeds : goal.returns-in_err-levels-clause-deeds
+returns-in_err-levels-clause-deeds c =
     let p = problem_of c.args.p.now in
     with_table p c.args.self.now c.tells.new.self c.requires (c.tells.ensures.right p c.requires.counted)
