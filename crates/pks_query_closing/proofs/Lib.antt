@@ -7,3 +7,4 @@ pub mod Truth
 pub mod Growing
 pub mod Apart
 pub mod ByValue
+pub mod OwnSets

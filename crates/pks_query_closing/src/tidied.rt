@@ -1,6 +1,6 @@
 //! What is kept of databases whose known literals are closed. `docs/RULES.md` has the rule.
-ghost use Rattle.std.specs.Prelude.{◌≡◌, List, [], ◌∷◌, ◌++◌, map, IfOk, OnOk};
-ghost use Rattle.std.specs.List.{filter};
+ghost use Rattle.std.specs.Prelude.{◌≡◌, List, [], ◌∷◌, ◌++◌, map, IfOk, OnOk, IsTrue};
+ghost use Rattle.std.specs.List.{filter, list_all};
 ghost use Rattle.pks_terms.specs.Sets.{set_of};
 ghost use Rattle.pks_terms.specs.Databases.{normal, entry_cmp};
 ghost use Rattle.pks_terms.specs.Orders.{term_cmp, conj_cmp};
@@ -11,8 +11,10 @@ ghost use Rattle.pks_kw.specs.Formulas.{formulas_of};
 ghost use Rattle.pks_kx.specs.Groups.{groups_of};
 ghost use Rattle.pks_lcw.specs.Entries.{entries_of};
 ghost use Rattle.pks_query_lookup.specs.Fives.{five_of};
+ghost use Rattle.pks_query_closing.specs.Own.{is_own_formula, is_own_application, is_own_group};
 
 use crate::forms::{normal_conj, normal_entry, normal_group};
+use crate::own::{is_own_application, is_own_formula, is_own_group, is_own_region};
 use pks_kv::Kv;
 use pks_kw::Kw;
 use pks_kx::Kx;
@@ -36,9 +38,27 @@ fn normal_formulas(alloc: Global, d: &Derived) -> Result<Vec<Conj>, AllocError>
     Ok(all)
 }
 
+/// Whether each formula is its own normal form.
+fn are_own_formulas(d: &Derived) -> bool
+    ensures { result ≡ list_all (is_own_formula (literals_of d.now.kf)) (formulas_of d.now.kw) }
+{
+    for c in d.five().kw.items() {
+        if !is_own_formula(d.normals(), c) {
+            return false;
+        }
+    }
+    true
+}
+
 fn formulas(alloc: Global, d: &Derived) -> Result<Kw, AllocError>
     ensures { IfOk result (λ set. formulas_of set ≡ set_of conj_cmp (map (normal_conj (literals_of d.now.kf)) (formulas_of d.now.kw))) }
 {
+    let members = &d.five().kw;
+    let _ordered = members.len();
+    if are_own_formulas(d) {
+        let same = members.share()?;
+        return Ok(same);
+    }
     let all = normal_formulas(alloc, d)?;
     let set = Kw::empty().added(alloc, all)?;
     Ok(set)
@@ -67,9 +87,27 @@ fn normal_values(alloc: Global, d: &Derived) -> Result<Vec<Term>, AllocError>
     Ok(all)
 }
 
+/// Whether each term is an application and its own normal form.
+fn are_own_values(d: &Derived) -> bool
+    ensures { result ≡ list_all (is_own_application (literals_of d.now.kf)) (terms_of d.now.kv) }
+{
+    for t in d.five().kv.items() {
+        if !is_own_application(d.normals(), t) {
+            return false;
+        }
+    }
+    true
+}
+
 fn values(alloc: Global, d: &Derived) -> Result<Kv, AllocError>
     ensures { IfOk result (λ set. terms_of set ≡ set_of term_cmp (filter is_application (map (normal (literals_of d.now.kf)) (terms_of d.now.kv)))) }
 {
+    let members = &d.five().kv;
+    let _ordered = members.len();
+    if are_own_values(d) {
+        let same = members.share()?;
+        return Ok(same);
+    }
     let all = normal_values(alloc, d)?;
     let set = Kv::empty().added(alloc, all)?;
     Ok(set)
@@ -87,9 +125,27 @@ fn normal_groups(alloc: Global, d: &Derived) -> Result<Vec<Group>, AllocError>
     Ok(all)
 }
 
+/// Whether each group is its own normal form.
+fn are_own_groups(d: &Derived) -> bool
+    ensures { result ≡ list_all (is_own_group (literals_of d.now.kf)) (groups_of d.now.kx) }
+{
+    for g in d.five().kx.items() {
+        if !is_own_group(d.normals(), g) {
+            return false;
+        }
+    }
+    true
+}
+
 fn groups(alloc: Global, d: &Derived) -> Result<Kx, AllocError>
     ensures { IfOk result (λ set. groups_of set ≡ set_of conj_cmp (map (normal_group (literals_of d.now.kf)) (groups_of d.now.kx))) }
 {
+    let members = &d.five().kx;
+    let _ordered = members.len();
+    if are_own_groups(d) {
+        let same = members.share()?;
+        return Ok(same);
+    }
     let all = normal_groups(alloc, d)?;
     let set = Kx::empty().added(alloc, all)?;
     Ok(set)
@@ -107,9 +163,27 @@ fn normal_entries(alloc: Global, d: &Derived) -> Result<Vec<Entry>, AllocError>
     Ok(all)
 }
 
+/// Whether each region is its own normal form.
+fn are_own_regions(d: &Derived) -> bool
+    ensures { IsTrue result → map (normal_entry (literals_of d.now.kf)) (entries_of d.now.lcw) ≡ entries_of d.now.lcw }
+{
+    for e in d.five().lcw.items() {
+        if !is_own_region(d.normals(), e) {
+            return false;
+        }
+    }
+    true
+}
+
 fn regions(alloc: Global, d: &Derived) -> Result<Lcw, AllocError>
     ensures { IfOk result (λ set. entries_of set ≡ set_of entry_cmp (map (normal_entry (literals_of d.now.kf)) (entries_of d.now.lcw))) }
 {
+    let members = &d.five().lcw;
+    let _ordered = members.len();
+    if are_own_regions(d) {
+        let same = members.share()?;
+        return Ok(same);
+    }
     let all = normal_entries(alloc, d)?;
     let set = Lcw::empty().added(alloc, all)?;
     Ok(set)
