@@ -1,28 +1,26 @@
 -- What is put in follows, and where a literal of it is denied closing clashes.
-use Rattle.std.proofs.Common.{◌≡◌, ◌≤◌, ◌<◌, ℕ, zero, suc, Bool, true, false, cond, List, [], ◌∷◌, map, flat_map, find, length, get_or, take, drop, nat_lt, ltb-true, is_some, option_map, ◌-◌, Option, Some, None, refl, sym, ap, ◌∙◌, subst, inl, inr, ⊎_elim, true≢false, arith}
+use Rattle.std.proofs.Common.{◌≡◌, ◌≤◌, ◌<◌, ℕ, zero, suc, Bool, true, false, cond, List, [], ◌∷◌, flat_map, find, length, get_or, nat_lt, ltb-true, is_some, option_map, Option, Some, None, refl, sym, ap, ◌∙◌, subst, inl, inr, ⊎_elim, true≢false, arith}
 use Rattle.std.specs.Option.{option_map_or}
 use Rattle.std.proofs.lemmas.Option.{none-some, same_Some}
-use Rattle.std.proofs.lemmas.List.{take_all}
 use Rattle.pks_terms.specs.Sets.{IsIn, IsOrdered, insert_in}
-use Rattle.pks_terms.specs.Syntax.{Literal, negated}
+use Rattle.pks_terms.specs.Syntax.{Term, Literal, negated}
 use Rattle.pks_terms.specs.Orders.{literal_cmp}
 use Rattle.pks_terms.specs.Totality.{literal_cmp_total}
 use Rattle.pks_terms.specs.Signatures.{Signature, HasValues}
 use Rattle.pks_terms.specs.Databases.{Five, holds}
-use Rattle.pks_terms.specs.Closure.{by_value, by_group, additions, round, rounds, outcome, tidied, first_clash, Outcome, Next, Clash, Closes}
+use Rattle.pks_terms.specs.Closure.{by_value, by_group, by_range, applications_in, additions, round, rounds, outcome, tidied, first_clash, Outcome, Next, Clash, Closes}
 use Rattle.pks_terms.specs.Saturated.{Within, IsSaturated}
-use Rattle.pks_terms.specs.Views.{literal_of, literals_in}
+use Rattle.pks_terms.specs.Views.{literal_of}
 use Rattle.pks_terms.specs.declared.literal.Literal.{Literal as DLiteral}
-use Rattle.pks_terms.proofs.ListLaws.{each_of, in_map}
 use Rattle.pks_terms.proofs.OrderLaws.{literal_cmp_tells}
 use Rattle.pks_terms.proofs.SetLaws.{insert_in_more, in_added, added_in}
 use Rattle.pks_laws.proofs.Least.{in_left, in_right, in_flat, holds_grows}
 use Rattle.pks_laws.proofs.Belonging.{saturated_end}
-use Rattle.pks_laws_progress.specs.Following.{IsImplied, Follows}
+use Rattle.pks_laws_progress.specs.Following.{Follows}
 use Rattle.pks_laws_progress.proofs.Following.{put_implied, addition_implied, closes_alike}
 use Rattle.pks_laws_progress.proofs.Keeping.{none_found}
 use Rattle.pks_laws_forget.proofs.ClosingEnds.{closing_ends}
-use Rattle.pks_query_closing.specs.Working.{Clashes, SomeDenied, GrowsTo, GrowsBy, GrowsByGroups}
+use Rattle.pks_query_closing.specs.Working.{Clashes, SomeDenied, GrowsTo, GrowsBy}
 
 -- ---- what follows
 
@@ -55,9 +53,6 @@ module _ (s : Signature) where
 
 -- ---- one literal, several, and those of a group
 
-pub grows_none : (s : Signature) (ls : List Literal) (d e : Five) → e ≡ d → GrowsBy s ls d e
-grows_none s ls d e same = record { grows = λ start g a. subst (GrowsTo s start) (sym same) g }
-
 put_longer : (l : Literal) (kf : List Literal) → length kf ≤ length (insert_in literal_cmp l kf)
 put_longer l kf = ⊎_elim
     (λ same. let n : length (insert_in literal_cmp l kf) ≡ length kf = ap length same in omega (arith, n))
@@ -73,15 +68,6 @@ grows_one s l d e same = record {
       });
 }
 
-pub grows_more : (s : Signature) (l : Literal) (ls : List Literal) (d a e : Five) → GrowsBy s (l ∷ []) d a → GrowsBy s ls a e → GrowsBy s (l ∷ ls) d e
-grows_more s l ls d a e one more = record { grows = λ start g i. more.grows start (one.grows start g (i.0, tt)) i.1 }
-
--- the literals of a list, of which the first is put in before the others
-pub all_grow : (s : Signature) (xs : List DLiteral) (none : DLiteral) (d a e : Five) → 1 ≤ length xs → GrowsBy s (literal_of (get_or xs 0 none) ∷ []) d a → GrowsBy s (map literal_of (take (length xs - 1) (drop 1 xs))) a e → GrowsBy s (map literal_of xs) d e
-all_grow s [] none d a e h one more = absurd (omega arith)
-all_grow s (x ∷ xs) none d a e h one more =
-    grows_more s (literal_of x) (map literal_of xs) d a e one (subst (λ ys. GrowsBy s (map literal_of ys) a e) (take_all (length (x ∷ xs) - 1) xs (omega arith)) more)
-
 read_in : {X : Type 0} (xs : List X) (k : ℕ) (x : X) → k < length xs → x ≡ get_or xs k x → IsIn x xs
 read_in [] k x h e = absurd (omega arith)
 read_in (y ∷ ys) zero x h e = inl (sym e)
@@ -90,25 +76,16 @@ read_in (y ∷ ys) (suc k) x h e = inr (read_in ys k x (omega arith) e)
 pub found_in : {X : Type 0} (xs ys : List X) (k : ℕ) (x : X) → xs ≡ ys → true ≡ nat_lt k (length xs) → x ≡ get_or xs k x → IsIn x ys
 found_in xs ys k x same within is = subst (IsIn x) same (read_in xs k x (ltb-true k (length xs) (sym within)) is)
 
-pub groups_none : (s : Signature) (groups : List (List DLiteral)) (d : Five) → GrowsByGroups s groups d d
-groups_none s groups d = record { grows = λ start same g. g }
-
-pub groups_on : (s : Signature) (groups : List (List DLiteral)) (d a e : Five) → GrowsByGroups s groups d a → GrowsByGroups s groups a e → GrowsByGroups s groups d e
-groups_on s groups d a e one more = record { grows = λ start same g. more.grows start same (one.grows start same g) }
-
-group_added : (s : Signature) (a : Five) (g : List Literal) (l : Literal) → IsIn g a.kx → IsIn l (by_group s a g) → IsIn l (additions s a)
+pub group_added : (s : Signature) (a : Five) (g : List Literal) (l : Literal) → IsIn g a.kx → IsIn l (by_group s a g) → IsIn l (additions s a)
 unfolding additions
 group_added s a g l i j =
     in_right (flat_map (by_value a.kf) a.kf) _ l (in_left (flat_map (by_group s a) a.kx) _ l (in_flat (by_group s a) a.kx g l i j))
 
-pub groups_one : (s : Signature) → HasValues s → (groups : List (List DLiteral)) (d e : Five) (g : List DLiteral) (ls : List Literal) → IsIn g groups → ls ≡ by_group s d (literals_in g) → GrowsBy s ls d e → GrowsByGroups s groups d e
-groups_one s inhabited groups d e g ls got all by = record {
-  grows = λ start same before.
-      let here : IsIn (literals_in g) d.kx =
-      subst (IsIn (literals_in g)) (sym (ap (λ (x : Five). x.kx) before.follows.others ∙ same)) (in_map literals_in groups g got) in
-      by.grows start before (each_of (IsImplied s start) ls (λ l i.
-      addition_implied s inhabited start d before.follows l (group_added s d (literals_in g) l here (subst (IsIn l) all i))));
-}
+pub range_added : (s : Signature) (a : Five) (l k : Literal) (t : Term) → IsIn l a.kf → IsIn t (flat_map applications_in l.arguments) → IsIn k (by_range s a t) → IsIn k (additions s a)
+unfolding additions
+range_added s a l k t i j h =
+    in_right (flat_map (by_value a.kf) a.kf) _ k (in_right (flat_map (by_group s a) a.kx) _ k
+    (in_flat (λ m. flat_map (by_range s a) (flat_map applications_in m.arguments)) a.kf l k i (in_flat (by_range s a) (flat_map applications_in l.arguments) t k j h)))
 
 -- ---- a literal that is denied
 

@@ -4,5 +4,4 @@ pub mod Rounds
 pub mod Closing
 pub mod Working
 pub mod Carrying
-pub mod Touching
 pub mod Own

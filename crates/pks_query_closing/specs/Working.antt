@@ -8,8 +8,6 @@ use Rattle.pks_terms.specs.Closure.{round, Outcome, Closes, Next, Clash}
 use Rattle.pks_laws_progress.specs.Following.{IsImplied, Follows}
 use Rattle.pks_query_lookup.specs.declared.five.Five.{Five as DFive}
 use Rattle.pks_query_lookup.specs.Fives.{five_of}
-use Rattle.pks_kx.specs.Groups.{groups_of}
-use Rattle.pks_terms.specs.declared.literal.Literal.{Literal as DLiteral}
 
 -- closing ends with a clash
 abbrev pub Clashes : Signature → Five → Type 0
@@ -27,10 +25,6 @@ pub record GrowsTo (s : Signature) (d a : Five) : Type 0 where
 -- what grows to d, and implies these literals, grows to e as well
 pub record GrowsBy (s : Signature) (ls : List Literal) (d e : Five) : Type 0 where
   pub grows : (start : Five) → GrowsTo s start d → Each (IsImplied s start) ls → GrowsTo s start e
-
--- what has these groups and grows to d grows to e as well
-pub record GrowsByGroups (s : Signature) (groups : List (List DLiteral)) (d e : Five) : Type 0 where
-  pub grows : (start : Five) → start.kx ≡ groups_of groups → GrowsTo s start d → GrowsTo s start e
 
 -- what follows by the rules, to which they add nothing; or there is a clash
 abbrev pub IsWorked : Signature → Five → Option DFive → Type 0

@@ -1,15 +1,19 @@
-//! What follows by values, put in one after another by a work list: where a place comes to have a value, the literals in
-//! which it stands are looked at again. `docs/RULES.md` has the rule on values.
-ghost use Rattle.std.specs.Prelude.{◌≡◌, List, [], ◌∷◌, ◌++◌, map, IfOk, OnOk, IfSome};
+//! What follows by values, by groups and by ranges, put in one after another by a work list: where a place comes to have a
+//! value, the literals in which it stands are looked at again. `docs/RULES.md` has the rules.
+ghost use Rattle.std.specs.Prelude.{◌≡◌, ◌≤◌, List, [], ◌∷◌, ◌++◌, map, length, IfOk, OnOk, IfSome};
 ghost use Rattle.pks_terms.specs.Sets.{IsIn};
 ghost use Rattle.pks_terms.specs.Saturated.{Within};
-ghost use Rattle.pks_terms.specs.Views.{literal_of};
+ghost use Rattle.pks_terms.specs.Signatures.{Signature as SSignature, HasValues};
+ghost use Rattle.pks_terms.specs.Views.{literal_of, signature_of};
 ghost use Rattle.pks_kf.specs.Known.{literals_of};
+ghost use Rattle.pks_kx.specs.Groups.{groups_of};
 ghost use Rattle.pks_query_lookup.specs.Fives.{five_of};
-ghost use Rattle.pks_query_closing.specs.Carrying.{Lists, Puts, Carries, IsCarried, Grows};
+ghost use Rattle.pks_query_closing.specs.Working.{GrowsTo};
+ghost use Rattle.pks_query_closing.specs.Carrying.{Lists, Puts, Carries, GoesOn, IsReached, Starts};
 
-use crate::standing::{Standing, valued_place};
+use crate::standing::{Standing, denied_place, valued_place};
 use crate::steps::put_by_value;
+use crate::touched::Touched;
 use pks_kf::Kf;
 use pks_kv::Kv;
 use pks_kw::Kw;
@@ -19,16 +23,21 @@ use pks_query_lookup::derived::Derived;
 use pks_query_lookup::five::Five;
 use pks_query_lookup::literals::gives_value;
 use pks_query_lookup::normals::Normals;
+use pks_terms::group::Group;
 use pks_terms::literal::Literal;
+use pks_terms::problem::Signature;
 use std::alloc::{AllocError, Global};
 use std::mem::drop;
 
-/// Known literals, some of which are listed. The work list is those that are listed from some number on.
+/// Databases, some of whose known literals are listed. The work list is those that are listed from some number on, and the
+/// groups that wait.
 #[derive(Drop)]
-struct Carrying {
-    kf: Kf,
-    listed: Vec<Literal>,
-    standing: Standing,
+pub(crate) struct Carrying {
+    pub(crate) five: Five,
+    pub(crate) listed: Vec<Literal>,
+    pub(crate) standing: Standing,
+    pub(crate) groups: Vec<Group>,
+    pub(crate) touched: Touched,
 }
 
 /// What makes normal forms by these literals alone.
@@ -50,7 +59,8 @@ fn normals_of(alloc: Global, values: Vec<Literal>) -> Result<Normals, AllocError
 impl Carrying {
     /// Lists the literal.
     fn list(&mut self, alloc: Global, l: &Literal) -> Result<(), AllocError>
-        ensures known { OnOk result (self.new.kf ≡ self.old.kf) }
+        ensures known { OnOk result (self.new.five ≡ self.old.five) }
+        ensures groups { OnOk result (self.new.groups ≡ self.old.groups) }
         ensures listed { OnOk result (self.new.listed.items ≡ self.old.listed.items ++ l.now ∷ []) }
     {
         self.standing.put(alloc, l, self.listed.len())?;
@@ -58,7 +68,20 @@ impl Carrying {
         Ok(())
     }
 
-    /// Lists the literal, where it gives a value that the old databases don't have, or where it does not, as is asked for.
+    /// Makes the groups to be found by the listed literals.
+    fn find(&mut self, alloc: Global) -> Result<(), AllocError>
+        ensures { OnOk result (Lists [] self.old self.new) }
+    {
+        self.touched.find(
+            alloc,
+            &self.standing,
+            self.groups.as_slice(),
+            &self.five.lcw,
+        )?;
+        Ok(())
+    }
+
+    /// Lists the literal, where the old databases don't have it, or where they do, as is asked for.
     fn list_if(
         &mut self,
         alloc: Global,
@@ -68,7 +91,7 @@ impl Carrying {
     ) -> Result<(), AllocError>
         ensures { OnOk result (Lists (literal_of l.now ∷ []) self.old self.new) }
     {
-        if is_new_value(old, l) != new {
+        if is_old(old, l) == new {
             return Ok(());
         }
         self.list(alloc, l)?;
@@ -79,16 +102,16 @@ impl Carrying {
     fn put_in(&mut self, alloc: Global, l: &Literal) -> Result<(), AllocError>
         ensures { OnOk result (Puts (literal_of l.now ∷ []) self.old self.new) }
     {
-        if self.kf.has(l) {
+        if self.five.kf.has(l) {
             return Ok(());
         }
-        self.kf = self.kf.add(alloc, *l)?;
+        self.five.kf = self.five.kf.add(alloc, *l)?;
         self.list(alloc, l)?;
         Ok(())
     }
 
     /// Puts the literals in.
-    fn put_all_in(&mut self, alloc: Global, ls: &[Literal]) -> Result<(), AllocError>
+    pub(crate) fn put_all_in(&mut self, alloc: Global, ls: &[Literal]) -> Result<(), AllocError>
         ensures { OnOk result (Puts (map literal_of ls.now) self.old self.new) }
     {
         for l in ls {
@@ -129,7 +152,11 @@ impl Carrying {
     }
 
     /// The listed literals of these numbers.
-    fn literals(&self, alloc: Global, numbers: &[usize]) -> Result<Vec<Literal>, AllocError>
+    pub(crate) fn literals(
+        &self,
+        alloc: Global,
+        numbers: &[usize],
+    ) -> Result<Vec<Literal>, AllocError>
         ensures { IfOk result (λ v. Within (literals_of v.items) (literals_of self.now.listed.items)) }
     {
         let mut found = Vec::new(alloc);
@@ -204,37 +231,86 @@ impl Carrying {
         Ok(())
     }
 
+    /// Lets the groups wait that the literal touches.
+    fn touch(&mut self, alloc: Global, l: &Literal) -> Result<(), AllocError>
+        ensures { OnOk result (Lists [] self.old self.new) }
+    {
+        self.touched.touch(alloc, l)?;
+        if let Some(place) = valued_place(l) {
+            self.touched
+                .touch_place(alloc, &self.standing, self.groups.as_slice(), &place)?;
+        }
+        Ok(())
+    }
+
     /// Looks at the literal of this number.
-    fn look_at(&mut self, alloc: Global, k: usize) -> Result<(), AllocError>
-        ensures { OnOk result (Carries [] self.old self.new) }
+    fn look_at(&mut self, alloc: Global, s: &Signature, k: usize) -> Result<(), AllocError>
+        requires { length s.now.objects ≤ 65536 }
+        ensures { OnOk result (GoesOn (signature_of s.now) self.old self.new) }
     {
         let Some(l) = self.literal(k) else {
             return Ok(());
         };
         self.put_own_forms_in(alloc, &l)?;
         self.put_forms_by(alloc, &l)?;
+        self.put_range_in(alloc, s, &l)?;
+        self.touch(alloc, &l)?;
         Ok(())
     }
 
     /// Looks at the literals from this number on, and at those that are put in then, as long as no place has two values.
-    fn work(&mut self, alloc: Global, from: usize) -> Result<(), AllocError>
-        ensures { OnOk result (Carries [] self.old self.new) }
+    fn look_from(&mut self, alloc: Global, s: &Signature, from: usize) -> Result<(), AllocError>
+        requires { length s.now.objects ≤ 65536 }
+        ensures { OnOk result (GoesOn (signature_of s.now) self.old self.new) }
     {
         let mut k = from;
         while k < self.listed.len() && !self.standing.clashes() {
-            self.look_at(alloc, k)?;
+            self.look_at(alloc, s, k)?;
             k += 1;
+        }
+        Ok(())
+    }
+
+    /// The number of a group that waits no longer, as long as no place has two values.
+    fn next(&mut self) -> Option<usize>
+        ensures { Lists [] self.old self.new }
+    {
+        if self.standing.clashes() {
+            return None;
+        }
+        self.touched.next()
+    }
+
+    /// Looks at the literals from this number on, and at the groups that they touch, and so on. Each atom is settled once,
+    /// so the turns are enough; what they leave is left to the rounds.
+    fn work(&mut self, alloc: Global, s: &Signature, from: usize) -> Result<(), AllocError>
+        requires { length s.now.objects ≤ 65536 }
+        ensures { OnOk result (GoesOn (signature_of s.now) self.old self.new) }
+    {
+        let mut from = from;
+        for _ in 0..self.groups.len().saturating_mul(33).saturating_add(1) {
+            self.look_from(alloc, s, from)?;
+            from = self.listed.len();
+            let Some(k) = self.next() else {
+                return Ok(());
+            };
+            self.put_group_in(alloc, s, k)?;
         }
         Ok(())
     }
 }
 
-/// Whether the literal gives a value, and the old databases don't have it.
-fn is_new_value(old: &Derived, l: &Literal) -> bool {
-    gives_value(l) && !old.five().kf.has(l)
+/// Whether the old databases have the literal.
+fn is_old(old: &Derived, l: &Literal) -> bool {
+    old.five().kf.has(l)
 }
 
-/// Whether some of the literals gives a value that the old databases don't have.
+/// Whether the literal gives or denies a value, and the old databases don't have it.
+fn is_new_value(old: &Derived, l: &Literal) -> bool {
+    (gives_value(l) || denied_place(l).is_some()) && !is_old(old, l)
+}
+
+/// Whether some of the literals gives or denies a value that the old databases don't have.
 fn some_new_value(old: &Derived, kf: &Kf) -> bool {
     for l in kf.items() {
         if is_new_value(old, l) {
@@ -244,19 +320,33 @@ fn some_new_value(old: &Derived, kf: &Kf) -> bool {
     false
 }
 
-/// The known literals, of which none is listed.
-fn unlisted(alloc: Global, kf: &Kf) -> Result<Carrying, AllocError>
-    ensures { IfOk result (λ c. (c.kf ≡ kf.now) × (c.listed.items ≡ [])) }
+/// The groups one after another.
+fn copied(alloc: Global, kx: &Kx) -> Result<Vec<Group>, AllocError>
+    ensures { IfOk result (λ v. v.items ≡ kx.now) }
 {
-    let kf = kf.share()?;
+    let mut all = Vec::new(alloc);
+    for g in kx.items() {
+        let group = g.copied()?;
+        all.push(group)?;
+    }
+    Ok(all)
+}
+
+/// The databases, of whose literals none is listed.
+fn unlisted(alloc: Global, five: Five) -> Result<Carrying, AllocError>
+    ensures { IfOk result (λ c. Starts five c) }
+{
+    let groups = copied(alloc, &five.kx)?;
     Ok(Carrying {
-        kf,
+        five,
         listed: Vec::new(alloc),
         standing: Standing::new(alloc),
+        groups,
+        touched: Touched::new(alloc),
     })
 }
 
-/// Lists those of the known literals that give new values, or the others.
+/// Lists those of the known literals that the old databases have, or the others.
 fn list_all(
     alloc: Global,
     old: &Derived,
@@ -272,28 +362,37 @@ fn list_all(
     Ok(())
 }
 
-/// The known literals, with what follows from them by values that the old databases don't have.
-fn with_forms(alloc: Global, old: &Derived, kf: &Kf) -> Result<Kf, AllocError>
-    ensures { IfOk result (λ all. IsCarried (literals_of kf.now) (literals_of all)) }
+/// The databases, of whose literals all are listed, those that the old databases don't have last, and the number of the first
+/// of these.
+fn listed(alloc: Global, old: &Derived, five: Five) -> Result<(Carrying, usize), AllocError>
+    ensures { IfOk result (λ p. (s : SSignature) → IsReached s (five_of five) p.0) }
 {
-    let mut carrying = unlisted(alloc, kf)?;
-    list_all(alloc, old, kf, false, &mut carrying)?;
+    let kf = five.kf.share()?;
+    let mut carrying = unlisted(alloc, five)?;
+    list_all(alloc, old, &kf, false, &mut carrying)?;
+    carrying.find(alloc)?;
     let from = carrying.listed.len();
-    list_all(alloc, old, kf, true, &mut carrying)?;
-    carrying.work(alloc, from)?;
-    let all = carrying.kf.share()?;
-    Ok(all)
+    list_all(alloc, old, &kf, true, &mut carrying)?;
+    Ok((carrying, from))
 }
 
-/// The databases with what follows from them by values that the old ones don't have. It is not all where a second value of
-/// a place comes to be known. The error is want of memory.
-pub(crate) fn carried(alloc: Global, old: &Derived, five: Five) -> Result<Five, AllocError>
-    ensures { IfOk result (λ e. Grows (five_of five) (five_of e)) }
+/// The databases with what follows from them by what the old ones don't have. It is not all where a second value of a place
+/// comes to be known. It asks for at most 65,536 objects. The error is want of memory.
+pub(crate) fn carried(
+    alloc: Global,
+    s: &Signature,
+    old: &Derived,
+    five: Five,
+) -> Result<Five, AllocError>
+    requires few { length s.now.objects ≤ 65536 }
+    requires values { HasValues (signature_of s.now) }
+    ensures { IfOk result (λ e. GrowsTo (signature_of s.now) (five_of five) (five_of e)) }
 {
-    if !some_new_value(old, &five.kf) {
+    if five.kx.len() == 0 && !some_new_value(old, &five.kf) {
         return Ok(five);
     }
-    let kf = with_forms(alloc, old, &five.kf)?;
-    let next = five.with_known(kf)?;
-    Ok(next)
+    let (mut carrying, from) = listed(alloc, old, five)?;
+    carrying.work(alloc, s, from)?;
+    let five = carrying.five.share()?;
+    Ok(five)
 }

@@ -144,7 +144,7 @@ fn put_last(
 }
 
 /// Puts after the others that `t` has a value, for each object of its range that is the only one left.
-fn put_by_range(
+pub(crate) fn put_by_range(
     alloc: Global,
     to: &mut Vec<Literal>,
     s: &Signature,

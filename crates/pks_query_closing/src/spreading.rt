@@ -1,184 +1,198 @@
-//! What follows by groups, put in one after another by a work list: each group is looked at again when one of its atoms
-//! is settled. `docs/RULES.md` has the rule on groups.
-ghost use Rattle.std.specs.Prelude.{◌≡◌, List, [], ◌∷◌, ◌++◌, map, IfOk, OnOk};
-ghost use Rattle.pks_terms.specs.Sets.{insert_in};
+//! What follows by one group, and by the range of one application. `docs/RULES.md` has the rules.
+ghost use Rattle.std.specs.Prelude.{◌≡◌, ◌≤◌, List, [], ◌∷◌, ◌++◌, map, length, IfOk, OnOk, IfSome};
+ghost use Rattle.pks_terms.specs.Sets.{IsIn, added};
+ghost use Rattle.pks_terms.specs.Saturated.{Within};
 ghost use Rattle.pks_terms.specs.Orders.{literal_cmp};
-ghost use Rattle.pks_terms.specs.Closure.{by_group};
-ghost use Rattle.pks_terms.specs.Signatures.{HasValues};
-ghost use Rattle.pks_terms.specs.Views.{literal_of, signature_of};
+ghost use Rattle.pks_terms.specs.Views.{literal_of, term_of, signature_of};
 ghost use Rattle.pks_kf.specs.Known.{literals_of};
 ghost use Rattle.pks_query_lookup.specs.Fives.{five_of};
-ghost use Rattle.pks_query_closing.specs.Working.{GrowsTo, GrowsBy, GrowsByGroups};
-ghost use Rattle.pks_query_closing.specs.Touching.{atom_form, numbers_at};
+ghost use Rattle.pks_query_closing.specs.Carrying.{GoesOn, GivesBy, IsAmong};
 
+use crate::carrying::Carrying;
 use crate::groups::put_by_group;
-use crate::touched::Touched;
+use crate::ranges::put_by_range;
+use crate::standing::denied_place;
+use pks_kf::Kf;
 use pks_query_lookup::derived::Derived;
-use pks_query_lookup::five::Five;
-use pks_query_lookup::literals::gives_value;
-use pks_terms::literal::Literal;
+use pks_query_lookup::ranges::range_of;
+use pks_terms::literal::{Atom, Literal};
 use pks_terms::problem::Signature;
+use pks_terms::term::{Inner, Term};
 use std::alloc::{AllocError, Global};
 use std::mem::drop;
 
-/// The databases with the literal, its groups put on the work list.
-fn grown(
-    alloc: Global,
-    d: &Derived,
-    touched: &Touched,
-    l: &Literal,
-    to: &mut Vec<usize>,
-) -> Result<Derived, AllocError>
-    ensures five { IfOk result (λ e. five_of e ≡ record (five_of d.now) { kf = insert_in literal_cmp (literal_of l.now) (literals_of d.now.kf) }) }
-    ensures work { OnOk result (to.new.items ≡ to.old.items ++ numbers_at touched.now.places (atom_form (literals_of d.now.kf) (literal_of l.now))) }
+/// The place of which the literal denies a value, and the application that it is.
+fn denied(l: &Literal) -> Option<(Inner, Term)>
+    ensures { IfSome result (λ p. IsAmong (term_of p.1) (literal_of l.now)) }
 {
-    touched.put_touched(d, l, to)?;
-    let next = d.with(alloc, l)?;
-    Ok(next)
-}
-
-/// Puts the literal in, and the groups that have its atom on the work list, unless it is known or gives a value: values
-/// are left to the rounds.
-fn put_in(
-    alloc: Global,
-    s: &Signature,
-    d: Derived,
-    touched: &Touched,
-    l: &Literal,
-    to: &mut Vec<usize>,
-) -> Result<Derived, AllocError>
-    ensures { IfOk result (λ e. GrowsBy (signature_of s.now) (literal_of l.now ∷ []) (five_of d) (five_of e)) }
-{
-    let _s = s;
-    if gives_value(l) || d.five().kf.has(l) {
-        return Ok(d);
-    }
-    let next = grown(alloc, &d, touched, l, to);
-    drop(d);
-    let next = next?;
-    Ok(next)
-}
-
-/// Puts the literals of a group's rules in.
-fn put_all_in(
-    alloc: Global,
-    s: &Signature,
-    d: Derived,
-    touched: &Touched,
-    ls: &[Literal],
-    to: &mut Vec<usize>,
-) -> Result<Derived, AllocError>
-    ensures { IfOk result (λ e. GrowsBy (signature_of s.now) (map literal_of ls.now) (five_of d) (five_of e)) }
-{
-    match ls {
-        [] => Ok(d),
-        [l, ls @ ..] => {
-            let next = put_in(alloc, s, d, touched, l, to)?;
-            let all = put_all_in(alloc, s, next, touched, ls, to)?;
-            Ok(all)
-        }
+    let place = denied_place(l)?;
+    match &l.atom {
+        Atom::Eq {
+            left: Term::App { fun, n, args },
+            ..
+        } => Some((
+            place,
+            Term::App {
+                fun: *fun,
+                n: *n,
+                args: *args,
+            },
+        )),
+        _ => None,
     }
 }
 
-/// What the rules give of a group.
-fn given_by(
-    alloc: Global,
-    s: &Signature,
-    d: &Derived,
-    group: &[Literal],
-) -> Result<Vec<Literal>, AllocError>
-    ensures { IfOk result (λ v. map literal_of v.items ≡ by_group (signature_of s.now) (five_of d.now) (map literal_of group.now)) }
-{
-    let mut more = Vec::new(alloc);
-    put_by_group(&mut more, s, d, group)?;
-    Ok(more)
-}
-
-/// Puts in what the rules give of the group of this number.
-fn put_group_in(
-    alloc: Global,
-    s: &Signature,
-    d: Derived,
-    touched: &Touched,
-    k: usize,
-    to: &mut Vec<usize>,
-) -> Result<Derived, AllocError>
-    requires { HasValues (signature_of s.now) }
-    ensures { IfOk result (λ e. GrowsByGroups (signature_of s.now) touched.now.groups.items (five_of d) (five_of e)) }
-{
-    let Some(group) = touched.groups.as_slice().get(k) else {
-        return Ok(d);
-    };
-    match given_by(alloc, s, &d, group.as_slice()) {
-        Err(error) => {
-            drop(d);
-            Err(error)
-        }
-        Ok(more) => {
-            let next = put_all_in(alloc, s, d, touched, more.as_slice(), to)?;
-            Ok(next)
-        }
+impl Carrying {
+    /// The databases with these literals alone as the known ones.
+    fn with_alone(&self, alloc: Global, values: Vec<Literal>) -> Result<Derived, AllocError>
+        ensures { IfOk result (λ d. five_of d ≡ record (five_of self.now.five) { kf = added literal_cmp [] (literals_of values.items) }) }
+    {
+        let kf = Kf::empty().added(alloc, values)?;
+        let five = self.five.with_known(kf)?;
+        let d = Derived::of(alloc, five)?;
+        Ok(d)
     }
-}
 
-/// Puts in what the rules give of the groups on the work list, and of those that are put on it then. Each atom is
-/// settled once, so the turns are enough; what they leave is left to the rounds.
-fn put_groups_in(
-    alloc: Global,
-    s: &Signature,
-    d: Derived,
-    touched: &Touched,
-    work: Vec<usize>,
-) -> Result<Derived, AllocError>
-    requires { HasValues (signature_of s.now) }
-    ensures { IfOk result (λ e. GrowsByGroups (signature_of s.now) touched.now.groups.items (five_of d) (five_of e)) }
-{
-    let mut d = d;
-    let mut work = work;
-    for _ in 0..touched.groups.len().saturating_mul(33) {
-        let Some(k) = work.pop() else {
-            return Ok(d);
+    /// Puts the literal after the others, if it is known.
+    fn put_known(&self, to: &mut Vec<Literal>, l: &Literal) -> Result<(), AllocError>
+        ensures { OnOk result (Within (literals_of to.old.items) (literals_of self.now.five.kf) → Within (literals_of to.new.items) (literals_of self.now.five.kf)) }
+    {
+        if !self.five.kf.has(l) {
+            return Ok(());
+        }
+        to.push(*l)?;
+        Ok(())
+    }
+
+    /// Puts after the others the literal's form and the negation of that, if they are known.
+    fn put_settling(
+        &self,
+        to: &mut Vec<Literal>,
+        l: &Literal,
+        numbers: &mut Vec<usize>,
+    ) -> Result<(), AllocError>
+        ensures { OnOk result (Within (literals_of to.old.items) (literals_of self.now.five.kf) → Within (literals_of to.new.items) (literals_of self.now.five.kf)) }
+    {
+        let form = self.standing.form(l, numbers)?;
+        self.put_known(to, &form)?;
+        self.put_known(to, &form.negated())?;
+        Ok(())
+    }
+
+    /// The known literals that settle these, and the listed ones of these numbers.
+    fn settling(
+        &self,
+        alloc: Global,
+        members: &[Literal],
+        numbers: Vec<usize>,
+    ) -> Result<Vec<Literal>, AllocError>
+        ensures { IfOk result (λ v. Within (literals_of self.now.listed.items) (literals_of self.now.five.kf) → Within (literals_of v.items) (literals_of self.now.five.kf)) }
+    {
+        let mut numbers = numbers;
+        let mut forms = Vec::new(alloc);
+        for l in members {
+            self.put_settling(&mut forms, l, &mut numbers)?;
+        }
+        let mut all = self.literals(alloc, numbers.as_slice())?;
+        all.extend_from_slice(forms.as_slice())?;
+        Ok(all)
+    }
+
+    /// What the rules give of the group of this number, by the known literals that settle its own.
+    fn given_by_group(
+        &self,
+        alloc: Global,
+        s: &Signature,
+        k: usize,
+    ) -> Result<Vec<Literal>, AllocError>
+        ensures { IfOk result (λ v. GivesBy (signature_of s.now) self.now (map literal_of v.items)) }
+    {
+        let mut more = Vec::new(alloc);
+        let Some(group) = self.groups.as_slice().get(k) else {
+            return Ok(more);
         };
-        d = put_group_in(alloc, s, d, touched, k, &mut work)?;
+        let numbers = self.touched.beside(alloc, k)?;
+        let known = self.settling(alloc, group.as_slice(), numbers)?;
+        let d = self.with_alone(alloc, known)?;
+        let put = put_by_group(&mut more, s, &d, group.as_slice());
+        drop(d);
+        put?;
+        Ok(more)
     }
-    Ok(d)
-}
 
-/// Puts in what the rules give of all groups, and of those that this touches.
-fn put_all_groups_in(
-    alloc: Global,
-    s: &Signature,
-    d: Derived,
-    touched: &Touched,
-) -> Result<Derived, AllocError>
-    requires { HasValues (signature_of s.now) }
-    ensures { IfOk result (λ e. GrowsByGroups (signature_of s.now) touched.now.groups.items (five_of d) (five_of e)) }
-{
-    match touched.all(alloc) {
-        Err(error) => {
-            drop(d);
-            Err(error)
-        }
-        Ok(work) => put_groups_in(alloc, s, d, touched, work),
+    /// Puts in what the rules give of the group of this number.
+    pub(crate) fn put_group_in(
+        &mut self,
+        alloc: Global,
+        s: &Signature,
+        k: usize,
+    ) -> Result<(), AllocError>
+        ensures { OnOk result (GoesOn (signature_of s.now) self.old self.new) }
+    {
+        let more = self.given_by_group(alloc, s, k)?;
+        self.put_all_in(alloc, more.as_slice())?;
+        Ok(())
     }
-}
 
-/// The databases with what follows from them by their groups. The error is want of memory.
-pub(crate) fn spread(alloc: Global, s: &Signature, five: Five) -> Result<Derived, AllocError>
-    requires { HasValues (signature_of s.now) }
-    ensures { IfOk result (λ e. GrowsTo (signature_of s.now) (five_of five) (five_of e)) }
-{
-    let d = Derived::of(alloc, five)?;
-    match Touched::of(alloc, &d) {
-        Err(error) => {
-            drop(d);
-            Err(error)
+    /// Whether the place, which is this term, has no value and all that it may have, but one at most, are denied.
+    fn may_be_last(
+        &self,
+        alloc: Global,
+        s: &Signature,
+        place: &Inner,
+        t: &Term,
+    ) -> Result<bool, AllocError>
+        requires { length s.now.objects ≤ 65536 }
+    {
+        if self.standing.has_value(place) {
+            return Ok(false);
         }
-        Ok(touched) => {
-            let spread = put_all_groups_in(alloc, s, d, &touched);
-            drop(touched);
-            let next = spread?;
-            Ok(next)
+        let range = range_of(alloc, s, t)?;
+        Ok(self.standing.count_denials(place).saturating_add(1) >= range.len())
+    }
+
+    /// What the range of the term gives, by the known literals of these numbers, and this one.
+    fn given_by_range(
+        &self,
+        alloc: Global,
+        s: &Signature,
+        numbers: &[usize],
+        l: &Literal,
+        t: &Term,
+    ) -> Result<Vec<Literal>, AllocError>
+        requires few { length s.now.objects ≤ 65536 }
+        requires among { IsAmong (term_of t.now) (literal_of l.now) }
+        ensures { IfOk result (λ v. IsIn (literal_of l.now) (literals_of self.now.listed.items) → GivesBy (signature_of s.now) self.now (map literal_of v.items)) }
+    {
+        let mut more = Vec::new(alloc);
+        let mut known = self.literals(alloc, numbers)?;
+        known.push(*l)?;
+        let d = self.with_alone(alloc, known)?;
+        let put = put_by_range(alloc, &mut more, s, &d, t);
+        drop(d);
+        put?;
+        Ok(more)
+    }
+
+    /// Where the literal denies a place a value, puts in what the place's range gives.
+    pub(crate) fn put_range_in(
+        &mut self,
+        alloc: Global,
+        s: &Signature,
+        l: &Literal,
+    ) -> Result<(), AllocError>
+        requires { length s.now.objects ≤ 65536 }
+        ensures { OnOk result (IsIn (literal_of l.now) (literals_of self.old.listed.items) → GoesOn (signature_of s.now) self.old self.new) }
+    {
+        let Some((place, t)) = denied(l) else {
+            return Ok(());
+        };
+        if !self.may_be_last(alloc, s, &place, &t)? {
+            return Ok(());
         }
+        let numbers = self.standing.denials(alloc, &place)?;
+        let more = self.given_by_range(alloc, s, numbers.as_slice(), l, &t)?;
+        self.put_all_in(alloc, more.as_slice())?;
+        Ok(())
     }
 }

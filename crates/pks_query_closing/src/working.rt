@@ -8,7 +8,6 @@ ghost use Rattle.pks_query_closing.specs.Working.{GrowsTo, IsWorked};
 use crate::carrying::carried;
 use crate::clashing::values_clash;
 use crate::rounds::next_round;
-use crate::spreading::spread;
 use pks_query_lookup::derived::Derived;
 use pks_query_lookup::five::Five;
 use pks_terms::problem::Signature;
@@ -17,11 +16,12 @@ use std::mem::drop;
 
 /// The databases with what follows from them by values that the old ones don't have, and then by their groups.
 fn grown(alloc: Global, s: &Signature, old: &Derived, five: Five) -> Result<Derived, AllocError>
-    requires { HasValues (signature_of s.now) }
+    requires few { length s.now.objects ≤ 65536 }
+    requires values { HasValues (signature_of s.now) }
     ensures { IfOk result (λ e. GrowsTo (signature_of s.now) (five_of five) (five_of e)) }
 {
-    let more = carried(alloc, old, five)?;
-    let next = spread(alloc, s, more)?;
+    let more = carried(alloc, s, old, five)?;
+    let next = Derived::of(alloc, more)?;
     Ok(next)
 }
 

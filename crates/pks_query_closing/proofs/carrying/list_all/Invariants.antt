@@ -1,4 +1,3 @@
-use Rattle.std.proofs.Common.{◌≡◌}
 use Rattle.pks_terms.specs.Saturated.{Within}
 use Rattle.pks_kf.specs.Known.{literals_of}
 use Rattle.pks_query_closing.specs.Carrying.{Lists}

@@ -1,6 +1,16 @@
-use Rattle.std.proofs.Common.{[]}
-use Rattle.pks_query_closing.proofs.ByValue.{carries_on}
+use Rattle.pks_terms.specs.Views.{signature_of}
+use Rattle.pks_query_closing.proofs.ByValue.{goes_on, lists_goes}
 use Rattle.pks_query_closing.proofs.carrying.Carrying.work.Goals as goal
 
-pub loop-k-preserved : goal.loop-k-preserved
-loop-k-preserved c = carries_on [] c.args.self.now c.loop-k.self c.look_at.new.self c.loop-k.invariant c.in_ok-look_at.ensures
+pub loop-preserved : goal.loop-preserved
+loop-preserved c =
+    let s = signature_of c.args.s.now in
+    goes_on s c.args.self.now c.loop.self c.put_group_in.new.self c.loop.invariant
+    (goes_on s c.loop.self c.look_from.new.self c.put_group_in.new.self c.in_ok-look_from.ensures
+    (goes_on s c.look_from.new.self c.next.new.self c.put_group_in.new.self (lists_goes s c.look_from.new.self c.next.new.self c.next.ensures) c.in_ok-put_group_in.ensures))
+
+pub returns-in_default : goal.returns-in_default
+returns-in_default c =
+    let s = signature_of c.args.s.now in
+    goes_on s c.args.self.now c.loop.self c.next.new.self c.loop.invariant
+    (goes_on s c.loop.self c.look_from.new.self c.next.new.self c.in_ok-look_from.ensures (lists_goes s c.look_from.new.self c.next.new.self c.next.ensures))

@@ -1,5 +1,5 @@
 use Rattle.std.proofs.Common.{◌++◌, [], ◌∷◌, ◌∙◌, sym, ap, append-nil, append_assoc}
-use Rattle.pks_query_closing.proofs.touched.copied.Goals as goal
+use Rattle.pks_query_closing.proofs.carrying.copied.Goals as goal
 
 pub loop-g-init : goal.loop-g-init
 loop-g-init c =
