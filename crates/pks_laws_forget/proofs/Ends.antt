@@ -25,7 +25,8 @@ use Rattle.pks_laws_forget.specs.Transparent.{AreObjects, IsOfObjects, Makes, Is
 use Rattle.pks_laws_forget.proofs.Lists.{nothing_found, any_more}
 use Rattle.pks_laws_forget.proofs.Alike.{not_denied}
 use Rattle.pks_laws_forget.proofs.Objects.{objects_normal, literal_normal, denied_by}
-use Rattle.pks_laws_forget.proofs.Given.{IsGiven, changed_in, stays_in, returns_in, is_own, known_then, first_known, no_clash}
+use Rattle.pks_laws_forget.proofs.Given.{IsGiven, changed_in, stays_in, returns_in, is_own, known_then, first_known}
+use Rattle.pks_laws_forget.proofs.Returning.{no_clash}
 use Rattle.pks_laws_forget.proofs.Rules.{saturated_before, onward_in, backward_in}
 
 -- ---- a step, and what is known at its two moments later

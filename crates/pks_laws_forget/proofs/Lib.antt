@@ -3,6 +3,7 @@ pub mod Alike
 pub mod Agreeing
 pub mod Objects
 pub mod Given
+pub mod Returning
 pub mod Rules
 pub mod Small
 pub mod Ends

@@ -22,7 +22,8 @@ use Rattle.pks_laws_forget.proofs.Lists.{negated_twice, in_cond, any_each, any_m
 use Rattle.pks_laws_forget.proofs.Alike.{normal_relation, known_holds, group_closed, no_both, some_differ_alike, inner_step_normal, step_normal, member_grows, member_is}
 use Rattle.pks_laws_forget.proofs.Agreeing.{objects_are, normal-term_of}
 use Rattle.pks_laws_forget.proofs.Objects.{literal_normal, no_steps, no_applications, denied_by, makes_about, none_apart, named_gives_none, OfPlace, of_place, objects_of_place, none_inside, inequation_place, inequation_left, equation_is}
-use Rattle.pks_laws_forget.proofs.Given.{IsGiven, apart, IsBare, assigned_changed, back_holds, bare_holds, back_of, changed_alike, changed_in, clash_free, each_stays, equation_later, equations_untouched, fires_or_never, first_in, into_back, is_own, kept_place, known_then, later_denied, literal_arguments, literal_kind, literal_named, literal_negated, made_later, made_of, none_differ, objects_do, objects_each, opposed, order_stays, place_left, place_literal_stays, place_or_objects, place_stays, region_holds, returns_in, same_predicate, some_differ_later, stays_each, stays_in, stays_or_opposed, surely_may, touched_in, touched_named, untouched_returns, value_first, value_from, value_known, value_later, valued_or_bare, why}
+use Rattle.pks_laws_forget.proofs.Given.{IsGiven, changed_in, is_own, known_then, literal_arguments, literal_kind, literal_named, literal_negated, returns_in, same_predicate, stays_in, touched_in, untouched_returns, value_from}
+use Rattle.pks_laws_forget.proofs.Returning.{apart, IsBare, assigned_changed, back_holds, bare_holds, back_of, changed_alike, clash_free, each_stays, equation_later, equations_untouched, fires_or_never, first_in, into_back, kept_place, later_denied, made_later, made_of, none_differ, objects_do, objects_each, opposed, order_stays, place_left, place_literal_stays, place_or_objects, place_stays, region_holds, some_differ_later, stays_each, stays_or_opposed, surely_may, touched_named, value_first, value_known, value_later, valued_or_bare, why}
 
 module _ (s : Signature) (before after later moment : Five) (es : List Effect) (given : IsGiven s before after later moment es) where
   abbrev is_changed : Term → Bool
