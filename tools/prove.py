@@ -55,11 +55,10 @@ SECONDS = {
     "pks_explain": 170, "pks_explain_effects": 120, "pks_explain_lines": 220, "pks_explain_moment": 150,
     "pks_explain_replay": 200, "pks_history": 70, "pks_history_forget": 100, "pks_justify": 70, "pks_plan": 110,
     "pks_pmap": 220, "pks_postdict": 110, "pks_postdict_rules": 130, "pks_progress": 170, "pks_progress_adds": 80,
-    "pks_proof": 130, "pks_proof_cited": 140, "pks_query": 90, "pks_query_closing": 240, "pks_query_initial": 70,
-    "pks_query_lookup": 170, "pks_query_uses": 70, "pks_reader_declared": 150, "pks_reader_names": 110,
-    "pks_reader_problem": 200, "pks_reader_world": 100, "pks_recall": 80, "pks_run": 110, "pks_run_answer": 130,
-    "pks_run_words": 70, "pks_search": 160, "pks_search_distance": 100, "pks_search_witness": 80, "pks_terms": 70,
-    "pks_world": 90,
+    "pks_proof": 130, "pks_proof_cited": 140, "pks_query": 160, "pks_query_closing": 240, "pks_query_lookup": 170,
+    "pks_query_uses": 70, "pks_reader_declared": 150, "pks_reader_names": 110, "pks_reader_problem": 200,
+    "pks_reader_world": 100, "pks_recall": 80, "pks_run": 110, "pks_run_answer": 130, "pks_run_words": 70,
+    "pks_search": 160, "pks_search_distance": 130, "pks_search_witness": 80, "pks_terms": 70, "pks_world": 90,
 }
 SECONDS_OF_OTHERS = 30
 

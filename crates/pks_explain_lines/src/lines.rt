@@ -3,11 +3,11 @@
 use crate::joining::Joining;
 use crate::table::LineTable;
 use pks_explain_moment::{MomentLines, missing_as_memory, push};
-use pks_lcw::Entry;
+use pks_lcw::{Entry, Lcw};
 use pks_proof_lines::{Fact, Line, Reason};
 use pks_terms::group::Group;
 use pks_terms::literal::Literal;
-use pks_terms::problem::Problem;
+use pks_terms::problem::{InitItem, Problem};
 use std::alloc::{AllocError, Global};
 
 /// The lines found so far along a path, and what stands at each of its moments. A line is known by its number, from 1, and
@@ -41,22 +41,31 @@ impl<'p> Lines<'p> {
         push(&mut self.moments, MomentLines::empty(number))
     }
 
-    /// The lines of the initial items, and what follows from them at the start, closed and in normal form. The error is
-    /// want of memory, or `missing_as_memory` where the problem has too many objects or items. `docs/REASONS.md` has
-    /// the reasons.
-    pub fn start(alloc: Global, p: &'p Problem<'_>) -> Result<Lines<'p>, AllocError> {
+    /// The lines of the initial items, whose regions are given, and what follows from them at the start, closed and in
+    /// normal form. The error is want of memory, or `missing_as_memory` where the problem has too many objects or items,
+    /// or a region isn't among those given. `docs/REASONS.md` has the reasons.
+    pub fn start(
+        alloc: Global,
+        p: &'p Problem<'_>,
+        regions: &Lcw,
+    ) -> Result<Lines<'p>, AllocError> {
         let table = LineTable::empty(alloc, &p.signature)?;
         let moments = Vec::new(alloc);
         let mut lines = Lines { table, moments };
-        lines.begin(alloc, p)?;
+        lines.begin(alloc, p.init.as_slice(), regions)?;
         Ok(lines)
     }
 
     /// What is known at the start, at a first moment.
-    fn begin(&mut self, alloc: Global, p: &Problem<'_>) -> Result<(), AllocError> {
+    fn begin(
+        &mut self,
+        alloc: Global,
+        items: &[InitItem],
+        regions: &Lcw,
+    ) -> Result<(), AllocError> {
         self.begin_moment(alloc)?;
         match self.moments.get_mut(0) {
-            Some(at) => self.table.begin(alloc, at, p),
+            Some(at) => self.table.begin(alloc, at, items, regions),
             None => Err(missing_as_memory()),
         }
     }

@@ -5,11 +5,10 @@ use crate::table::LineTable;
 use pks_explain_moment::{MomentLines, missing_as_memory, push};
 use pks_lcw::{AtomSet, Entry, Lcw};
 use pks_proof_lines::{Fact, Reason};
-use pks_query_initial::initial::initial;
 use pks_terms::group::Group;
 use pks_terms::ids::{ItemNo, ObjId};
 use pks_terms::literal::{Literal, Pattern};
-use pks_terms::problem::{Init, InitItem, Problem, Signature};
+use pks_terms::problem::{Init, InitItem, Signature};
 use std::alloc::{AllocError, Global};
 
 /// The most objects that a problem has.
@@ -170,24 +169,15 @@ impl LineTable<'_> {
         self.join_all(alloc, at, literals.as_slice())
     }
 
-    fn join_initial(
-        &mut self,
-        alloc: Global,
-        at: &mut MomentLines,
-        p: &Problem<'_>,
-    ) -> Result<(), AllocError> {
-        let first = initial(alloc, p)?;
-        self.join_given(alloc, at, p.init.as_slice(), &first.lcw)
-    }
-
-    /// The lines of the initial items, and what follows from them, closed and in normal form.
+    /// The lines of the initial items, whose regions these are, and what follows from them, closed and in normal form.
     pub(crate) fn begin(
         &mut self,
         alloc: Global,
         at: &mut MomentLines,
-        p: &Problem<'_>,
+        items: &[InitItem],
+        regions: &Lcw,
     ) -> Result<(), AllocError> {
-        self.join_initial(alloc, at, p)?;
+        self.join_given(alloc, at, items, regions)?;
         self.close(alloc, at)?;
         self.tidy(alloc, at)
     }

@@ -2,6 +2,7 @@
 
 use pks_explain_lines::{Lines, SavedLines, missing_as_memory};
 use pks_proof_lines::Turn;
+use pks_query::initial::initial;
 use pks_terms::problem::Problem;
 use pks_terms::schema::Instance;
 use std::alloc::{AllocError, Global};
@@ -25,7 +26,8 @@ pub struct SavedReplay {
 impl<'p, 's> Replay<'p, 's> {
     /// The empty path, with the lines of what is known at the start. The error is want of memory, or a line that isn't found.
     pub fn start(alloc: Global, p: &'p Problem<'s>) -> Result<Replay<'p, 's>, AllocError> {
-        let lines = Lines::start(alloc, p)?;
+        let first = initial(alloc, p)?;
+        let lines = Lines::start(alloc, p, &first.lcw)?;
         let path = Vec::new(alloc);
         Ok(Replay {
             problem: p,

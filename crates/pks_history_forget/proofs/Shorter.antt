@@ -15,11 +15,11 @@ use Rattle.pks_laws_forget.specs.Transparent.{AreSetsAlong, with_first}
 use Rattle.pks_laws_forget.specs.Testing.{hides_nothing}
 use Rattle.pks_laws_forget.proofs.Cut.{cut}
 use Rattle.pks_laws_forget.proofs.Tested.{tested}
-use Rattle.pks_laws_looks.specs.Looks.{IsLook, AreWithout, without_looks}
-use Rattle.pks_laws_looks.proofs.Thinned.{without_none, without_short}
-use Rattle.pks_laws_looks.proofs.Tested.{unlooked_without}
-use Rattle.pks_laws_looks.proofs.Trees.{moments_without}
-use Rattle.pks_laws_looks.proofs.Trees as trees
+use Rattle.pks_laws_forget.specs.Looks.{IsLook, AreWithout, without_looks}
+use Rattle.pks_laws_forget.proofs.Thinned.{without_none, without_short}
+use Rattle.pks_laws_forget.proofs.TestedLooks.{unlooked_without}
+use Rattle.pks_laws_forget.proofs.TreesWithoutLooks.{moments_without}
+use Rattle.pks_laws_forget.proofs.TreesWithoutLooks as trees
 use Rattle.pks_history_forget.specs.Same.{IsEndOf, EndHasSameTrees, HasSameTrees, first_hides_nothing, unsettled_from, without_settled}
 
 -- all of it is an end

@@ -7,7 +7,7 @@ use Rattle.pks_terms.specs.Actions.{Instance}
 use Rattle.pks_terms.specs.Problems.{Problem}
 use Rattle.pks_terms.specs.Settling.{History}
 use Rattle.pks_history.specs.Moments.{databases_at, instance_after}
-use Rattle.pks_laws_looks.specs.Looks.{is_look, behind, unlooked_from}
+use Rattle.pks_laws_forget.specs.Looks.{is_look, behind, unlooked_from}
 use Rattle.pks_history_forget.specs.Looking.{some_look, later_look}
 
 abbrev Steps : Type 0

@@ -4,7 +4,7 @@ use Rattle.pks_terms.specs.Databases.{Five}
 use Rattle.pks_terms.specs.Actions.{Instance}
 use Rattle.pks_terms.specs.Problems.{Problem}
 use Rattle.pks_terms.specs.Settling.{History}
-use Rattle.pks_laws_looks.specs.Looks.{is_look}
+use Rattle.pks_laws_forget.specs.Looks.{is_look}
 
 -- there is a first step, and it is a look
 abbrev pub first_is_look : Problem → History → Bool

@@ -7,7 +7,7 @@ use Rattle.pks_terms.specs.Settling.{History, At}
 use Rattle.pks_terms.specs.Moments.{AreMomentsOf}
 use Rattle.pks_terms.specs.Trees.{Tree, Derives}
 use Rattle.pks_laws_forget.specs.Testing.{hides_nothing}
-use Rattle.pks_laws_looks.specs.Looks.{IsLook, AreWithout}
+use Rattle.pks_laws_forget.specs.Looks.{IsLook, AreWithout}
 
 -- there is a first step, and it hides nothing
 abbrev pub first_hides_nothing : Problem → History → Bool

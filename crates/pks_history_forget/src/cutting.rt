@@ -6,7 +6,7 @@ ghost use Rattle.pks_terms.specs.ValidProblems.{IsValidProblem};
 ghost use Rattle.pks_terms.specs.Versions.{IsNow};
 ghost use Rattle.pks_terms.specs.Views.{aim_of, problem_of};
 ghost use Rattle.pks_laws_forget.specs.Transparent.{AreSetsAlong};
-ghost use Rattle.pks_laws_looks.specs.Looks.{without_looks};
+ghost use Rattle.pks_laws_forget.specs.Looks.{without_looks};
 ghost use Rattle.pks_history_forget.specs.Same.{EndHasSameTrees, HasSameTrees, first_hides_nothing, without_settled};
 
 use crate::hiding::hides_nothing;

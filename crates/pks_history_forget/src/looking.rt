@@ -7,7 +7,7 @@ ghost use Rattle.pks_kf.specs.Known.{literals_of};
 ghost use Rattle.pks_kx.specs.Groups.{groups_of};
 ghost use Rattle.pks_query_lookup.specs.Fives.{five_of};
 ghost use Rattle.pks_laws_forget.specs.Testing.{has};
-ghost use Rattle.pks_laws_looks.specs.Looks.{is_empty, has_group, lasts_in, is_look, unlooked_from, without_looks};
+ghost use Rattle.pks_laws_forget.specs.Looks.{is_empty, has_group, lasts_in, is_look, unlooked_from, without_looks};
 ghost use Rattle.pks_history_forget.specs.Looking.{first_is_look, later_look, joined};
 
 use crate::effects::has;

@@ -13,3 +13,10 @@ pub mod Sequence
 pub mod Trees
 pub mod Cut
 pub mod Tested
+pub mod Thinned
+pub mod Still
+pub mod TreesWithoutLooks
+pub mod TestedLooks
+pub mod Worlds
+pub mod OtherAims
+pub mod Fewer

@@ -1,3 +1,5 @@
 pub mod Transparent
 pub mod Testing
 pub mod Examples
+pub mod Fewer
+pub mod Looks

@@ -2,3 +2,4 @@ pub mod Alike
 pub mod Found
 pub mod Sound
 pub mod Still
+pub mod Carried

@@ -17,7 +17,7 @@ ghost use Rattle.pks_query.specs.Closed.{AreClosed};
 
 use pks_query_closing::closing::{CloseEnd, close, close_unless_clash};
 use pks_query_closing::tidied::tidied;
-use pks_query_initial::initial::initial;
+use crate::initial::initial;
 use pks_query_lookup::derived::Derived;
 use pks_query_lookup::five::Five;
 use pks_terms::literal::Literal;

@@ -1,8 +1,9 @@
-//! Closed databases, and asking them.
+//! Closed databases, those in which a problem begins, and asking them.
 #![tactic(auto)]
 
 pub mod asking;
 pub mod databases;
+pub mod initial;
 pub mod marks;
 pub mod same;
 

@@ -10,12 +10,12 @@ use Rattle.pks_terms.specs.Settling.{History}
 use Rattle.pks_terms.specs.Moments.{IsMomentOf, AreMomentsOf}
 use Rattle.pks_terms.specs.Handed.{IsStepOf}
 use Rattle.pks_laws.proofs.ClosedAgain.{closed_fine, closed_saturated}
-use Rattle.pks_laws_distance.specs.Runs.{MayBeAt}
-use Rattle.pks_laws_distance.proofs.Running.{later_may}
-use Rattle.pks_laws_looks.specs.Looks.{IsLook, AreWithout}
-use Rattle.pks_laws_looks.proofs.Still.{AreLike, like_itself, like_through, given_back, back_alike}
-use Rattle.pks_laws_looks.proofs.Thinned.{without_short}
-use Rattle.pks_laws_looks.proofs.Worlds.{both_without, same_present}
+use Rattle.pks_search_distance.specs.Runs.{MayBeAt}
+use Rattle.pks_search_distance.proofs.Running.{later_may}
+use Rattle.pks_laws_forget.specs.Looks.{IsLook, AreWithout}
+use Rattle.pks_laws_forget.proofs.Still.{AreLike, like_itself, like_through, given_back, back_alike}
+use Rattle.pks_laws_forget.proofs.Thinned.{without_short}
+use Rattle.pks_laws_forget.proofs.Worlds.{both_without, same_present}
 use Rattle.pks_postdict.specs.Read.{IsReadStep, AreRead, IsReadBut}
 use Rattle.pks_history_forget.specs.Same.{IsEndOf, IsLeftOf}
 

@@ -22,11 +22,11 @@ use Rattle.pks_terms.specs.Versions.{IsNow}
 use Rattle.pks_terms.specs.Moments.{AreMomentsOf}
 use Rattle.pks_laws.proofs.Choosing.{act_not_branch, act_not_cases}
 use Rattle.pks_laws.proofs.SearchStates.{last_of_it}
-use Rattle.pks_laws_distance.specs.Runs.{Reaches, MayBeAt}
-use Rattle.pks_laws_distance.specs.Levels.{IsAtMost}
-use Rattle.pks_laws_distance.proofs.Running.{acted_may, may_do, reach_branch, reach_cases}
-use Rattle.pks_laws_looks.specs.Looks.{IsLook}
-use Rattle.pks_laws_looks.proofs.Thinned.{without_none}
+use Rattle.pks_search_distance.specs.Runs.{Reaches, MayBeAt}
+use Rattle.pks_search_distance.specs.Levels.{IsAtMost}
+use Rattle.pks_search_distance.proofs.Running.{acted_may, may_do, reach_branch, reach_cases}
+use Rattle.pks_laws_forget.specs.Looks.{IsLook}
+use Rattle.pks_laws_forget.proofs.Thinned.{without_none}
 use Rattle.pks_search_witness.specs.declared.witness.Witness.{Witness}
 use Rattle.pks_search_witness.specs.Near.{world_in, is_above}
 use Rattle.pks_history_forget.specs.Same.{IsEndOf, IsLeftOf}

@@ -14,8 +14,8 @@ use Rattle.pks_terms.specs.ValidProblems.{IsValidProblem}
 use Rattle.pks_terms.specs.Versions.{IsNow, query_in}
 use Rattle.pks_terms.specs.Views.{aim_of, problem_of}
 use Rattle.pks_terms.proofs.ListLaws.{each_kept}
-use Rattle.pks_laws_looks.specs.Fewer.{is_met_for_good, unmet, with_aims, without_met}
-use Rattle.pks_laws_looks.proofs.Fewer.{best_back}
+use Rattle.pks_laws_forget.specs.Fewer.{is_met_for_good, unmet, with_aims, without_met}
+use Rattle.pks_laws_forget.proofs.Fewer.{best_back}
 use Rattle.pks_search.specs.Fewer.{unmet_aims, with_unmet}
 
 aims_unmet : (s : Signature) (d : Five) (aims : List DAim) → map aim_of (unmet_aims s d aims) ≡ unmet s d (map aim_of aims)

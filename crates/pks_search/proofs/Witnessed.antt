@@ -17,9 +17,9 @@ use Rattle.pks_terms.specs.Trees.{Tree, Goal, Impossible, Do, Branch, Cases, dep
 use Rattle.pks_terms.specs.Knowledge.{grounded, after_action}
 use Rattle.pks_terms.specs.Valid.{IsValid}
 use Rattle.pks_laws.proofs.Choosing.{act_not_branch, act_not_cases, branch_not_act, branch_not_cases, cases_not_act, cases_not_branch}
-use Rattle.pks_laws_distance.specs.Runs.{Reaches, MayBeAt}
-use Rattle.pks_laws_distance.specs.Levels.{IsAtMost}
-use Rattle.pks_laws_distance.proofs.Running.{start_may, acted_may, taken_may, reach_from, reach_branch, reach_cases}
+use Rattle.pks_search_distance.specs.Runs.{Reaches, MayBeAt}
+use Rattle.pks_search_distance.specs.Levels.{IsAtMost}
+use Rattle.pks_search_distance.proofs.Running.{start_may, acted_may, taken_may, reach_from, reach_branch, reach_cases}
 use Rattle.pks_search_witness.specs.declared.witness.Witness.{Witness}
 use Rattle.pks_search_witness.specs.Near.{world_in, IsCounted, is_above, is_beyond}
 use Rattle.pks_history_forget.specs.Same.{IsLeftOf}

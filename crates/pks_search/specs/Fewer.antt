@@ -6,7 +6,7 @@ use Rattle.pks_terms.specs.declared.problem.Problem.{Problem as DProblem}
 use Rattle.pks_terms.specs.Signatures.{Signature}
 use Rattle.pks_terms.specs.Databases.{Five}
 use Rattle.pks_terms.specs.Views.{aim_of, signature_of}
-use Rattle.pks_laws_looks.specs.Fewer.{is_met_for_good}
+use Rattle.pks_laws_forget.specs.Fewer.{is_met_for_good}
 
 -- the aims that aren't met for good
 abbrev pub unmet_aims : Signature → Five → List DAim → List DAim

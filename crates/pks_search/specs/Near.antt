@@ -8,7 +8,7 @@ use Rattle.pks_terms.specs.Branching.{Choice, BranchOn, CasesOn, Side, AsTrue, A
 use Rattle.pks_terms.specs.Settling.{History, At}
 use Rattle.pks_terms.specs.Trees.{Acts}
 use Rattle.pks_terms.specs.Knowledge.{grounded, after_action}
-use Rattle.pks_laws_distance.specs.Runs.{MayBeAt}
+use Rattle.pks_search_distance.specs.Runs.{MayBeAt}
 use Rattle.pks_search_witness.specs.declared.witness.Witness.{Witness}
 use Rattle.pks_search_witness.specs.Near.{world_in, is_beyond, IsCounted}
 

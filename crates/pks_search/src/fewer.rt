@@ -3,7 +3,7 @@ ghost use Rattle.std.specs.Prelude.{◌≡◌, IfOk, map};
 ghost use Rattle.std.specs.List.{list_any};
 ghost use Rattle.pks_terms.specs.Views.{aim_of, query_of, signature_of};
 ghost use Rattle.pks_query_lookup.specs.Fives.{five_of};
-ghost use Rattle.pks_laws_looks.specs.Fewer.{is_held, is_met_for_good};
+ghost use Rattle.pks_laws_forget.specs.Fewer.{is_held, is_met_for_good};
 ghost use Rattle.pks_search.specs.Fewer.{unmet_aims, with_unmet};
 
 use crate::copying::{same_init, same_names, same_schemas, same_signature};

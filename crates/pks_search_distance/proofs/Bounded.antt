@@ -6,10 +6,10 @@ use Rattle.pks_terms.specs.Worlds.{World}
 use Rattle.pks_terms.specs.Actions.{Effect, Instance, effect_at}
 use Rattle.pks_terms.specs.Problems.{Problem, schema_of}
 use Rattle.pks_terms.specs.Knowledge.{after_action}
-use Rattle.pks_laws_distance.specs.Runs.{MayBeDone, IsGoal}
-use Rattle.pks_laws_distance.specs.Levels.{Chances, Allows, Grows, HasAll, IsBound}
-use Rattle.pks_laws_distance.proofs.Stepping.{effects_allowed, grows_itself, reaches_leads}
-use Rattle.pks_laws_distance.proofs.Stepping as stepping
+use Rattle.pks_search_distance.specs.Runs.{MayBeDone, IsGoal}
+use Rattle.pks_search_distance.specs.Levels.{Chances, Allows, Grows, HasAll, IsBound}
+use Rattle.pks_search_distance.proofs.Stepping.{effects_allowed, grows_itself, reaches_leads}
+use Rattle.pks_search_distance.proofs.Stepping as stepping
 use Rattle.pks_search_distance.specs.declared.deeds.Deeds.{Deeds}
 use Rattle.pks_search_distance.specs.Relaxed.{aim_may, deed_news, IsNewIn, deed_of_instance, Leads}
 use Rattle.pks_search_distance.specs.Gained.{deed_of, AreDeeds}

@@ -18,7 +18,7 @@ use Rattle.pks_terms.specs.declared.problem.Problem.{Problem as DProblem}
 use Rattle.pks_terms.specs.Views.{problem_of}
 use Rattle.pks_terms.specs.Views as views
 use Rattle.pks_laws.proofs.Least.{in_flat}
-use Rattle.pks_laws_distance.specs.Runs.{MayBeDone}
+use Rattle.pks_search_distance.specs.Runs.{MayBeDone}
 use Rattle.pks_search_distance.specs.Relaxed.{deed_with, deeds_from, all_deeds, deed_of_instance}
 
 deeds_in : (s : Signature) (sc : Schema) (given : List Inner) (tys ds : List ℕ) → AreOfTypes s tys ds → IsIn (deed_with sc (given ++ map Object ds)) (deeds_from s sc given tys)

@@ -19,7 +19,7 @@ use Rattle.pks_terms.specs.Views.{inner_of, term_of, atom_of}
 use Rattle.pks_terms.proofs.ListLaws.{in_map, in_appended, found_in}
 use Rattle.pks_laws.proofs.Least.{in_left, in_right, in_flat}
 use Rattle.pks_world.specs.Contents.{ground, atom_eq, is_listed}
-use Rattle.pks_laws_distance.specs.Levels.{Chances, Allows, Grows}
+use Rattle.pks_search_distance.specs.Levels.{Chances, Allows, Grows}
 use Rattle.pks_search_distance.specs.declared.gains.Gains.{Gains}
 use Rattle.pks_search_distance.specs.declared.gains.Given.{Given}
 use Rattle.pks_search_distance.specs.Relaxed.{New, NewTruth, NewValue, NewFalse, IsNewIn}

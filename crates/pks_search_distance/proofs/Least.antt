@@ -3,9 +3,9 @@ use Rattle.std.proofs.Common.{List, ◌≡◌, ◌+◌, ◌-◌, ◌/◌, ◌≤
 use Rattle.pks_terms.specs.Syntax.{Literal}
 use Rattle.pks_terms.specs.Worlds.{World}
 use Rattle.pks_terms.specs.Problems.{Problem}
-use Rattle.pks_laws_distance.specs.Levels.{IsBound}
-use Rattle.pks_laws_distance.specs.Unmet.{AreWanted, unmet, MeetsAtMost, fewest}
-use Rattle.pks_laws_distance.proofs.Meeting.{fewest_bounds}
+use Rattle.pks_search_distance.specs.Levels.{IsBound}
+use Rattle.pks_search_distance.specs.Unmet.{AreWanted, unmet, MeetsAtMost, fewest}
+use Rattle.pks_search_distance.proofs.Meeting.{fewest_bounds}
 
 pub fewest_none : (m n : ℕ) → n ≡ 0 → fewest m n ≡ Some 0
 fewest_none m n e = ap (fewest m) e

@@ -7,3 +7,7 @@ pub mod Grounding
 pub mod Remembering
 pub mod Least
 pub mod Wanting
+pub mod Running
+pub mod Stepping
+pub mod Bounding
+pub mod Meeting

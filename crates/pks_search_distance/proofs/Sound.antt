@@ -16,8 +16,8 @@ use Rattle.pks_terms.proofs.ListLaws.{each_in, each_front, each_back, in_map, an
 use Rattle.pks_laws.proofs.Least.{in_flat}
 use Rattle.pks_laws.proofs.Values.{same_objects_same}
 use Rattle.pks_world.specs.Contents.{ground}
-use Rattle.pks_laws_distance.specs.Runs.{asked, IsSo, IsAim}
-use Rattle.pks_laws_distance.specs.Levels.{Chances, Allows, Has, HasAll}
+use Rattle.pks_search_distance.specs.Runs.{asked, IsSo, IsAim}
+use Rattle.pks_search_distance.specs.Levels.{Chances, Allows, Has, HasAll}
 use Rattle.pks_search_distance.specs.Relaxed.{tuples, inner_values, term_values, may_relate, may, aim_may, NewTruth, NewValue, NewFalse, atom_news, place_news, news, effect_news, Deed, deed_news, IsNewIn, asked_at}
 use Rattle.pks_search_distance.proofs.Lists.{all_appended}
 

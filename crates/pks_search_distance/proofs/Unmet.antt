@@ -17,8 +17,8 @@ use Rattle.pks_terms.specs.Views.{literal_of}
 use Rattle.pks_terms.specs.declared.literal.Literal as literal
 use Rattle.pks_laws.proofs.Changing.{last_written_has}
 use Rattle.pks_laws.proofs.Values.{same_objects_same}
-use Rattle.pks_laws_distance.specs.Runs.{MayBeDone}
-use Rattle.pks_laws_distance.specs.Unmet.{unmet, MeetsAtMost}
+use Rattle.pks_search_distance.specs.Runs.{MayBeDone}
+use Rattle.pks_search_distance.specs.Unmet.{unmet, MeetsAtMost}
 use Rattle.pks_search_distance.specs.Relaxed.{Deed, deed_of_instance}
 use Rattle.pks_search_distance.specs.Counted.{is_object, are_different, are_apart, is_place, is_plain, may_be, may_hit, may_make, may_meet, meets, most_met}
 

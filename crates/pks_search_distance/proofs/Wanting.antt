@@ -8,7 +8,7 @@ use Rattle.pks_terms.specs.Problems.{Aim}
 use Rattle.pks_terms.specs.Views.{literal_of, literals_in, aim_of}
 use Rattle.pks_terms.specs.declared.literal.Literal as literal
 use Rattle.pks_terms.specs.declared.problem.Aim as aim
-use Rattle.pks_laws_distance.specs.Runs.{IsAim}
+use Rattle.pks_search_distance.specs.Runs.{IsAim}
 use Rattle.pks_search_distance.specs.Counted.{AddsWanted}
 use Rattle.pks_search_distance.proofs.Lists.{first_and_others}
 

@@ -6,7 +6,7 @@ use Rattle.pks_terms.specs.Syntax.{Form, Object, Parameter, Apply, Inner, Term, 
 use Rattle.pks_terms.specs.Worlds.{World, true_in}
 use Rattle.pks_terms.specs.Actions.{Target, Set, Unset, Clear, Assign, Effect}
 use Rattle.pks_terms.specs.Problems.{Aim}
-use Rattle.pks_laws_distance.specs.Runs.{IsAim}
+use Rattle.pks_search_distance.specs.Runs.{IsAim}
 use Rattle.pks_search_distance.specs.Relaxed.{Deed}
 
 -- it is an object

@@ -10,8 +10,8 @@ use Rattle.pks_terms.specs.Problems.{Problem, schema_of}
 use Rattle.pks_terms.specs.ValidProblems.{ArePlaced}
 use Rattle.pks_terms.specs.Views.{term_of, atom_of, literals_in, effect_of}
 use Rattle.pks_world.specs.Contents.{ground, is_listed}
-use Rattle.pks_laws_distance.specs.Runs.{MayBeDone}
-use Rattle.pks_laws_distance.specs.Levels.{Chances}
+use Rattle.pks_search_distance.specs.Runs.{MayBeDone}
+use Rattle.pks_search_distance.specs.Levels.{Chances}
 use Rattle.pks_search_distance.specs.declared.objects.Pair.{Pair}
 use Rattle.pks_search_distance.specs.declared.gains.Gains.{Gains}
 use Rattle.pks_search_distance.specs.declared.gains.Given.{Given}

@@ -11,8 +11,8 @@ use Rattle.pks_terms.specs.Actions.{Target, Set, Unset, Clear, Assign, Effect, S
 use Rattle.pks_terms.specs.Problems.{Aim, Now, AtStart, Always, Once, Problem, schema_of}
 use Rattle.pks_terms.specs.Knowledge.{after_action}
 use Rattle.pks_world.specs.Contents.{ground}
-use Rattle.pks_laws_distance.specs.Runs.{asked, MayBeDone}
-use Rattle.pks_laws_distance.specs.Levels.{Chances}
+use Rattle.pks_search_distance.specs.Runs.{asked, MayBeDone}
+use Rattle.pks_search_distance.specs.Levels.{Chances}
 
 -- ---- values and truths
 

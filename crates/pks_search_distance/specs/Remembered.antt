@@ -4,8 +4,8 @@ use Rattle.pks_terms.specs.Worlds.{World}
 use Rattle.pks_terms.specs.Problems.{Problem}
 use Rattle.pks_terms.specs.Views.{literals_in}
 use Rattle.pks_world.specs.Contents.{world_of}
-use Rattle.pks_laws_distance.specs.Levels.{IsBound}
-use Rattle.pks_laws_distance.specs.Unmet.{AreWanted, MeetsAtMost}
+use Rattle.pks_search_distance.specs.Levels.{IsBound}
+use Rattle.pks_search_distance.specs.Unmet.{AreWanted, MeetsAtMost}
 use Rattle.pks_search_distance.specs.declared.counted.Counted.{Counted}
 use Rattle.pks_search_distance.specs.declared.counted.Counts.{Counts}
 use Rattle.pks_search_distance.specs.declared.deeds.Deeds.{Deeds}

@@ -2,7 +2,7 @@
 ghost use Rattle.std.specs.Prelude.{IfOk, IfSome};
 ghost use Rattle.pks_terms.specs.Problems.{Problem};
 ghost use Rattle.pks_world.specs.Contents.{world_of};
-ghost use Rattle.pks_laws_distance.specs.Levels.{IsBound};
+ghost use Rattle.pks_search_distance.specs.Levels.{IsBound};
 ghost use Rattle.pks_search_distance.specs.Remembered.{IsRight, AreRight};
 
 use lru::LruCache;

@@ -1,10 +1,12 @@
 //! A lower bound on the actions that a world is away from the goal: levels of a relaxed world, in which what may be true, what may be
-//! false and what values a place may have only grow. `docs/DECISIONS.md` says what it is for.
+//! false and what values a place may have only grow. `docs/DECISIONS.md` says what it is for. Laws
+//! say what such a bound, counted in one world, says of plans.
 #![tactic(auto)]
 
 mod counted;
 pub mod deeds;
 mod gains;
+pub mod laws;
 mod may;
 mod needing;
 mod news;

@@ -5,7 +5,7 @@ ghost use Rattle.pks_terms.specs.Sets.{Each};
 ghost use Rattle.pks_terms.specs.Worlds.{World as SWorld};
 ghost use Rattle.pks_terms.specs.Views.{term_of, atom_of};
 ghost use Rattle.pks_world.specs.Contents.{world_of};
-ghost use Rattle.pks_laws_distance.specs.Levels.{Grows};
+ghost use Rattle.pks_search_distance.specs.Levels.{Grows};
 ghost use Rattle.pks_search_distance.specs.Relaxed.{NewTruth, NewValue, NewFalse, IsNewIn};
 ghost use Rattle.pks_search_distance.specs.Gained.{given_of, given_to, chances_of, values_at, has_new, new_of};
 

@@ -4,7 +4,7 @@ ghost use Rattle.std.specs.List.{list_any, list_all};
 ghost use Rattle.pks_terms.specs.Orders.{number_of, arguments_of};
 ghost use Rattle.pks_terms.specs.Views.{inner_of, term_of, terms_of, atom_of, relation_of, sides_of, literal_of, literals_in, target_of, effect_of, aim_of};
 ghost use Rattle.pks_world.specs.Contents.{world_of};
-ghost use Rattle.pks_laws_distance.specs.Unmet.{unmet};
+ghost use Rattle.pks_search_distance.specs.Unmet.{unmet};
 ghost use Rattle.pks_search_distance.specs.Counted.{is_object, are_different, are_apart, is_place, is_plain, may_be, may_hit, is_of, may_equate, may_make, may_meet, meets, most_met, AddsWanted};
 ghost use Rattle.pks_search_distance.specs.Gained.{deed_of};
 

@@ -2,7 +2,7 @@
 use Rattle.std.specs.Prelude.{ℕ, Bool, true, Option, Some, None, nat_lt}
 use Rattle.pks_terms.specs.Worlds.{World}
 use Rattle.pks_terms.specs.Problems.{Problem}
-use Rattle.pks_laws_distance.specs.Levels.{IsBound}
+use Rattle.pks_search_distance.specs.Levels.{IsBound}
 use Rattle.pks_world.specs.Contents.{world_of}
 use Rattle.pks_search_witness.specs.declared.witness.Witness.{Witness}
 

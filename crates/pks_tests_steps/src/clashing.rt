@@ -13,7 +13,7 @@ use pks_plan::print_literal;
 use pks_progress::progressing::progress;
 use pks_query::CloseEnd;
 use pks_query::databases::{Db, Step};
-use pks_query_initial::initial::initial;
+use pks_query::initial::initial;
 use pks_terms::choices::{Choice, Side};
 use pks_terms::problem::Problem;
 use std::alloc::{AllocError, Global};

@@ -5,7 +5,7 @@ use Rattle.pks_terms.specs.Moments.{AreMomentsOf}
 use Rattle.pks_terms.specs.Versions.{IsNow}
 use Rattle.pks_terms.specs.Views.{aim_of, problem_of}
 use Rattle.pks_laws_forget.specs.Transparent.{AreSetsAlong}
-use Rattle.pks_laws_looks.specs.Looks.{without_looks}
+use Rattle.pks_laws_forget.specs.Looks.{without_looks}
 use Rattle.pks_history_forget.specs.Same.{EndHasSameTrees, HasSameTrees}
 use Rattle.pks_history_forget.proofs.Shorter.{same_itself, kept_moments, same_without}
 use Rattle.pks_history_forget.proofs.cutting.cut.Goals as goal

@@ -1,7 +1,7 @@
 use Rattle.std.proofs.Common.{ap, subst, sym, ◌∙◌}
 use Rattle.pks_terms.specs.Worlds.{World}
 use Rattle.pks_world.specs.Contents.{world_of}
-use Rattle.pks_laws_distance.specs.Levels.{IsBound}
+use Rattle.pks_search_distance.specs.Levels.{IsBound}
 use Rattle.pks_search_distance.proofs.counted.Counted.tells.Goals as goal
 
 pub returns-then-same : goal.returns-then-same

@@ -1,7 +1,7 @@
 use Rattle.std.proofs.Common.{sym, subst}
 use Rattle.pks_world.specs.Contents.{world_of}
 use Rattle.pks_world.specs.declared.worlds.World.{World}
-use Rattle.pks_laws_distance.specs.Levels.{IsBound}
+use Rattle.pks_search_distance.specs.Levels.{IsBound}
 use Rattle.pks_search_distance.proofs.counted.Counts.note.Goals as goal
 
 pub returns-in-Ok : goal.returns-in-Ok

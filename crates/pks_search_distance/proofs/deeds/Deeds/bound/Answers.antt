@@ -4,9 +4,9 @@ use Rattle.pks_terms.specs.declared.literal.Literal.{Literal}
 use Rattle.pks_terms.specs.Views.{literals_in, problem_of}
 use Rattle.pks_world.specs.Contents.{world_of}
 use Rattle.pks_world.specs.declared.worlds.World.{World}
-use Rattle.pks_laws_distance.specs.Levels.{IsBound}
-use Rattle.pks_laws_distance.specs.Unmet.{unmet}
-use Rattle.pks_laws_distance.proofs.Meeting.{greater_bounds}
+use Rattle.pks_search_distance.specs.Levels.{IsBound}
+use Rattle.pks_search_distance.specs.Unmet.{unmet}
+use Rattle.pks_search_distance.proofs.Meeting.{greater_bounds}
 use Rattle.pks_search_distance.proofs.Least.{least_bounds}
 use Rattle.pks_search_distance.proofs.Remembering.{beside, with_table}
 use Rattle.pks_search_distance.proofs.deeds.Deeds.bound.Goals as goal

@@ -4,7 +4,7 @@ use Rattle.pks_terms.specs.declared.problem.Aim.{Aim}
 use Rattle.pks_terms.specs.Sets.{Each}
 use Rattle.pks_terms.specs.Views.{aim_of, problem_of}
 use Rattle.pks_world.specs.Contents.{world_of}
-use Rattle.pks_laws_distance.specs.Levels.{Chances}
+use Rattle.pks_search_distance.specs.Levels.{Chances}
 use Rattle.pks_search_distance.specs.Relaxed.{aim_may, deed_news, IsNewIn}
 use Rattle.pks_search_distance.specs.Gained.{chances_of, deed_of}
 use Rattle.pks_search_distance.proofs.Growing.{allows_first}

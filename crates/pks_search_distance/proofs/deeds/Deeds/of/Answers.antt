@@ -7,8 +7,8 @@ use Rattle.pks_terms.specs.Worlds.{World, true_in}
 use Rattle.pks_terms.specs.Actions.{Instance}
 use Rattle.pks_terms.specs.Problems as problems
 use Rattle.pks_terms.specs.Views.{schema_of, problem_of, aim_of, literals_in}
-use Rattle.pks_laws_distance.specs.Runs.{MayBeDone, IsAim}
-use Rattle.pks_laws_distance.specs.Unmet.{MeetsAtMost}
+use Rattle.pks_search_distance.specs.Runs.{MayBeDone, IsAim}
+use Rattle.pks_search_distance.specs.Unmet.{MeetsAtMost}
 use Rattle.pks_search_distance.specs.Relaxed.{all_deeds, deed_of_instance}
 use Rattle.pks_search_distance.specs.Gained.{deed_of}
 use Rattle.pks_search_distance.specs.Counted.{most_met}

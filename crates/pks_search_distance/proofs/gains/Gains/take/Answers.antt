@@ -1,5 +1,5 @@
 use Rattle.std.proofs.Common.{sym, ◌∙◌}
-use Rattle.pks_laws_distance.proofs.Stepping.{grows_itself}
+use Rattle.pks_search_distance.proofs.Stepping.{grows_itself}
 use Rattle.pks_world.specs.Contents.{world_of}
 use Rattle.pks_search_distance.specs.Gained.{chances_of, new_of}
 use Rattle.pks_search_distance.proofs.Growing.{had}

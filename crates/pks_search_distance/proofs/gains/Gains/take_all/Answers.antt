@@ -4,7 +4,7 @@ use Rattle.std.proofs.lemmas.List.{take_all}
 use Rattle.pks_terms.specs.Sets.{Each}
 use Rattle.pks_terms.proofs.ListLaws.{each_weaker}
 use Rattle.pks_world.specs.Contents.{world_of}
-use Rattle.pks_laws_distance.proofs.Stepping.{grows_itself, grows_on}
+use Rattle.pks_search_distance.proofs.Stepping.{grows_itself, grows_on}
 use Rattle.pks_search_distance.specs.declared.news.New.{New}
 use Rattle.pks_search_distance.specs.Relaxed.{IsNewIn}
 use Rattle.pks_search_distance.specs.Gained.{chances_of, new_of}

@@ -1,7 +1,7 @@
 use Rattle.std.proofs.Common.{◌≡◌, false, map, take}
 use Rattle.pks_terms.specs.Sets.{Each}
 use Rattle.pks_world.specs.Contents.{world_of}
-use Rattle.pks_laws_distance.specs.Levels.{Grows}
+use Rattle.pks_search_distance.specs.Levels.{Grows}
 use Rattle.pks_search_distance.specs.Relaxed.{IsNewIn}
 use Rattle.pks_search_distance.specs.Gained.{chances_of, new_of}
 use Rattle.pks_search_distance.proofs.gains.Gains.take_all.Given as goal

@@ -1,4 +1,0 @@
-pub mod Running
-pub mod Stepping
-pub mod Bounding
-pub mod Meeting

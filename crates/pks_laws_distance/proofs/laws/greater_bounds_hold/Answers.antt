@@ -1,5 +1,0 @@
-use Rattle.pks_laws_distance.proofs.Meeting.{greater_bounds}
-use Rattle.pks_laws_distance.proofs.laws.greater_bounds_hold.Goals as goal
-
-pub returns : goal.returns
-returns c p w a b f g = greater_bounds p w a b f g

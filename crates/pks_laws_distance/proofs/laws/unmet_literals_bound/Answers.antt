@@ -1,5 +1,0 @@
-use Rattle.pks_laws_distance.proofs.Meeting.{fewest_bounds}
-use Rattle.pks_laws_distance.proofs.laws.unmet_literals_bound.Goals as goal
-
-pub returns : goal.returns
-returns c p w ls m wanted few = fewest_bounds p ls m few wanted w

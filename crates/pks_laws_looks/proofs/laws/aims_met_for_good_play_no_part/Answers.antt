@@ -1,5 +1,0 @@
-use Rattle.pks_laws_looks.proofs.Fewer.{trees_without}
-use Rattle.pks_laws_looks.proofs.laws.aims_met_for_good_play_no_part.Goals as goal
-
-pub returns : goal.returns
-returns c = λ p h t inhabited. trees_without p inhabited h.start h.steps t

@@ -1,8 +1,0 @@
-use Rattle.std.proofs.Common.{refl}
-use Rattle.pks_terms.specs.Orders.{atom_cmp}
-use Rattle.pks_terms.specs.Views.{atom_of}
-use Rattle.pks_query_initial.proofs.Carried.{carried}
-use Rattle.pks_query_initial.proofs.initial.known_atoms.Goals as goal
-
-pub returns : goal.returns
-returns c = carried atom_of atom_cmp _ _ _ _ refl c.in_ok-set.ensures c.in_ok-atoms.ensures

@@ -1,4 +1,0 @@
-//! The databases in which a problem begins.
-#![tactic(auto)]
-
-pub mod initial;
