@@ -1,7 +1,6 @@
 //! Literals that an action leaves as they are. `docs/RULES.md` has the rule on settling.
 ghost use Rattle.std.specs.Prelude.{◌≡◌, ◌++◌, not, OnOk};
 ghost use Rattle.pks_kf.specs.Known.{literals_of};
-ghost use Rattle.pks_terms.specs.Settling.{lasting, lasted};
 ghost use Rattle.pks_terms.specs.Spoiling.{spoils};
 ghost use Rattle.pks_terms.specs.Syntax.{negated};
 ghost use Rattle.pks_terms.specs.Views.{literal_of, literals_in};
@@ -14,34 +13,6 @@ use pks_kf::Kf;
 use pks_query_lookup::derived::Derived;
 use pks_terms::literal::Literal;
 use std::alloc::AllocError;
-
-/// Puts the literals before that the action does not spoil after the others.
-pub(crate) fn put_lasting(to: &mut Vec<Literal>, change: &Change<'_>) -> Result<(), AllocError>
-    ensures { OnOk result (literals_in to.new.items ≡ literals_in to.old.items ++ lasting (signature_in change.now) (effects_by change.now) (before_in change.now)) }
-{
-    for l in change.before.five().kf.items() {
-        if !change.spoils(l) {
-            to.push(*l)?;
-        }
-    }
-    Ok(())
-}
-
-/// Puts the literals that are there afterwards, and of which the action does not spoil the negation, after the others.
-pub(crate) fn put_lasted(
-    to: &mut Vec<Literal>,
-    change: &Change<'_>,
-    after: &Derived,
-) -> Result<(), AllocError>
-    ensures { OnOk result (literals_in to.new.items ≡ literals_in to.old.items ++ lasted (signature_in change.now) (effects_by change.now) (before_in change.now) (five_of after.now)) }
-{
-    for l in after.five().kf.items() {
-        if !change.spoils(&l.negated()) {
-            to.push(*l)?;
-        }
-    }
-    Ok(())
-}
 
 /// Whether the literal is among these.
 #[tactic(auto, using(crate::proofs::Found::is_literal_among))]

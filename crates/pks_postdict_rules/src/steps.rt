@@ -11,7 +11,7 @@ ghost use Rattle.pks_postdict_rules.specs.Targets.{given_forward, given_by_condi
 
 use crate::change::Change;
 use crate::firing::{put_all_cannot_have_fired, put_all_fired, put_all_must_have_fired};
-use crate::lasting::{put_lasted, put_lasted_news, put_lasting, put_lasting_news};
+use crate::lasting::{put_lasted_news, put_lasting_news};
 use pks_progress_interference::effects::Effects;
 use pks_query_lookup::derived::Derived;
 use pks_terms::literal::Literal;
@@ -39,18 +39,8 @@ fn change_of<'a>(p: &'a Problem<'_>, i: &'a Instance, before: &'a Derived) -> Ch
     }
 }
 
-/// The literals that last, and the targets of the effects that fire. The error is want of memory.
-pub(crate) fn forward_by(alloc: Global, change: &Change<'_>) -> Result<Vec<Literal>, AllocError>
-    requires { ArePlaced change.now.effects.written.now }
-    ensures { IfOk result (λ v. literals_of v.items ≡ given_forward (signature_in change.now) (effects_by change.now) (before_in change.now)) }
-{
-    let mut news = Vec::new(alloc);
-    put_lasting(&mut news, change)?;
-    put_all_fired(alloc, &mut news, change, change.effects.written)?;
-    Ok(news)
-}
-
-/// The same without the literals that last and are known afterwards. The error is want of memory.
+/// The literals that last, but for those that are known afterwards, and the targets of the effects that fire. The error is want
+/// of memory.
 pub(crate) fn forward_news_by(
     alloc: Global,
     change: &Change<'_>,
@@ -82,23 +72,8 @@ fn put_conditions(
     Ok(())
 }
 
-/// The literals that must have been there, the conditions of effects that must have fired, and the negations of conditions of
-/// effects that cannot have fired. The error is want of memory.
-pub(crate) fn backward_by(
-    alloc: Global,
-    change: &Change<'_>,
-    after: &Derived,
-) -> Result<Vec<Literal>, AllocError>
-    requires { ArePlaced change.now.effects.written.now }
-    ensures { IfOk result (λ v. literals_of v.items ≡ given_backward (signature_in change.now) (effects_by change.now) (before_in change.now) (five_of after.now)) }
-{
-    let mut news = Vec::new(alloc);
-    put_lasted(&mut news, change, after)?;
-    put_conditions(alloc, &mut news, change, after)?;
-    Ok(news)
-}
-
-/// The same without the literals that must have been there and are known before. The error is want of memory.
+/// The literals that must have been there, but for those that are known before, the conditions of effects that must have fired,
+/// and the negations of conditions of effects that cannot have fired. The error is want of memory.
 pub(crate) fn backward_news_by(
     alloc: Global,
     change: &Change<'_>,
@@ -113,40 +88,8 @@ pub(crate) fn backward_news_by(
     Ok(news)
 }
 
-/// What a moment gives the next one: the literals that last, and the targets of the effects that fire. It asks for a valid
-/// problem. The error is want of memory.
-pub fn forward(
-    alloc: Global,
-    p: &Problem<'_>,
-    i: &Instance,
-    before: &Derived,
-) -> Result<Vec<Literal>, AllocError>
-    requires { IsValidProblem p.now }
-    ensures { IfOk result (λ v. literals_of v.items ≡ forward (problem_of p.now) (instance_of i.now) (five_of before.now)) }
-{
-    let news = forward_by(alloc, &change_of(p, i, before))?;
-    Ok(news)
-}
-
-/// What a moment gets from the next one: the literals that must have been there, the conditions of effects that must have
-/// fired, and the negations of conditions of effects that cannot have fired. It asks for a valid problem. The error is want of
-/// memory.
-pub fn backward(
-    alloc: Global,
-    p: &Problem<'_>,
-    i: &Instance,
-    before: &Derived,
-    after: &Derived,
-) -> Result<Vec<Literal>, AllocError>
-    requires { IsValidProblem p.now }
-    ensures { IfOk result (λ v. literals_of v.items ≡ backward (problem_of p.now) (instance_of i.now) (five_of before.now) (five_of after.now)) }
-{
-    let news = backward_by(alloc, &change_of(p, i, before), after)?;
-    Ok(news)
-}
-
-/// What `forward` gives but for the literals that last and are known afterwards. It asks for a valid problem. The error is
-/// want of memory.
+/// What a moment gives the next one: the literals that last, but for those that are known afterwards, and the targets of the
+/// effects that fire. It asks for a valid problem. The error is want of memory.
 pub fn forward_news(
     alloc: Global,
     p: &Problem<'_>,
@@ -161,8 +104,9 @@ pub fn forward_news(
     Ok(news)
 }
 
-/// What `backward` gives but for the literals that must have been there and are known before. It asks for a valid problem.
-/// The error is want of memory.
+/// What a moment gets from the next one: the literals that must have been there, but for those that are known before, the
+/// conditions of effects that must have fired, and the negations of conditions of effects that cannot have fired. It asks for
+/// a valid problem. The error is want of memory.
 pub fn backward_news(
     alloc: Global,
     p: &Problem<'_>,

@@ -1,3 +1,2 @@
-pub mod Hits
 pub mod Kept
 pub mod Ahead

@@ -15,24 +15,21 @@ ghost use Rattle.pks_query_closing.specs.Closing.{IfClash};
 ghost use Rattle.pks_query_closing.specs.Working.{EndsWith};
 ghost use Rattle.pks_query.specs.Closed.{AreClosed};
 
+use crate::initial::initial;
 use pks_query_closing::closing::{CloseEnd, close, close_unless_clash};
 use pks_query_closing::tidied::tidied;
-use crate::initial::initial;
 use pks_query_lookup::derived::Derived;
 use pks_query_lookup::five::Five;
 use pks_terms::literal::Literal;
 use pks_terms::problem::{Problem, Signature};
 use std::alloc::{AllocError, Global};
-use std::cell::Cell;
 use std::marker::Model;
 use std::rc::Rc;
 
-/// Closed databases without a clash, seen as those databases. They do not keep the signature by which they are closed. Beside
-/// them stands their mark, once it was asked for.
+/// Closed databases without a clash, seen as those databases. They do not keep the signature by which they are closed.
 #[derive(Drop)]
 pub struct Db {
     derived: Rc<Derived>,
-    mark: Cell<Option<u64>>,
 }
 
 impl Model for Db {
@@ -96,8 +93,7 @@ impl Db {
         match close(alloc, s, five) {
             Ok(derived) => {
                 let derived = shared(alloc, derived)?;
-                let mark = Cell::new(None);
-                Ok(Db { derived, mark })
+                Ok(Db { derived })
             }
             Err(end) => Err(end),
         }
@@ -174,8 +170,7 @@ impl Db {
     {
         let _s = s;
         let derived = shared(alloc, derived)?;
-        let mark = Cell::new(None);
-        Ok(Db { derived, mark })
+        Ok(Db { derived })
     }
 
     /// Lends the five. It takes no memory.
@@ -198,17 +193,6 @@ impl Db {
         ensures { IfOk result (λ same. same ≡ self.now) }
     {
         let derived = self.derived.clone()?;
-        let mark = Cell::new(self.mark.get());
-        Ok(Db { derived, mark })
-    }
-
-    /// The mark that was kept, or `None` where none was yet. It takes no memory.
-    pub(crate) fn kept_mark(&self) -> Option<u64> {
-        self.mark.get()
-    }
-
-    /// Keeps the mark. It takes no memory.
-    pub(crate) fn keep_mark(&self, mark: u64) {
-        self.mark.set(Some(mark));
+        Ok(Db { derived })
     }
 }

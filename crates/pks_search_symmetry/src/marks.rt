@@ -67,8 +67,8 @@ impl Marks {
         self.total
     }
 
-    /// Mixes what the last walk said of each object into its mark, and this into the mark of the whole, and gives the objects that aren't alone by class and mark,
-    /// and how many are told apart. The error is want of memory.
+    /// Mixes what the last walk said of each object into its mark, and this into the mark of the whole, and gives the objects
+    /// that aren't alone by class and mark, and how many are told apart. The error is want of memory.
     pub(crate) fn sorted(
         &mut self,
         alloc: Global,

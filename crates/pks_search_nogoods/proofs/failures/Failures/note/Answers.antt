@@ -1,4 +1,4 @@
-use Rattle.std.proofs.Common.{◌≡◌, sym, subst}
+use Rattle.std.proofs.Common.{sym, subst}
 use Rattle.pks_terms.specs.Moments.{AreMomentsOf}
 use Rattle.pks_search_nogoods.specs.Failing.{HasNoTree}
 use Rattle.pks_search_nogoods.proofs.failures.Failures.note.Goals as goal
