@@ -33,9 +33,9 @@ use Rattle.pks_history_forget.specs.Same.{IsEndOf, IsLeftOf}
 use Rattle.pks_search_nogoods.specs.Failing.{HasNoTree}
 use Rattle.pks_search_nogoods.proofs.Costs.{depth_at_most_cost}
 use Rattle.pks_search.specs.Limits.{IsCheapBy}
-use Rattle.pks_search.specs.Near.{IfNear, IfNearAfter, is_far, is_tight}
+use Rattle.pks_search.specs.Near.{IsNear, AreNearAfter, is_far, is_tight}
 use Rattle.pks_search.specs.Straight.{IsStraight, last_alone, HasTreesWithin}
-use Rattle.pks_search.proofs.Witnessed.{left_near}
+use Rattle.pks_search.proofs.Witnessed.{far_one, left_near}
 use Rattle.pks_search.proofs.Limited.{price}
 
 not_stopped : (h : History) → At h ≡ Stopped → ⊥
@@ -124,41 +124,43 @@ stopped_straight p (Cases x c) d = absurd d
 
 module _ (p : Problem) (j : AllJustified p) (s : IsTyped p) (v : IsValid p) where
   -- no deeper than the goal is far
-  far_straight : (o : Option Witness) (n : ℕ) (h : History) (t : Tree) → IfNear p h o → is_far o (n - 1) ≡ true → Derives p (At h) t → depth t ≤ n → IsStraight t
-  far_straight None n h t k far d deep = absurd (true≢false (sym far))
-  far_straight (Some x) n h t k far d deep = straight p j s t h (world_in x) n k.here (λ m r. away_by x.needs n m far (k.counted m r)) d deep
+  far_straight : (xs : List Witness) (n : ℕ) (h : History) (t : Tree) → Each (IsNear p h) xs → is_far xs (n - 1) ≡ true → Derives p (At h) t → depth t ≤ n → IsStraight t
+  far_straight xs n h t k far d deep =
+      let one = far_one (IsNear p h) xs (n - 1) k far in
+      let near : IsNear p h one.0 = one.1 in
+      straight p j s t h (world_in one.0) n near.here (λ m r. away_by one.0.needs n m one.2 (near.counted m r)) d deep
 
   -- the bound leaves no room for a branch
-  tight_straight : (o : Option Witness) (n limit : ℕ) (h : History) (t : Tree) → IfNear p h o → is_tight o (min n limit) ≡ true → Derives p (At h) t → depth t ≤ n → cost p t ≤ limit → IsStraight t
-  tight_straight o n limit h t k tight d deep cheap =
+  tight_straight : (xs : List Witness) (n limit : ℕ) (h : History) (t : Tree) → Each (IsNear p h) xs → is_tight xs (min n limit) ≡ true → Derives p (At h) t → depth t ≤ n → cost p t ≤ limit → IsStraight t
+  tight_straight xs n limit h t k tight d deep cheap =
       let least : depth t ≤ cost p t = depth_at_most_cost p v t in
       let both : depth t ≤ min n limit = omega (arith, deep, cheap, least) in
       ⊎_elim
       (λ none. let zero : min n limit ≡ 0 = eqb-true (min n limit) 0 none in shallow t (omega (arith, both, zero)))
-      (λ far. far_straight o (min n limit) h t k far d both)
-      (or_cases (min n limit == 0) (is_far o (min n limit - 1)) tight)
+      (λ far. far_straight xs (min n limit) h t k far d both)
+      (or_cases (min n limit == 0) (is_far xs (min n limit - 1)) tight)
 
   module _ (plain : Each IsNow p.goal) (h : History) where
     -- so the last moment alone has the same trees
-    pub last_trees : (o : Option Witness) (n limit : ℕ) → AreMomentsOf p h → IfNear p h o → is_tight o (min n limit) ≡ true → HasTreesWithin p h (last_alone h) n limit
-    last_trees o n limit moments k tight =
+    pub last_trees : (xs : List Witness) (n limit : ℕ) → AreMomentsOf p h → Each (IsNear p h) xs → is_tight xs (min n limit) ≡ true → HasTreesWithin p h (last_alone h) n limit
+    last_trees xs n limit moments k tight =
         let left : IsLeftOf p h (last_alone h) = record { steps = h; without = without_none (IsLook p) h.start h.steps; end = last_end h.start h.steps } in record {
           moments = record { start = last_of_it p v h moments; steps = tt };
           short = omega arith;
           left = left;
           trees = λ t deep cheap. (
-            λ d. alike p plain t (tight_straight o n limit h t k tight d deep cheap) h (last_alone h) refl d,
-            λ d. alike p plain t (tight_straight o n limit (last_alone h) t (left_near p h (last_alone h) o left k) tight d deep cheap) (last_alone h) h refl d,
+            λ d. alike p plain t (tight_straight xs n limit h t k tight d deep cheap) h (last_alone h) refl d,
+            λ d. alike p plain t (tight_straight xs n limit (last_alone h) t (left_near p h (last_alone h) xs left k) tight d deep cheap) (last_alone h) h refl d,
           );
         }
 
     -- behind an action there are actions alone, where the bound leaves no room for more
-    after_straight : (i : Instance) (a : Option Witness) (n limit : ℕ) → IfNearAfter p h i a → is_tight a (min n limit) ≡ true → (y : State) (u : Tree) → Acts p h i y → Derives p y u → depth u ≤ n → cost p u ≤ limit → IsStraight u
+    after_straight : (i : Instance) (a : List Witness) (n limit : ℕ) → AreNearAfter p h i a → is_tight a (min n limit) ≡ true → (y : State) (u : Tree) → Acts p h i y → Derives p y u → depth u ≤ n → cost p u ≤ limit → IsStraight u
     after_straight i a n limit near tight Stopped u acts d deep cheap = stopped_straight p u d
     after_straight i a n limit near tight (At g) u acts d deep cheap = tight_straight a n limit g u (near g acts) tight d deep cheap
 
     -- so no tree begins with it where the last moment alone has none
-    pub none_straight : (i : Instance) (a : Option Witness) (n limit own : ℕ) → IfNearAfter p h i a → is_tight a (min n (limit - own)) ≡ true → HasNoTree p (last_alone h) (n + 1) limit → own ≡ price p i → own ≤ limit → IsBestOf p (IsCheapBy p h (n + 1) limit (Act i)) None
+    pub none_straight : (i : Instance) (a : List Witness) (n limit own : ℕ) → AreNearAfter p h i a → is_tight a (min n (limit - own)) ≡ true → HasNoTree p (last_alone h) (n + 1) limit → own ≡ price p i → own ≤ limit → IsBestOf p (IsCheapBy p h (n + 1) limit (Act i)) None
     none_straight i a n limit own near tight none e le = others
       where
         others : (t : Tree) → IsCheapBy p h (n + 1) limit (Act i) t → ⊥

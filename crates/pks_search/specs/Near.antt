@@ -1,6 +1,7 @@
--- What a search keeps of its witness.
-use Rattle.std.specs.Prelude.{ℕ, Bool, false, not, ◌==◌, ◌||◌, ◌-◌, ◌≡◌, Option, Some, None, IfSome}
-use Rattle.std.specs.Option.{option_map_or}
+-- What a search keeps of its witnesses.
+use Rattle.std.specs.Prelude.{ℕ, Bool, true, false, not, ◌==◌, ◌||◌, ◌-◌, ◌≡◌, List}
+use Rattle.std.specs.List.{list_any}
+use Rattle.pks_terms.specs.Sets.{Each, IsIn}
 use Rattle.pks_terms.specs.Worlds.{World, value_of, all_true_in}
 use Rattle.pks_terms.specs.Actions.{Instance}
 use Rattle.pks_terms.specs.Problems.{Problem, IsCompatible}
@@ -22,27 +23,26 @@ pub record IsNear (p : Problem) (h : History) (x : Witness) : Type 0 where
   pub here : MayBeAt p h (world_in x)
   pub counted : IsCounted p x
 
--- so it is where there is one
-abbrev pub IfNear : Problem → History → Option Witness → Type 0
-IfNear p h o = IfSome o (IsNear p h)
+-- so it is with each of them at the history after the action
+abbrev pub AreNearAfter : Problem → History → Instance → List Witness → Type 0
+AreNearAfter p h i xs = (g : History) → Acts p h i (At g) → Each (IsNear p g) xs
 
--- so it is at the history after the action
-abbrev pub IfNearAfter : Problem → History → Instance → Option Witness → Type 0
-IfNearAfter p h i o = (g : History) → Acts p h i (At g) → IfNear p g o
+-- each of the latter comes from one of the former
+abbrev pub ComeFrom : (Witness → Witness → Type 0) → List Witness → List Witness → Type 0
+ComeFrom R xs ys = Each (λ y. (x : Witness) × IsIn x xs × R x y) ys
 
--- the second is what the first becomes by the action, or there is none
-abbrev pub Becomes : Problem → Instance → Option Witness → Option Witness → Type 0
-Becomes p i o None = Unit {0}
-Becomes p i None (Some y) = ⊥
-Becomes p i (Some x) (Some y) = (world_in y ≡ after_action p (world_in x) (grounded (world_in x) i)) × IsCounted p y
+-- the second is what the first becomes by the action, and its bound holds
+pub record Becomes (p : Problem) (i : Instance) (x y : Witness) : Type 0 where
+  pub world : world_in y ≡ after_action p (world_in x) (grounded (world_in x) i)
+  pub counted : IsCounted p y
 
--- the goal is more than n actions away from the witness
-abbrev pub is_far : Option Witness → ℕ → Bool
-is_far o n = option_map_or (λ x. is_beyond x n) o false
+-- the goal is more than n actions away from some witness
+abbrev pub is_far : List Witness → ℕ → Bool
+is_far xs n = list_any (λ x. is_beyond x n) xs
 
--- the goal is n actions away from the witness or more
-abbrev pub is_tight : Option Witness → ℕ → Bool
-is_tight o n = (n == 0) || is_far o (n - 1)
+-- the goal is n actions away from some witness or more
+abbrev pub is_tight : List Witness → ℕ → Bool
+is_tight xs n = (n == 0) || is_far xs (n - 1)
 
 -- the side is so in the world
 abbrev pub is_so : World → Choice → Side → Bool
@@ -51,6 +51,8 @@ is_so w (BranchOn c) AsFalse = not (all_true_in w c)
 is_so w (CasesOn t) (Is d) = value_of w t == d
 is_so w c side = false
 
--- the witness is on the side
-abbrev pub is_on : Option Witness → Choice → Side → Bool
-is_on o c side = option_map_or (λ x. is_so (world_in x) c side) o false
+-- the first is on the side, and the second is the same
+pub record IsKept (c : Choice) (side : Side) (x y : Witness) : Type 0 where
+  pub on : is_so (world_in x) c side ≡ true
+  pub world : world_in y ≡ world_in x
+  pub needs : y.needs ≡ x.needs

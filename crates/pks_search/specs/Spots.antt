@@ -1,19 +1,20 @@
 -- Where a search is, and what it takes along.
 use Rattle.std.specs.Prelude.{ℕ, IfSome}
 use Rattle.pks_terms.specs.declared.problem.Problem.{Problem as DProblem}
+use Rattle.pks_terms.specs.Sets.{Each}
 use Rattle.pks_terms.specs.Problems.{Problem}
 use Rattle.pks_terms.specs.Views.{problem_of}
 use Rattle.pks_search_nogoods.specs.Failing.{AreRight}
 use Rattle.pks_search.specs.Ready.{IsReady}
 use Rattle.pks_search_distance.specs.Remembered.{AreItsDeeds}
-use Rattle.pks_search.specs.Near.{IfNear}
+use Rattle.pks_search.specs.Near.{IsNear}
 use Rattle.pks_search.specs.declared.spots.Spot.{Spot}
 use Rattle.pks_search.specs.declared.spots.Notes.{Notes}
 
--- a search may go on from there by n actions, and the witness may be the present world
+-- a search may go on from there by n actions, and each witness may be the present world
 pub record MayGoOn (p : DProblem) (x : Spot) (n : ℕ) : Type 0 where
   pub ready : IsReady p x.history.now x.unread n
-  pub near : IfNear (problem_of p) x.history.now x.near.now
+  pub near : Each (IsNear (problem_of p) x.history.now) x.near.now
 
 -- what is taken along is so
 pub record AreSo (p : Problem) (x : Notes) : Type 0 where

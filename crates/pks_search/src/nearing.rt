@@ -1,60 +1,84 @@
-//! The witness along a search: a world that may be the present one, or none.
-ghost use Rattle.std.specs.Prelude.{◌≡◌, None, IfOk, IfSome};
+//! The witnesses along a search: worlds that may be the present one.
+ghost use Rattle.std.specs.Prelude.{◌≡◌, [], ◌++◌, drop, None, IfOk, IfSome};
+ghost use Rattle.pks_terms.specs.Sets.{Each};
+ghost use Rattle.pks_terms.specs.Problems.{IsCompatible};
 ghost use Rattle.pks_terms.specs.Knowledge.{grounded, after_action};
 ghost use Rattle.pks_terms.specs.ValidProblems.{IsValidProblem};
 ghost use Rattle.pks_terms.specs.Views.{instance_of, problem_of};
 ghost use Rattle.pks_terms.specs.ChoiceViews.{choice_of, side_of};
+ghost use Rattle.pks_world.specs.Contents.{world_of};
 ghost use Rattle.pks_search_distance.specs.Remembered.{AreItsDeeds};
-ghost use Rattle.pks_search.specs.Near.{IsFirst, Becomes, is_far, is_tight, is_so, is_on};
+ghost use Rattle.pks_search.specs.Near.{IsFirst, ComeFrom, Becomes, IsKept, is_far, is_tight, is_so};
 ghost use Rattle.pks_search_witness.specs.Near.{world_in, IsCounted};
 
 use pks_search_distance::Deeds;
-use pks_search_witness::{Witness, witness_of};
+use pks_search_witness::{Witness, witnesses_of};
 use pks_terms::choices::{Choice, Side};
 use pks_terms::problem::Problem;
 use pks_terms::schema::Instance;
+use pks_world::World;
 use std::alloc::{AllocError, Global};
 
 /// The most that a bound is counted to at the start.
 const MOST: u32 = 17;
 
-/// What a search begins with: a witness, or none, and the ground actions by which its bounds are counted.
+/// What a search begins with: witnesses, or none, and the ground actions by which their bounds are counted.
 #[derive(Drop)]
 pub(crate) struct Start {
-    pub(crate) near: Option<Witness>,
+    pub(crate) near: Vec<Witness>,
     pub(crate) deeds: Option<Deeds>,
 }
 
 impl Start {
     /// Without a witness.
-    fn nowhere() -> Start
-        ensures near { result.near ≡ None }
+    fn nowhere(alloc: Global) -> Start
+        ensures near { result.near.items ≡ [] }
         ensures deeds { result.deeds ≡ None }
     {
         Start {
-            near: None,
+            near: Vec::new(alloc),
             deeds: None,
         }
     }
 
-    /// With the witness that was found quickly, if one was, and the ground actions are not too many.
+    /// With the witnesses that were found quickly, if some were, and the ground actions are not too many.
     pub(crate) fn of(alloc: Global, p: &Problem<'_>) -> Result<Start, AllocError>
         requires { IsValidProblem p.now }
-        ensures near { IfOk result (λ x. IfSome x.near (IsFirst (problem_of p.now))) }
+        ensures near { IfOk result (λ x. Each (IsFirst (problem_of p.now)) x.near.items) }
         ensures deeds { IfOk result (λ x. IfSome x.deeds (AreItsDeeds (problem_of p.now))) }
     {
-        let Some(world) = witness_of(alloc, p)? else {
-            return Ok(Start::nowhere());
-        };
+        let worlds = witnesses_of(alloc, p)?;
+        if worlds.is_empty() {
+            return Ok(Start::nowhere(alloc));
+        }
         let Some(mut deeds) = Deeds::of(alloc, p)? else {
-            return Ok(Start::nowhere());
+            return Ok(Start::nowhere(alloc));
         };
-        let first = Witness::of(alloc, p, &mut deeds, world, MOST)?;
+        let near = counted(alloc, p, &mut deeds, worlds)?;
         Ok(Start {
-            near: Some(first),
+            near,
             deeds: Some(deeds),
         })
     }
+}
+
+/// The worlds with their bounds.
+fn counted(
+    alloc: Global,
+    p: &Problem<'_>,
+    deeds: &mut Deeds,
+    worlds: Vec<World>,
+) -> Result<Vec<Witness>, AllocError>
+    requires compatible { Each (λ w. IsCompatible (problem_of p.now) (world_of w)) worlds.items }
+    requires deeds { AreItsDeeds (problem_of p.now) deeds.old }
+    ensures first { IfOk result (λ xs. Each (IsFirst (problem_of p.now)) xs.items) }
+    ensures deeds { AreItsDeeds (problem_of p.now) deeds.new }
+{
+    let mut near = Vec::new(alloc);
+    for world in worlds {
+        near.push(Witness::of(alloc, p, deeds, world, MOST)?)?;
+    }
+    Ok(near)
 }
 
 /// The witness after the action: the same, where the action leaves its world as it is, and else one whose bound is counted as
@@ -82,43 +106,89 @@ fn after(
     Ok(next)
 }
 
-/// The witness after the action, where there is one.
+/// What the witnesses become by the action, up to the first that is more than `room` actions away from the goal.
+fn all_after(
+    alloc: Global,
+    p: &Problem<'_>,
+    near: &[Witness],
+    deeds: &mut Deeds,
+    step: &Instance,
+    room: u32,
+) -> Result<Vec<Witness>, AllocError>
+    requires valid { IsValidProblem p.now }
+    requires counted { Each (IsCounted (problem_of p.now)) near.now }
+    requires deeds { AreItsDeeds (problem_of p.now) deeds.old }
+    ensures becomes { IfOk result (λ ys. ComeFrom (Becomes (problem_of p.now) (instance_of step.now)) near.now ys.items) }
+    ensures deeds { AreItsDeeds (problem_of p.now) deeds.new }
+{
+    let mut next = Vec::new(alloc);
+    for x in near {
+        let y = after(alloc, p, x, deeds, step, room)?;
+        let is_far = y.is_beyond(room);
+        next.push(y)?;
+        if is_far {
+            return Ok(next);
+        }
+    }
+    Ok(next)
+}
+
+/// The same where bounds are counted, and else none.
 pub(crate) fn near_after(
     alloc: Global,
     p: &Problem<'_>,
-    near: &Option<Witness>,
+    near: &[Witness],
     deeds: &mut Option<Deeds>,
     step: &Instance,
     room: u32,
-) -> Result<Option<Witness>, AllocError>
+) -> Result<Vec<Witness>, AllocError>
     requires valid { IsValidProblem p.now }
-    requires counted { IfSome near.now (IsCounted (problem_of p.now)) }
+    requires counted { Each (IsCounted (problem_of p.now)) near.now }
     requires deeds { IfSome deeds.old (AreItsDeeds (problem_of p.now)) }
-    ensures becomes { IfOk result (Becomes (problem_of p.now) (instance_of step.now) near.now) }
+    ensures becomes { IfOk result (λ ys. ComeFrom (Becomes (problem_of p.now) (instance_of step.now)) near.now ys.items) }
     ensures deeds { IfSome deeds.new (AreItsDeeds (problem_of p.now)) }
 {
-    let Some(x) = near else {
-        return Ok(None);
-    };
     let Some(all) = deeds else {
-        return Ok(None);
+        return Ok(Vec::new(alloc));
     };
-    let next = after(alloc, p, x, all, step, room)?;
-    Ok(Some(next))
+    let next = all_after(alloc, p, near, all, step, room)?;
+    Ok(next)
 }
 
-/// Whether the goal is more than `n` actions away from the witness.
-pub(crate) fn is_beyond(near: &Option<Witness>, n: u32) -> bool
-    ensures { result ≡ is_far near.now n }
+/// All but the first.
+pub(crate) fn others_of(near: &[Witness]) -> &[Witness]
+    ensures { result.now ≡ drop 1 near.now }
 {
     match near {
-        Some(x) => x.is_beyond(n),
-        None => false,
+        [] => near,
+        [_first, others @ ..] => others,
     }
 }
 
-/// Whether the goal is `n` actions away from the witness or more.
-pub(crate) fn is_tight(near: &Option<Witness>, n: u32) -> bool
+/// The former and then the latter.
+pub(crate) fn joined(first: Vec<Witness>, others: Vec<Witness>) -> Result<Vec<Witness>, AllocError>
+    ensures { IfOk result (λ all. all.items ≡ first.items ++ others.items) }
+{
+    let mut all = first;
+    let mut others = others;
+    all.append(&mut others)?;
+    Ok(all)
+}
+
+/// Whether the goal is more than `n` actions away from some witness.
+pub(crate) fn is_beyond(near: &[Witness], n: u32) -> bool
+    ensures { result ≡ is_far near.now n }
+{
+    for x in near {
+        if x.is_beyond(n) {
+            return true;
+        }
+    }
+    false
+}
+
+/// Whether the goal is `n` actions away from some witness or more.
+pub(crate) fn is_tight(near: &[Witness], n: u32) -> bool
     ensures { result ≡ is_tight near.now n }
 {
     n == 0 || is_beyond(near, n - 1)
@@ -142,12 +212,28 @@ fn is_so(x: &Witness, c: &Choice, side: Side) -> bool
     }
 }
 
-/// Whether there is a witness, and it is on the side.
-pub(crate) fn is_on(near: &Option<Witness>, c: &Choice, side: Side) -> bool
-    ensures { result ≡ is_on near.now (choice_of c.now) (side_of side) }
-{
+/// Whether there is a witness, and the first is on the side.
+pub(crate) fn is_first_on(near: &[Witness], c: &Choice, side: Side) -> bool {
     match near {
-        Some(x) => is_so(x, c, side),
-        None => false,
+        [] => false,
+        [x, ..] => is_so(x, c, side),
     }
+}
+
+/// The witnesses that are on the side.
+pub(crate) fn on_side(
+    alloc: Global,
+    near: &[Witness],
+    c: &Choice,
+    side: Side,
+) -> Result<Vec<Witness>, AllocError>
+    ensures { IfOk result (λ ys. ComeFrom (IsKept (choice_of c.now) (side_of side)) near.now ys.items) }
+{
+    let mut on = Vec::new(alloc);
+    for x in near {
+        if is_so(x, c, side) {
+            on.push(x.share()?)?;
+        }
+    }
+    Ok(on)
 }

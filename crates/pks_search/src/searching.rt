@@ -107,7 +107,7 @@ fn best_of_all(
     let spot = Spot {
         history: &h,
         unread: 0,
-        near: &near,
+        near: near.as_slice(),
     };
     best_rising(alloc, p, &spot, 0, u32::from(depth), 16 * 9_999, &mut notes)
 }

@@ -17,12 +17,12 @@ use pks_search_witness::Witness;
 use pks_terms::problem::Problem;
 use std::alloc::{AllocError, Global};
 
-/// Where a search is: at a history, of whose steps all but the last `unread` bring nothing new, with a witness or none.
+/// Where a search is: at a history, of whose steps all but the last `unread` bring nothing new, with witnesses or none.
 #[derive(Clone, Copy)]
 pub(crate) struct Spot<'s> {
     pub(crate) history: &'s History,
     pub(crate) unread: u32,
-    pub(crate) near: &'s Option<Witness>,
+    pub(crate) near: &'s [Witness],
 }
 
 /// What a search takes along: the ground actions by which bounds are counted, or none, and the failures that it met.

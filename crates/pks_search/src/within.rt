@@ -12,10 +12,10 @@ ghost use Rattle.pks_laws.specs.OfSignature.{IsSideOf};
 ghost use Rattle.pks_plan.specs.TreeViews.{tree_of, chain_of};
 ghost use Rattle.pks_terms.specs.ChoiceViews.{choice_of, side_of};
 ghost use Rattle.pks_search.specs.Limits.{IsBestWithin, IsCheapBy, IsBestAfter, IsBestTaking, AreBestCheapCases};
-ghost use Rattle.pks_search.specs.Near.{IfNearAfter};
+ghost use Rattle.pks_search.specs.Near.{AreNearAfter};
 ghost use Rattle.pks_search.specs.Spots.{MayGoOn, AreSo};
 
-use crate::nearing::{is_beyond, is_on, is_tight, near_after};
+use crate::nearing::{is_beyond, is_first_on, is_tight, joined, near_after, on_side, others_of};
 use crate::parts::{act, branch, cases};
 use crate::spots::{Notes, Spot, last_fails, left_of};
 use pks_branch::assuming::assume;
@@ -34,7 +34,7 @@ use pks_terms::ids::ObjId;
 use pks_terms::literal::Conj;
 use pks_terms::problem::Problem;
 use pks_terms::schema::Instance;
-use pks_terms::term::Term;
+use pks_terms::term::{Term, front};
 use std::alloc::{AllocError, Global};
 
 /// The best tree that is derived at the history, no deeper than `n`, and costs at most `limit`; `None` where there is none.
@@ -206,11 +206,11 @@ fn best_by_action(
         return Ok(None);
     }
     let room = n.min(limit - own);
-    let after = near_after(alloc, p, spot.near, &mut notes.deeds, step, room)?;
-    if is_beyond(&after, room) {
+    let first = near_after(alloc, p, front(spot.near, 1), &mut notes.deeds, step, room)?;
+    if is_beyond(first.as_slice(), room) {
         return Ok(None);
     }
-    let tight = is_tight(&after, room);
+    let tight = is_tight(first.as_slice(), room);
     let barren = last_fails(
         alloc,
         p,
@@ -223,11 +223,11 @@ fn best_by_action(
     if barren {
         return Ok(None);
     }
-    let next = best_after(alloc, p, spot, n, limit - own, step, &after, notes)?;
+    let next = best_after(alloc, p, spot, n, limit - own, step, first, notes)?;
     act(alloc, *step, next)
 }
 
-/// The best tree after the action.
+/// The best tree after the action, with what the first witness becomes by it: the others are asked before the search goes on.
 #[cycle(searching)]
 fn best_after(
     alloc: Global,
@@ -236,24 +236,27 @@ fn best_after(
     n: u32,
     limit: u32,
     step: &Instance,
-    after: &Option<Witness>,
+    first: Vec<Witness>,
     notes: &mut Notes,
 ) -> Result<Option<Tree>, AllocError>
     requires spot { MayGoOn p.now spot.now (n + 1) }
     requires chosen { IsIn (instance_of step.now) (instances (problem_of p.now) (last_moment spot.now.history.now)) }
     requires notes { AreSo (problem_of p.now) notes.now }
-    requires near { IfNearAfter (problem_of p.now) spot.now.history.now (instance_of step.now) after.now }
+    requires near { AreNearAfter (problem_of p.now) spot.now.history.now (instance_of step.now) first.items }
     ensures best { IfOk result (λ o. IsBestAfter (problem_of p.now) spot.now.history.now (instance_of step.now) n limit (option_map tree_of o)) }
     ensures notes { AreSo (problem_of p.now) notes.new }
 {
     match progress(alloc, p, spot.history.last(), step)? {
         Step::Clash(_) => Ok(Some(Tree::Impossible)),
         Step::Next(d) => {
+            let room = n.min(limit);
+            let others = near_after(alloc, p, others_of(spot.near), &mut notes.deeds, step, room)?;
+            let after = joined(first, others)?;
             let longer = spot.history.push(alloc, *step, d)?;
             let later = Spot {
                 history: &longer,
                 unread: spot.unread + 1,
-                near: after,
+                near: after.as_slice(),
             };
             best_within(alloc, p, &later, n, limit, notes)
         }
@@ -261,7 +264,7 @@ fn best_after(
 }
 
 /// The best tree with the branch at its root. Where the side that is searched first has no tree, the other
-/// isn't searched; that is the true side, unless the witness is on the false one.
+/// isn't searched; that is the true side, unless the first witness is on the false one.
 #[cycle(searching)]
 fn best_by_branch(
     alloc: Global,
@@ -286,7 +289,7 @@ fn best_by_branch(
         return Ok(None);
     }
     let c = Choice::Branch(*test);
-    if is_on(spot.near, &c, Side::False) {
+    if is_first_on(spot.near, &c, Side::False) {
         return best_from_false(alloc, p, spot, n, limit, test, notes);
     }
     let Some(yes) = best_taking(alloc, p, spot, n, limit - 1, &c, Side::True, notes)? else {
@@ -429,22 +432,13 @@ fn best_taking(
         Step::Next(d) => match settle_after(alloc, p, spot.history, d, spot.unread)? {
             Settled::Clash => Ok(Some(Tree::Impossible)),
             Settled::Whole(settled) => {
-                if is_on(spot.near, c, side) {
-                    let there = Spot {
-                        history: &settled,
-                        unread: 0,
-                        near: spot.near,
-                    };
-                    best_within(alloc, p, &there, n, limit, notes)
-                } else {
-                    let nowhere = None;
-                    let there = Spot {
-                        history: &settled,
-                        unread: 0,
-                        near: &nowhere,
-                    };
-                    best_within(alloc, p, &there, n, limit, notes)
-                }
+                let on = on_side(alloc, spot.near, c, side)?;
+                let there = Spot {
+                    history: &settled,
+                    unread: 0,
+                    near: on.as_slice(),
+                };
+                best_within(alloc, p, &there, n, limit, notes)
             }
         },
     }

@@ -8,5 +8,5 @@ mod puttings;
 mod typing;
 mod witness;
 
-pub use making::witness_of;
+pub use making::witnesses_of;
 pub use witness::Witness;

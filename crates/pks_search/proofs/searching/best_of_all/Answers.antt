@@ -1,10 +1,12 @@
-use Rattle.std.proofs.Common.{◌≤◌, option_map, arith}
+use Rattle.std.proofs.Common.{◌≤◌, option_map, sym, subst, arith}
 use Rattle.std.proofs.lemmas.Result.{IfOk-weaker}
+use Rattle.pks_terms.specs.Sets.{Each}
 use Rattle.pks_terms.specs.Settling.{At}
 use Rattle.pks_terms.specs.Trees.{IsBestAt, IsBest}
 use Rattle.pks_terms.specs.Views.{problem_of}
 use Rattle.pks_query_lookup.specs.Fives.{five_of}
 use Rattle.pks_plan.specs.TreeViews.{tree_of}
+use Rattle.pks_search.specs.Near.{IsNear}
 use Rattle.pks_search.proofs.Deepening.{limit_first}
 use Rattle.pks_search.proofs.Starting.{start_ready, start_best}
 use Rattle.pks_search.proofs.Witnessed.{first_near}
@@ -16,7 +18,7 @@ best_rising-requires-clause-spot c =
     let few : c.from.result ≤ 16 = omega (arith, c.from.ensures, c.requires.depth) in
     record {
       ready = start_ready c.args.p.now (five_of c.args.start) c.in_ok-h.h c.from.result c.requires.valid c.requires.justified c.requires.start c.in_ok-h.ensures few;
-      near = first_near p (five_of c.args.start) c.in_ok-h.h c.in_ok-first.first.near c.requires.start c.in_ok-h.ensures c.in_ok-first.ensures.near;
+      near = subst (Each (IsNear p c.in_ok-h.h)) (sym c.as_slice.ensures.value) (first_near p (five_of c.args.start) c.in_ok-h.h c.in_ok-first.first.near.items c.requires.start c.in_ok-h.ensures c.in_ok-first.ensures.near);
     }
 
 pub best_rising-requires-clause-notes : goal.best_rising-requires-clause-notes

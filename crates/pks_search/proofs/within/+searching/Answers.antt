@@ -29,12 +29,12 @@ use Rattle.pks_search.proofs.Looping.{in_rest, less_before, shorter, first_and_o
 use Rattle.pks_search.proofs.Readiness.{ready_last, ready_acted, ready_taken, chosen_action, chosen_branch, chosen_cases, few_left, left_in_range}
 use Rattle.pks_search.proofs.Children.{after_clash, after_next, taking_clash, taking_next, takes, found_act, found_branch, no_true_side, no_false_side, some_limit, found_cases, chain_found, chain_no_first, chain_no_rest, chain_empty, acted}
 use Rattle.pks_search.proofs.LettingGo.{rest_ready, rest_unmet, best_of_rest}
-use Rattle.pks_search.specs.Near.{IfNear, IfNearAfter, is_far, is_tight}
+use Rattle.pks_search.specs.Near.{IsNear, AreNearAfter, is_far, is_tight}
 use Rattle.pks_search.specs.Spots.{MayGoOn}
 use Rattle.pks_search.specs.Straight.{HasTreesWithin, LastFails}
 use Rattle.pks_search.proofs.Straight.{none_straight}
 use Rattle.pks_laws.proofs.Validity.{valid_typed}
-use Rattle.pks_search.proofs.Witnessed.{near_counted, left_near, acted_near, taken_near, none_near, none_branching, none_splitting, none_acting}
+use Rattle.pks_search.proofs.Witnessed.{each_first, each_other, near_counted, left_near, acted_near, joined_near, taken_near, none_near, none_branching, none_splitting, none_acting}
 use Rattle.pks_search.proofs.within.+searching.Goals as goal
 use Rattle.pks_search.proofs.within.+searching.Goals.{best_within-then-n-eq0-via-then-n-eq0, best_within-then-n-eq0-via-else-n-eq0+then-limit-eq0}
 
@@ -54,10 +54,19 @@ best_after-best_within-requires t c =
     let i = instance_of c.args.step.now in
     let h = c.args.spot.now.history.now in
     let progress = acted p h i (five_of c.last.result.now) (five_of c.in-Next.d) (outcome_of c.in_ok-progress.field-0) c.last.ensures (ap outcome_of c.in-Next.is) c.in_ok-progress.ensures.progress in
-    let near = c.requires.near (pushed h i (five_of c.in-Next.d)) (record { outcome = Next (five_of c.in-Next.d); progress = progress; gives = refl }) in
+    let r = c.requires.spot.ready in
+    let k = each_other (IsNear p h) c.args.spot.now.near.now c.others_of.result.now c.others_of.ensures c.requires.spot.near in
+    let all = joined_near p r.justified (valid_typed p r.valid.says) h i c.others_of.result.now c.args.first.items c.in_ok-others-in-Next.others.items c.in_ok-after-in-Next.after.items c.requires.chosen k c.requires.near c.in_ok-others-in-Next.ensures.becomes c.in_ok-after-in-Next.ensures in
+    let near = all (pushed h i (five_of c.in-Next.d)) (record { outcome = Next (five_of c.in-Next.d); progress = progress; gives = refl }) in
     let ready = ready_acted c.args.p.now h c.args.spot.now.unread c.args.n i (five_of c.in-Next.d) c.requires.spot.ready c.requires.chosen progress in
     let same = sym c.in_ok-longer-in-Next.ensures in
-    (less, (record { ready = subst (λ g. IsReady c.args.p.now g (c.args.spot.now.unread + 1) c.args.n) same ready; near = subst (λ g. IfNear p g c.args.after.now) same near }, c.requires.notes))
+    (less, (record { ready = subst (λ g. IsReady c.args.p.now g (c.args.spot.now.unread + 1) c.args.n) same ready; near = subst (Each (IsNear p c.in_ok-longer-in-Next.longer)) (sym c.as_slice.ensures.value) (subst (λ g. Each (IsNear p g) c.in_ok-after-in-Next.after.items) same near) }, record { deeds = c.in_ok-others-in-Next.ensures.deeds; failures = c.requires.notes.failures }))
+
+pub best_after-near_after-requires-clause-counted : goal.best_after-near_after-requires-clause-counted
+best_after-near_after-requires-clause-counted t c =
+    let p = problem_of c.args.p.now in
+    let h = c.args.spot.now.history.now in
+    near_counted p h c.others_of.result.now (each_other (IsNear p h) c.args.spot.now.near.now c.others_of.result.now c.others_of.ensures c.requires.spot.near)
 
 pub best_after-returns-in_ok-longer-in-Next-clause-best : goal.best_after-returns-in_ok-longer-in-Next-clause-best
 best_after-returns-in_ok-longer-in-Next-clause-best t c =
@@ -308,22 +317,15 @@ pub best_taking-best_within-requires : goal.best_taking-best_within-requires
 best_taking-best_within-requires t c =
     let p = problem_of c.args.p.now in
     let r = c.requires.spot.ready in
+    let h = c.args.spot.now.history.now in
     let less : c.args.n * 32 + 2 < t = omega (arith, c.decreases) in
-    let settles = subst (λ x. Settles p (with_last c.args.spot.now.history.now (five_of c.in-Next.d)) (state_of x)) c.in-Whole.is c.in_ok-settle_after-in-Next.ensures.settles in
+    let settles = subst (λ x. Settles p (with_last h (five_of c.in-Next.d)) (state_of x)) c.in-Whole.is c.in_ok-settle_after-in-Next.ensures.settles in
     let moments = subst (λ x. IfAt (AreMomentsOf p) (state_of x)) c.in-Whole.is c.in_ok-settle_after-in-Next.ensures.moments in
     let read = subst (λ x. IfAt (IsReadBut p 0) (state_of x)) c.in-Whole.is c.in_ok-settle_after-in-Next.ensures.read in
-    let takes = takes p c.args.spot.now.history.now (choice_of c.args.c.now) (side_of c.args.side) (five_of c.last.result.now) (five_of c.in-Next.d) (outcome_of c.in_ok-assume.field-0) (At c.in-Whole.settled) c.last.ensures (ap outcome_of c.in-Next.is) c.in_ok-assume.ensures.assumes settles in
-    let near = taken_near p r.justified (valid_typed p r.valid.says) c.args.spot.now.history.now (choice_of c.args.c.now) (side_of c.args.side) c.in-Whole.settled c.args.spot.now.near.now c.requires.member (sym c.is_on.ensures ∙ c.if-is_on.true) takes c.requires.spot.near in
-    (less, (record { ready = ready_taken c.args.p.now c.args.spot.now.history.now c.in-Whole.settled c.args.spot.now.unread c.args.n (five_of c.in-Next.d) r settles moments read; near = near }, c.requires.notes))
-
-pub best_taking-best_within-requires-else-is_on : goal.best_taking-best_within-requires-else-is_on
-best_taking-best_within-requires-else-is_on t c =
-    let p = problem_of c.args.p.now in
-    let less : c.args.n * 32 + 2 < t = omega (arith, c.decreases) in
-    let settles = subst (λ x. Settles p (with_last c.args.spot.now.history.now (five_of c.in-Next.d)) (state_of x)) c.in-Whole.is c.in_ok-settle_after-in-Next.ensures.settles in
-    let moments = subst (λ x. IfAt (AreMomentsOf p) (state_of x)) c.in-Whole.is c.in_ok-settle_after-in-Next.ensures.moments in
-    let read = subst (λ x. IfAt (IsReadBut p 0) (state_of x)) c.in-Whole.is c.in_ok-settle_after-in-Next.ensures.read in
-    (less, (record { ready = ready_taken c.args.p.now c.args.spot.now.history.now c.in-Whole.settled c.args.spot.now.unread c.args.n (five_of c.in-Next.d) c.requires.spot.ready settles moments read; near = tt }, c.requires.notes))
+    let takes = takes p h (choice_of c.args.c.now) (side_of c.args.side) (five_of c.last.result.now) (five_of c.in-Next.d) (outcome_of c.in_ok-assume.field-0) (At c.in-Whole.settled) c.last.ensures (ap outcome_of c.in-Next.is) c.in_ok-assume.ensures.assumes settles in
+    let near = taken_near p r.justified (valid_typed p r.valid.says) h (choice_of c.args.c.now) (side_of c.args.side) c.in-Whole.settled c.args.spot.now.near.now c.in_ok-on-in-Whole.on.items c.requires.member takes c.requires.spot.near c.in_ok-on-in-Whole.ensures in
+    let ready = ready_taken c.args.p.now h c.in-Whole.settled c.args.spot.now.unread c.args.n (five_of c.in-Next.d) r settles moments read in
+    (less, (record { ready = ready; near = subst (Each (IsNear p c.in-Whole.settled)) (sym c.as_slice.ensures.value) near }, c.requires.notes))
 
 pub best_taking-returns-in-Clash-clause-best : goal.best_taking-returns-in-Clash-clause-best
 best_taking-returns-in-Clash-clause-best t c =
@@ -335,8 +337,8 @@ best_taking-returns-in-Clash-2-clause-best t c =
     taking_next p c.args.spot.now.history.now c.args.n c.args.limit (choice_of c.args.c.now) (side_of c.args.side) (five_of c.last.result.now) (five_of c.in-Next.d) (outcome_of c.in_ok-assume.field-0) (state_of c.in_ok-settle_after-in-Next.field-0) Stopped (Some Impossible)
     c.last.ensures (ap outcome_of c.in-Next.is) c.in_ok-assume.ensures.assumes c.in_ok-settle_after-in-Next.ensures.settles (ap state_of c.in-Clash-2.is) (cheap_stopped p c.args.n c.args.limit)
 
-pub best_taking-returns-then-is_on-clause-best : goal.best_taking-returns-then-is_on-clause-best
-best_taking-returns-then-is_on-clause-best t c =
+pub best_taking-returns-in_ok-on-in-Whole-clause-best : goal.best_taking-returns-in_ok-on-in-Whole-clause-best
+best_taking-returns-in_ok-on-in-Whole-clause-best t c =
     let p = problem_of c.args.p.now in
     let choice = choice_of c.args.c.now in
     let side = side_of c.args.side in
@@ -344,16 +346,6 @@ best_taking-returns-then-is_on-clause-best t c =
     (λ o b. taking_next p c.args.spot.now.history.now c.args.n c.args.limit choice side (five_of c.last.result.now) (five_of c.in-Next.d) (outcome_of c.in_ok-assume.field-0) (state_of c.in_ok-settle_after-in-Next.field-0) (At c.in-Whole.settled) (option_map tree_of o)
     c.last.ensures (ap outcome_of c.in-Next.is) c.in_ok-assume.ensures.assumes c.in_ok-settle_after-in-Next.ensures.settles (ap state_of c.in-Whole.is) b)
     c.best_within.ensures.best
-
-pub best_taking-returns-clause-best : goal.best_taking-returns-clause-best
-best_taking-returns-clause-best t c =
-    let p = problem_of c.args.p.now in
-    let choice = choice_of c.args.c.now in
-    let side = side_of c.args.side in
-    IfOk-weaker c.best_within-else-is_on.result (λ o. IsBestWithin p (At c.in-Whole.settled) c.args.n c.args.limit (option_map tree_of o)) (λ o. IsBestTaking p c.args.spot.now.history.now choice side c.args.n c.args.limit (option_map tree_of o))
-    (λ o b. taking_next p c.args.spot.now.history.now c.args.n c.args.limit choice side (five_of c.last.result.now) (five_of c.in-Next.d) (outcome_of c.in_ok-assume.field-0) (state_of c.in_ok-settle_after-in-Next.field-0) (At c.in-Whole.settled) (option_map tree_of o)
-    c.last.ensures (ap outcome_of c.in-Next.is) c.in_ok-assume.ensures.assumes c.in_ok-settle_after-in-Next.ensures.settles (ap state_of c.in-Whole.is) b)
-    c.best_within-else-is_on.ensures.best
 
 -- ---- at a history
 
@@ -377,15 +369,21 @@ best_within-returns-then-is_beyond-clause-best t c =
     none_near p r.justified (valid_typed p r.valid.says) c.args.spot.now.history.now r.valid.says c.args.spot.now.near.now c.args.n c.args.limit c.requires.spot.near far
 
 pub best_by_action-near_after-requires-clause-counted : goal.best_by_action-near_after-requires-clause-counted
-best_by_action-near_after-requires-clause-counted t c = near_counted (problem_of c.args.p.now) c.args.spot.now.history.now c.args.spot.now.near.now c.requires.spot.near
+best_by_action-near_after-requires-clause-counted t c =
+    let p = problem_of c.args.p.now in
+    let h = c.args.spot.now.history.now in
+    near_counted p h c.front.result.now (each_first (IsNear p h) c.args.spot.now.near.now c.front.result.now c.front.ensures c.requires.spot.near)
 
 pub best_by_action-returns-then-is_beyond-clause-best : goal.best_by_action-returns-then-is_beyond-clause-best
 best_by_action-returns-then-is_beyond-clause-best t c =
     let p = problem_of c.args.p.now in
     let r = c.requires.spot.ready in
-    let far : is_far c.in_ok-after.after (min c.args.n (c.args.limit - c.action_cost-own.result)) ≡ true = sym (c.is_beyond.ensures ∙ ap (is_far c.in_ok-after.after) c.min-room.ensures) ∙ c.if-is_beyond.true in
-    none_acting p r.justified (valid_typed p r.valid.says) r.valid.says c.args.spot.now.history.now (instance_of c.args.step.now) c.args.spot.now.near.now c.in_ok-after.after c.args.n c.args.limit c.action_cost-own.result
-    c.requires.chosen c.requires.spot.near c.in_ok-after.ensures.becomes far c.action_cost-own.ensures c.if-limit-own.false
+    let h = c.args.spot.now.history.now in
+    let first = c.in_ok-first.first.items in
+    let k = each_first (IsNear p h) c.args.spot.now.near.now c.front.result.now c.front.ensures c.requires.spot.near in
+    let far : is_far first (min c.args.n (c.args.limit - c.action_cost-own.result)) ≡ true = sym (c.is_beyond.ensures ∙ (ap (λ xs. is_far xs c.min-room.result) c.as_slice.ensures.value ∙ ap (is_far first) c.min-room.ensures)) ∙ c.if-is_beyond.true in
+    none_acting p r.justified (valid_typed p r.valid.says) r.valid.says h (instance_of c.args.step.now) c.front.result.now first c.args.n c.args.limit c.action_cost-own.result
+    c.requires.chosen k c.in_ok-first.ensures.becomes far c.action_cost-own.ensures c.if-limit-own.false
 
 pub best_by_action-returns-then-barren-clause-best : goal.best_by_action-returns-then-barren-clause-best
 best_by_action-returns-then-barren-clause-best t c =
@@ -393,20 +391,23 @@ best_by_action-returns-then-barren-clause-best t c =
     let r = c.requires.spot.ready in
     let h = c.args.spot.now.history.now in
     let i = instance_of c.args.step.now in
-    let after = c.in_ok-after.after in
+    let first = c.in_ok-first.first.items in
     let s = valid_typed p r.valid.says in
-    let near : IfNearAfter p h i after = acted_near p r.justified s h i c.args.spot.now.near.now after c.requires.chosen c.requires.spot.near c.in_ok-after.ensures.becomes in
+    let k = each_first (IsNear p h) c.args.spot.now.near.now c.front.result.now c.front.ensures c.requires.spot.near in
+    let near : AreNearAfter p h i first = acted_near p r.justified s h i c.front.result.now first c.requires.chosen k c.in_ok-first.ensures.becomes in
     let fails : LastFails p h c.is_tight-tight.result (c.args.n + 1) c.args.limit = c.in_ok-barren.ensures.fails c.if-barren.true in
-    let tight : is_tight after (min c.args.n (c.args.limit - c.action_cost-own.result)) ≡ true = sym (c.is_tight-tight.ensures ∙ ap (is_tight after) c.min-room.ensures) ∙ fails.tight_is in
-    none_straight p r.justified s r.valid.says fails.plain h i after c.args.n c.args.limit c.action_cost-own.result near tight fails.none c.action_cost-own.ensures c.if-limit-own.false
+    let tight : is_tight first (min c.args.n (c.args.limit - c.action_cost-own.result)) ≡ true = sym (c.is_tight-tight.ensures ∙ (ap (λ xs. is_tight xs c.min-room.result) c.as_slice-2.ensures.value ∙ ap (is_tight first) c.min-room.ensures)) ∙ fails.tight_is in
+    none_straight p r.justified s r.valid.says fails.plain h i first c.args.n c.args.limit c.action_cost-own.result near tight fails.none c.action_cost-own.ensures c.if-limit-own.false
 
 pub best_by_action-best_after-requires : goal.best_by_action-best_after-requires
 best_by_action-best_after-requires t c =
     let p = problem_of c.args.p.now in
     let r = c.requires.spot.ready in
+    let h = c.args.spot.now.history.now in
     let less : c.args.n * 32 + 3 < t = omega (arith, c.decreases) in
-    let near = acted_near p r.justified (valid_typed p r.valid.says) c.args.spot.now.history.now (instance_of c.args.step.now) c.args.spot.now.near.now c.in_ok-after.after c.requires.chosen c.requires.spot.near c.in_ok-after.ensures.becomes in
-    (less, (c.requires.spot, (c.requires.chosen, (record { deeds = c.in_ok-after.ensures.deeds; failures = c.in_ok-barren.ensures.right }, near))))
+    let k = each_first (IsNear p h) c.args.spot.now.near.now c.front.result.now c.front.ensures c.requires.spot.near in
+    let near = acted_near p r.justified (valid_typed p r.valid.says) h (instance_of c.args.step.now) c.front.result.now c.in_ok-first.first.items c.requires.chosen k c.in_ok-first.ensures.becomes in
+    (less, (c.requires.spot, (c.requires.chosen, (record { deeds = c.in_ok-first.ensures.deeds; failures = c.in_ok-barren.ensures.right }, near))))
 
 pub best_unmet-best_of_rest-requires : goal.best_unmet-best_of_rest-requires
 best_unmet-best_of_rest-requires t c =
