@@ -39,7 +39,6 @@ fn planned(alloc: Global, p: &Problem<'_>, depth: u8) -> Result<Vec<u8>, AllocEr
 }
 
 /// The same of a problem whose first databases may clash.
-#[tactic(auto, using(crate::proofs::Starting::closes_without_clash))]
 fn planned_from(alloc: Global, p: &Problem<'_>, depth: u8) -> Result<Vec<u8>, Fail>
     requires valid { IsValidProblem p.now }
     requires depth { depth ≤ 16 }
