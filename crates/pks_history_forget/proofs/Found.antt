@@ -2,7 +2,7 @@
 use Rattle.std.proofs.Common.{◌≡◌, List, is_eq}
 use Rattle.std.specs.List.{list_any}
 use Rattle.std.specs.Ordering.{on}
-use Rattle.std.proofs.lemmas.List.Folds.{list_all-append}
+use Rattle.std.proofs.lemmas.List.Folds.{list_all-append, list_any-append}
 use Rattle.pks_terms.specs.declared.literal.Literal.{Literal as DLiteral}
 use Rattle.pks_terms.specs.Orders.{literal_cmp, literal_eq, conj_cmp}
 use Rattle.pks_terms.specs.Databases.{entry_cmp}
@@ -25,3 +25,5 @@ pub is_region_among : (r : DEntry) (rs : List DEntry) → is_member (on entry_of
 is_region_among r rs = is_member-map entry_of entry_cmp r rs
 
 pub ruleset all = (list_all-append)
+
+pub ruleset any = (list_any-append)

@@ -1,5 +1,6 @@
 -- The trees that a history keeps without its first moments, and without its looks.
 use Rattle.std.proofs.Common.{suc, ◌≡◌, ◌↔◌, ◌≤◌, true, false, List, [], ◌∷◌, length, arith, refl, sym, ap, ◌∙◌, subst, inl, inr}
+use Rattle.std.proofs.lemmas.Bool.{and_parts}
 use Rattle.pks_terms.specs.Sets.{Each}
 use Rattle.pks_terms.specs.Databases.{Five}
 use Rattle.pks_terms.specs.Actions.{Instance}
@@ -14,13 +15,15 @@ use Rattle.pks_history.specs.Moments.{IsWithoutFirst}
 use Rattle.pks_laws_forget.specs.Transparent.{AreSetsAlong, with_first}
 use Rattle.pks_laws_forget.specs.Testing.{hides_nothing}
 use Rattle.pks_laws_forget.proofs.Cut.{cut}
+use Rattle.pks_laws_forget.specs.Staying.{aims_stay}
+use Rattle.pks_laws_forget.proofs.Told.{cut_told}
 use Rattle.pks_laws_forget.proofs.Tested.{tested}
 use Rattle.pks_laws_forget.specs.Looks.{IsLook, AreWithout, without_looks}
 use Rattle.pks_laws_forget.proofs.Thinned.{without_none, without_short}
 use Rattle.pks_laws_forget.proofs.TestedLooks.{unlooked_without}
 use Rattle.pks_laws_forget.proofs.TreesWithoutLooks.{moments_without}
 use Rattle.pks_laws_forget.proofs.TreesWithoutLooks as trees
-use Rattle.pks_history_forget.specs.Same.{IsEndOf, EndHasSameTrees, HasSameTrees, first_hides_nothing, unsettled_from, without_settled}
+use Rattle.pks_history_forget.specs.Same.{IsEndOf, EndHasSameTrees, HasSameTrees, first_hides_nothing, unsettled_from, without_settled, may_go, first_may_go, asked_from, without_unasked}
 
 -- all of it is an end
 pub whole_end : (d : Five) (steps : List (Instance × Five)) → IsEndOf d steps (record { start = d; steps = steps })
@@ -82,6 +85,31 @@ module _ (p : Problem) (h rest : History) (w : IsWithoutFirst h rest) where
       let hidden : hides_nothing p h.start w.0 rest.start ≡ true = subst (λ g. first_hides_nothing p g ≡ true) whole hides in
       ap (without_settled p) whole ∙ rw hidden refl
 
+  -- where it leaves what the aims over time ask besides
+  pub rest_told : IsValid p → AreMomentsOf p h → AreSetsAlong h → first_may_go p h ≡ true → EndHasSameTrees p h rest
+  rest_told v m s goes =
+      let both : may_go p h.start w.0 rest.start ≡ true = subst (λ g. first_may_go p g ≡ true) whole goes in
+      let a = and_parts (aims_stay p h.start w.0 rest.start) _ both in
+      record {
+        moments = rest_moments m;
+        short = shorter;
+        end = subst (λ steps. IsEndOf h.start steps rest) (sym w.1) (inr (whole_end rest.start rest.steps));
+        trees = λ t. subst (λ g. Derives p (At g) t ↔ Derives p (At rest) t) (sym whole) (cut_told p h.start w.0 rest t v (subst (AreMomentsOf p) whole m) (subst AreSetsAlong whole s) (tested p h.start w.0 rest.start a.1) a.0);
+      }
+
+  pub goes_on_asked : first_may_go p h ≡ true → without_unasked p h ≡ without_unasked p rest
+  goes_on_asked goes =
+      let both : may_go p h.start w.0 rest.start ≡ true = subst (λ g. first_may_go p g ≡ true) whole goes in
+      ap (without_unasked p) whole ∙ rw both refl
+
+asked_stays_from : (p : Problem) (d : Five) (steps : List (Instance × Five)) → first_may_go p (record { start = d; steps = steps }) ≡ false → asked_from p d steps ≡ record { start = d; steps = steps }
+asked_stays_from p d [] e = refl
+asked_stays_from p d (step ∷ steps) e = rw e refl
+
+-- where there is no first step that may go, the history is left as it is
+pub asked_stays : (p : Problem) (h : History) → first_may_go p h ≡ false → without_unasked p h ≡ h
+asked_stays p h e = asked_stays_from p h.start h.steps e
+
 stays_from : (p : Problem) (d : Five) (steps : List (Instance × Five)) → first_hides_nothing p (record { start = d; steps = steps }) ≡ false → unsettled_from p d steps ≡ record { start = d; steps = steps }
 stays_from p d [] e = refl
 stays_from p d (step ∷ steps) e = rw e refl
@@ -95,6 +123,10 @@ pub same_itself : (p : Problem) (h : History) → AreMomentsOf p h → HasSameTr
 same_itself p h m =
     let short : length h.steps ≤ length h.steps = omega arith in
     record { moments = m; short = short; left = record { steps = h; without = without_none (IsLook p) h.start h.steps; end = whole_end h.start h.steps }; trees = λ t. (λ d. d, λ d. d) }
+
+-- an end of it that has its trees is left of it
+pub same_end : (p : Problem) (h rest : History) → EndHasSameTrees p h rest → HasSameTrees p h rest
+same_end p h rest e = record { moments = e.moments; short = e.short; left = record { steps = h; without = without_none (IsLook p) h.start h.steps; end = e.end }; trees = e.trees }
 
 module _ (p : Problem) (h : History) (m : AreMomentsOf p h) (s : AreSetsAlong h) where
   some_out : AreWithout (IsLook p) h.start h.steps (without_looks p h).start (without_looks p h).steps

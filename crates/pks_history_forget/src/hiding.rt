@@ -5,12 +5,14 @@ ghost use Rattle.std.specs.List.{list_all};
 ghost use Rattle.pks_terms.specs.ValidProblems.{AssignsToPlace, IsValidProblem, ArePlaced};
 ghost use Rattle.pks_terms.specs.Views.{literal_of, effect_of, instance_of, problem_of};
 ghost use Rattle.pks_query_lookup.specs.Fives.{five_of};
-ghost use Rattle.pks_laws_forget.specs.Transparent.{gives_value};
-ghost use Rattle.pks_laws_forget.specs.Testing.{has, fires_surely, is_decided_to, is_decided, hides_nothing};
+ghost use Rattle.pks_laws_forget.specs.Transparent.{is_named, gives_value};
+ghost use Rattle.pks_laws_forget.specs.Testing.{has, fires_surely, is_decided_to, is_decided, stands_written, is_read_alike, hides_nothing};
 
 use crate::effects::{effects_of, fires_never, fires_surely, has, made_by};
 use crate::kept::{groups_last, literals_last, regions_last};
+use crate::normal::in_normal_form;
 use crate::objects::{gives_value, is_of_objects};
+use crate::touching::are_unassigned;
 use pks_query::databases::Db;
 use pks_query_lookup::five::Five;
 use pks_terms::literal::{Atom, Literal};
@@ -65,8 +67,54 @@ fn are_decided(before: &Five, after: &Five, effects: &[Effect]) -> bool
     }
 }
 
-/// Whether the step from the databases before by the instance to those after hides nothing: each effect is decided, and each
-/// literal, group and region before lasts or is surely changed. It asks for a valid problem. The error is want of memory.
+fn is_of_predicate(l: &Literal) -> bool
+    ensures { result ≡ is_named (literal_of l.now).relation }
+{
+    match &l.atom {
+        Atom::Pred(_) => true,
+        Atom::Eq { .. } => false,
+    }
+}
+
+/// Whether the literal is known after, and gives a place an object or is of a predicate, and no function that occurs in it
+/// is assigned.
+fn stands_written(after: &Five, effects: &[Effect], l: &Literal) -> bool
+    ensures { result ≡ stands_written (five_of after.now) (map effect_of effects.now) (literal_of l.now) }
+{
+    has(after, l)
+        && (is_of_place(l)
+            || (is_of_predicate(l) && are_unassigned(effects, l.atom.arguments().terms())))
+}
+
+/// Whether the effect as it is written surely doesn't fire, or what it makes so stands so after.
+fn is_read_alike(before: &Five, after: &Five, effects: &[Effect], e: &Effect) -> bool
+    requires { AssignsToPlace e.now.target }
+    ensures { result ≡ is_read_alike (five_of before.now) (five_of after.now) (map effect_of effects.now) (effect_of e.now) }
+{
+    if fires_never(before, e) {
+        return true;
+    }
+    match made_by(&e.target) {
+        Some(l) => stands_written(after, effects, &l),
+        None => false,
+    }
+}
+
+/// Whether so each of the effects as they are written.
+fn are_read_alike(before: &Five, after: &Five, effects: &[Effect], written: &[Effect]) -> bool
+    requires { ArePlaced written.now }
+    ensures { result ≡ list_all (is_read_alike (five_of before.now) (five_of after.now) (map effect_of effects.now)) (map effect_of written.now) }
+{
+    match written {
+        [] => true,
+        [e, rest @ ..] => {
+            is_read_alike(before, after, effects, e) && are_read_alike(before, after, effects, rest)
+        }
+    }
+}
+
+/// Whether the step from the databases before by the instance to those after hides nothing: each effect, its target in normal
+/// form by the databases before, is decided and read alike as it is written, and each literal, group and region before lasts or is surely changed. It asks for a valid problem. The error is want of memory.
 pub fn hides_nothing(
     alloc: Global,
     p: &Problem<'_>,
@@ -77,11 +125,14 @@ pub fn hides_nothing(
     requires { IsValidProblem p.now }
     ensures { IfOk result (λ b. b ≡ hides_nothing (problem_of p.now) (five_of before.now) (instance_of i.now) (five_of after.now)) }
 {
-    let effects = effects_of(alloc, p, i)?;
+    let written = effects_of(alloc, p, i)?;
+    let known = before.derived();
+    let effects = in_normal_form(alloc, known.normals(), written.as_slice())?;
     let (before, after, effects) = (before.parts(), after.parts(), effects.as_slice());
     Ok(
         are_decided(before, after, effects)
-            && literals_last(before, after, effects)
+            && are_read_alike(before, after, effects, written.as_slice())
+            && literals_last(known, after, effects)
             && groups_last(before, after, effects)
             && regions_last(before, after),
     )

@@ -13,13 +13,15 @@ ghost use Rattle.pks_kx.specs.Groups.{groups_of};
 ghost use Rattle.pks_lcw.specs.Entries.{atoms_of, entry_of, entries_of};
 ghost use Rattle.pks_query_lookup.specs.Fives.{five_of};
 ghost use Rattle.pks_laws_forget.specs.Transparent.{gives_value, left_of, is_elsewhere};
-ghost use Rattle.pks_laws_forget.specs.Testing.{has, are_objects, is_of_objects, is_written, is_assigned, is_untouched, is_kept, lasts_as_group, lasts_as_region};
+ghost use Rattle.pks_laws_forget.specs.Testing.{has, are_objects, is_of_objects, is_written, is_assigned, is_untouched, is_left, is_kept, lasts_as_group, lasts_as_region};
 ghost use Rattle.pks_terms.specs.ValidProblems.{ArePlaced};
 
 use crate::effects::{has, is_assigned, is_written};
+use crate::kept_copies::is_kept_copy;
 use crate::objects::{are_objects, are_of_objects, gives_value, is_object, is_of_objects};
-use crate::touching::{are_elsewhere, are_untouched, is_untouched};
+use crate::touching::{are_elsewhere, are_left, is_untouched};
 use pks_lcw::Entry;
+use pks_query_lookup::derived::Derived;
 use pks_query_lookup::five::Five;
 use pks_terms::group::Group;
 use pks_terms::literal::{Atom, Literal, PredAtom};
@@ -51,21 +53,22 @@ fn is_kept_value(before: &Five, after: &Five, effects: &[Effect], l: &Literal) -
 }
 
 /// Whether the literal lasts or is surely changed.
-pub(crate) fn is_kept(before: &Five, after: &Five, effects: &[Effect], l: &Literal) -> bool
+pub(crate) fn is_kept(before: &Derived, after: &Five, effects: &[Effect], l: &Literal) -> bool
     requires { ArePlaced effects.now }
     ensures { result ≡ is_kept (five_of before.now) (five_of after.now) (map effect_of effects.now) (literal_of l.now) }
 {
-    is_kept_atom(before, after, effects, l)
-        || is_kept_value(before, after, effects, l)
+    is_kept_atom(before.five(), after, effects, l)
+        || is_kept_value(before.five(), after, effects, l)
         || (is_untouched(effects, l) && has(after, l))
+        || is_kept_copy(before, after, effects, l)
 }
 
 /// Whether each known literal lasts or is surely changed.
-pub(crate) fn literals_last(before: &Five, after: &Five, effects: &[Effect]) -> bool
+pub(crate) fn literals_last(before: &Derived, after: &Five, effects: &[Effect]) -> bool
     requires { ArePlaced effects.now }
     ensures { result ≡ list_all (is_kept (five_of before.now) (five_of after.now) (map effect_of effects.now)) (literals_of before.now.kf) }
 {
-    for l in before.kf.items() {
+    for l in before.five().kf.items() {
         if !is_kept(before, after, effects, l) {
             return false;
         }
@@ -104,11 +107,11 @@ fn is_spent(d: &Five, g: &Group) -> bool
     are_spent(d, g.as_slice())
 }
 
-/// Whether the group stands after and none of it is touched.
+/// Whether the group stands after and each effect leaves each of its literals as it is.
 fn stands(after: &Five, effects: &[Effect], g: &Group) -> bool
-    ensures { result ≡ (list_any (λ h. is_eq (conj_cmp (literals_in g.now) h)) (groups_of after.now.kx) && list_all (is_untouched (map effect_of effects.now)) (literals_in g.now)) }
+    ensures { result ≡ (list_any (λ h. is_eq (conj_cmp (literals_in g.now) h)) (groups_of after.now.kx) && list_all (is_left (map effect_of effects.now)) (literals_in g.now)) }
 {
-    has_group(after, g) && are_untouched(effects, g.as_slice())
+    has_group(after, g) && are_left(effects, g.as_slice())
 }
 
 /// Whether the group stands so, or it is known of each of its literals whether it is true.

@@ -5,8 +5,11 @@ pub mod cutting;
 mod effects;
 pub mod hiding;
 mod kept;
+mod kept_copies;
 pub mod looking;
+mod normal;
 mod objects;
+pub mod staying;
 mod touching;
 
 pub use cutting::{are_now, cut};

@@ -5,8 +5,8 @@ ghost use Rattle.pks_terms.specs.Closure.{applications_in, is_application};
 ghost use Rattle.pks_terms.specs.Orders.{number_of};
 ghost use Rattle.pks_terms.specs.Syntax.{Named, are_two_objects, term_of as lifted};
 ghost use Rattle.pks_terms.specs.Views.{inner_of, term_of, terms_of, relation_of, literal_of, literals_in, target_of, effect_of};
-ghost use Rattle.pks_laws_forget.specs.Transparent.{is_about, assigns_in, at_other_objects, is_elsewhere};
-ghost use Rattle.pks_laws_forget.specs.Testing.{is_untouched};
+ghost use Rattle.pks_laws_forget.specs.Transparent.{is_about, assigns_in, at_other_objects, arguments_made, leaves, is_elsewhere};
+ghost use Rattle.pks_laws_forget.specs.Testing.{is_untouched, are_unassigned, is_left};
 
 use pks_terms::ids::PredId;
 use pks_terms::literal::{Atom, Literal};
@@ -24,7 +24,7 @@ fn is_of(pred: PredId, x: &Target) -> bool
 }
 
 /// Whether the target is of the literal's predicate.
-fn is_about(atom: &Atom, x: &Target) -> bool
+pub(crate) fn is_about(atom: &Atom, x: &Target) -> bool
     ensures { result ≡ is_about (relation_of atom.now) (target_of x.now) }
 {
     match atom {
@@ -74,7 +74,7 @@ fn assigns_in_some(ts: &[Term], x: &Target) -> bool
     }
 }
 
-fn leaves(x: &Target, l: &Literal) -> bool
+fn is_untouched_by(x: &Target, l: &Literal) -> bool
     ensures { result ≡ (not (is_about (literal_of l.now).relation (target_of x.now)) && not (list_any (λ t. assigns_in t (target_of x.now)) (literal_of l.now).arguments)) }
 {
     !is_about(&l.atom, x) && !assigns_in_some(l.atom.arguments().terms(), x)
@@ -86,17 +86,78 @@ pub(crate) fn is_untouched(effects: &[Effect], l: &Literal) -> bool
 {
     match effects {
         [] => true,
-        [e, rest @ ..] => leaves(&e.target, l) && is_untouched(rest, l),
+        [e, rest @ ..] => is_untouched_by(&e.target, l) && is_untouched(rest, l),
     }
 }
 
-/// Whether none of the literals is touched so.
-pub(crate) fn are_untouched(effects: &[Effect], ls: &[Literal]) -> bool
-    ensures { result ≡ list_all (is_untouched (map effect_of effects.now)) (literals_in ls.now) }
+/// Whether none of the effects assigns a function that occurs in the terms.
+pub(crate) fn are_unassigned(effects: &[Effect], ts: &[Term]) -> bool
+    ensures { result ≡ are_unassigned (map effect_of effects.now) (terms_of ts.now) }
+{
+    match effects {
+        [] => true,
+        [e, rest @ ..] => !assigns_in_some(ts, &e.target) && are_unassigned(rest, ts),
+    }
+}
+
+/// The arguments of the atom that the target makes true or false.
+fn arguments_made(x: &Target) -> &[Term]
+    ensures { terms_of result.now ≡ arguments_made (target_of x.now) }
+{
+    match x {
+        Target::Set(a) | Target::Unset(a) => front(&a.args, a.n),
+        Target::Clear(_) | Target::Assign { .. } => &[],
+    }
+}
+
+fn are_other_objects(t: &Term, u: &Term) -> bool
+    ensures { result ≡ are_two_objects (term_of t.now) (term_of u.now) }
+{
+    match t {
+        Term::Obj(d) => match u {
+            Term::Obj(e) => d.0 != e.0,
+            Term::Param(_) | Term::App { .. } => false,
+        },
+        Term::Param(_) | Term::App { .. } => false,
+    }
+}
+
+/// Whether at some position the terms are two different objects.
+fn have_other_objects(ts: &[Term], us: &[Term]) -> bool
+    ensures { result ≡ at_other_objects (terms_of ts.now) (terms_of us.now) }
+{
+    match ts {
+        [] => false,
+        [t, ts @ ..] => match us {
+            [] => false,
+            [u, us @ ..] => are_other_objects(t, u) || have_other_objects(ts, us),
+        },
+    }
+}
+
+/// Whether the target is of another predicate than the literal's, or makes an atom at other objects true or false.
+fn leaves(x: &Target, l: &Literal) -> bool
+    ensures { result ≡ leaves (literal_of l.now).relation (literal_of l.now).arguments (target_of x.now) }
+{
+    !is_about(&l.atom, x) || have_other_objects(arguments_made(x), l.atom.arguments().terms())
+}
+
+fn is_left(effects: &[Effect], l: &Literal) -> bool
+    ensures { result ≡ is_left (map effect_of effects.now) (literal_of l.now) }
+{
+    match effects {
+        [] => true,
+        [e, rest @ ..] => leaves(&e.target, l) && is_left(rest, l),
+    }
+}
+
+/// Whether each of the effects leaves each of the literals as it is.
+pub(crate) fn are_left(effects: &[Effect], ls: &[Literal]) -> bool
+    ensures { result ≡ list_all (is_left (map effect_of effects.now)) (literals_in ls.now) }
 {
     match ls {
         [] => true,
-        [l, rest @ ..] => is_untouched(effects, l) && are_untouched(effects, rest),
+        [l, rest @ ..] => is_left(effects, l) && are_left(effects, rest),
     }
 }
 

@@ -17,7 +17,7 @@ use Rattle.pks_terms.specs.Moments.{IsMomentOf, AreMomentsOf}
 use Rattle.pks_terms.specs.Handed.{IsStepOf}
 use Rattle.pks_terms.specs.Problems.{Aim, Now, AtStart, Always, Once, Problem, schema_of}
 use Rattle.pks_terms.specs.Progress.{entry_terms, Progress, progressed}
-use Rattle.pks_terms.specs.Saturated.{Within}
+use Rattle.pks_terms.specs.Saturated.{Within, ClosedAlong}
 use Rattle.pks_terms.specs.Settling.{History, last_of, last_moment, pushed, steps_with_last, with_last, forward, grown, from_next, settled_steps, settle_round, settle_rounds, State, At, Stopped, clashes, tidied_history, Settles}
 use Rattle.pks_terms.specs.Trees.{Tree, Acts, Takes, after_step, SettlesAfter, Derives, IsDerivedWithin, IsBestAt}
 use Rattle.pks_terms.specs.Valid.{IsValid}
@@ -29,10 +29,11 @@ use Rattle.pks_laws.specs.OfSignature.{IsSideOf}
 use Rattle.pks_laws.proofs.Belonging.{end_of}
 use Rattle.pks_laws.proofs.Choosing.{best_same}
 use Rattle.pks_laws.proofs.ClosedAgain.{closed_fine, closed_saturated}
+use Rattle.pks_laws.proofs.SettledEnd.{end_closed}
 use Rattle.pks_laws.proofs.SearchStates.{last_of_it, acts_of, settled_history_of, with_last_of, side_moment}
 use Rattle.pks_laws.proofs.Sorted.{tidied_sets, progressed_sets, assumed_sets, closed_sets}
 use Rattle.pks_laws_forget.specs.Transparent.{AreObjects, IsTransparent, AreSetsAlong, with_first}
-use Rattle.pks_laws_forget.proofs.Ends.{IsStart, Follows, AreOrdered, same_clash, ends_meet, ends_follow, first_tidied, second_tidied, second_grows, step_follows}
+use Rattle.pks_laws_forget.proofs.Ends.{IsStart, Follows, AreOrdered, forget, rounds_forget, same_clash, ends_meet, ends_follow, first_tidied, second_tidied, second_grows, step_follows}
 use Rattle.pks_laws_forget.proofs.Sequence.{groups_sequenced, regions_listed}
 use Rattle.pks_laws_forget.proofs.Total.{settling_is_total}
 use Rattle.pks_laws_forget.proofs.Trees.{Likens, like_trees}
@@ -96,7 +97,15 @@ unfolding round
 rounds_leave s zero d = (refl, refl)
 rounds_leave s (suc n) d = rounds_leave s n d
 
-module _ (p : Problem) (v : IsValid p) (plain : Each IsNow p.goal) (i : Instance) (before after : Five) (start : IsStart p i before after) where
+-- what the first two moments are like at all histories that come from there: it fits them, and where they are settled they tell alike what the aims ask
+pub record KeepsGoal (p : Problem) (i : Instance) (Fits Alike : Five → Five → Type 0) : Type 0 where
+  pub goal : (d e : Five) (steps : List (Instance × Five)) → Fits d e → Alike d e → met p (record { start = d; steps = (i, e) ∷ steps }) ≡ met p (record { start = e; steps = steps })
+  pub grown : (d e d' e' : Five) → Fits d e → forget d' ≡ forget d → forget e' ≡ forget e → Fits d' e'
+  pub tidy : (d e : Five) → Fits d e → Fits (tidied d) (tidied e)
+  pub alike : (d e : Five) (steps : List (Instance × Five)) → Fits d e → ClosedAlong p d ((i, e) ∷ steps) → Alike (tidied d) (tidied e)
+  pub assumed : (d e e' : Five) (c : Choice) (side : Side) → Fits d e → Assumes p.signature e c side (Next e') → Fits d e'
+
+module _ (p : Problem) (v : IsValid p) (i : Instance) (Fits Alike : Five → Five → Type 0) (keeps : KeepsGoal p i Fits Alike) (before after : Five) (start : IsStart p i before after) where
   abbrev S : Signature
   S = p.signature
 
@@ -106,9 +115,13 @@ module _ (p : Problem) (v : IsValid p) (plain : Each IsNow p.goal) (i : Instance
     pub follows : Follows p i before after h.start g.start
     pub moments : AreMomentsOf p h
     pub sets : AreSetsAlong h
+    pub fits : Fits h.start g.start
+
+  abbrev IsLike : History → History → Type 0
+  IsLike h g = IsPair h g × Alike h.start g.start
 
   abbrev Paired : State → State → Type 0
-  Paired (At h) (At g) = IsPair h g
+  Paired (At h) (At g) = IsLike h g
   Paired Stopped Stopped = Unit {0}
   Paired (At h) Stopped = ⊥
   Paired Stopped (At g) = ⊥
@@ -122,16 +135,8 @@ module _ (p : Problem) (v : IsValid p) (plain : Each IsNow p.goal) (i : Instance
   last_same : (h g : History) → IsPair h g → last_moment h ≡ last_moment g
   last_same h g k = ap (last_of h.start) k.steps
 
-  all_met : (h g : History) → last_moment h ≡ last_moment g → (xs : List Aim) → Each IsNow xs → list_all (is_met S h) xs ≡ list_all (is_met S g) xs
-  all_met h g e [] a = refl
-  all_met h g e (Now q ∷ xs) a = λ j. answers S (e j) q && all_met h g e xs a.1 j
-  all_met h g e (AtStart q ∷ xs) a = absurd a.0
-  all_met h g e (Always q ∷ xs) a = absurd a.0
-  all_met h g e (Once q ∷ xs) a = absurd a.0
-
-  met_same : (h g : History) → IsPair h g → met p h ≡ met p g
-  unfolding met
-  met_same h g k = all_met h g (last_same h g k) p.goal plain
+  met_same : (h g : History) → IsLike h g → met p h ≡ met p g
+  met_same h g k = ap (met p) (whole_is h g k.0) ∙ keeps.goal h.start g.start g.steps k.0.fits k.1
 
   -- the second is a history of the problem too
   abbrev IsDeed : Instance × Five → Type 0
@@ -145,26 +150,28 @@ module _ (p : Problem) (v : IsValid p) (plain : Each IsNow p.goal) (i : Instance
 
   -- ---- actions
 
-  pushed_pair : (h g : History) (x : Instance) (o : Outcome) → IsPair h g → IsIn x (instances p (last_moment h)) → Progress S (last_moment h) (schema_of p x.action) x o → Paired (after_step h x o) (after_step g x o)
+  pushed_pair : (h g : History) (x : Instance) (o : Outcome) → IsLike h g → IsIn x (instances p (last_moment h)) → Progress S (last_moment h) (schema_of p x.action) x o → Paired (after_step h x o) (after_step g x o)
   pushed_pair h g x (Clash l) k chosen q = tt
-  pushed_pair h g x (Next d) k chosen q = record {
-    steps = ap (λ xs. xs ++ (x, d) ∷ []) k.steps;
-    follows = k.follows;
-    moments = acts_of p v h (pushed h x d) x k.moments chosen (record { outcome = Next d; progress = q; gives = refl });
-    sets = record { start = k.sets.start; steps = each_append (λ (x : Instance × Five). AreSets x.1) h.steps ((x, d) ∷ []) k.sets.steps (closed_sets S (progressed S (last_moment h) (schema_of p x.action) x.arguments) d (progressed_sets S (last_moment h) (schema_of p x.action) x.arguments (last_sets p h.start h.steps k.sets.start k.sets.steps)) q, tt) };
-  }
+  pushed_pair h g x (Next d) k chosen q =
+      let pair : IsPair (pushed h x d) (pushed g x d) = record {
+        steps = ap (λ xs. xs ++ (x, d) ∷ []) k.0.steps;
+        follows = k.0.follows;
+        moments = acts_of p v h (pushed h x d) x k.0.moments chosen (record { outcome = Next d; progress = q; gives = refl });
+        sets = record { start = k.0.sets.start; steps = each_append (λ (x : Instance × Five). AreSets x.1) h.steps ((x, d) ∷ []) k.0.sets.steps (closed_sets S (progressed S (last_moment h) (schema_of p x.action) x.arguments) d (progressed_sets S (last_moment h) (schema_of p x.action) x.arguments (last_sets p h.start h.steps k.0.sets.start k.0.sets.steps)) q, tt) };
+        fits = k.0.fits;
+      } in (pair, k.1)
 
-  acts_on : (h g : History) (x : Instance) (y : State) → IsPair h g → IsIn x (instances p (last_moment h)) → Acts p h x y → (z : State) × Acts p g x z × Paired y z
+  acts_on : (h g : History) (x : Instance) (y : State) → IsLike h g → IsIn x (instances p (last_moment h)) → Acts p h x y → (z : State) × Acts p g x z × Paired y z
   acts_on h g x y k chosen a = (
     after_step g x a.outcome,
-    record { outcome = a.outcome; progress = subst (λ d. Progress S d (schema_of p x.action) x a.outcome) (last_same h g k) a.progress; gives = refl },
+    record { outcome = a.outcome; progress = subst (λ d. Progress S d (schema_of p x.action) x a.outcome) (last_same h g k.0) a.progress; gives = refl },
     subst (λ y. Paired y (after_step g x a.outcome)) (sym a.gives) (pushed_pair h g x a.outcome k chosen a.progress),
   )
 
-  acts_back : (h g : History) (x : Instance) (y : State) → IsPair h g → IsIn x (instances p (last_moment g)) → Acts p g x y → (z : State) × Acts p h x z × Paired z y
+  acts_back : (h g : History) (x : Instance) (y : State) → IsLike h g → IsIn x (instances p (last_moment g)) → Acts p g x y → (z : State) × Acts p h x z × Paired z y
   acts_back h g x y k chosen a =
-      let q = subst (λ d. Progress S d (schema_of p x.action) x a.outcome) (sym (last_same h g k)) a.progress in
-      let c = subst (λ d. IsIn x (instances p d)) (sym (last_same h g k)) chosen in (
+      let q = subst (λ d. Progress S d (schema_of p x.action) x a.outcome) (sym (last_same h g k.0)) a.progress in
+      let c = subst (λ d. IsIn x (instances p d)) (sym (last_same h g k.0)) chosen in (
         after_step h x a.outcome,
         record { outcome = a.outcome; progress = q; gives = refl },
         subst (λ y. Paired (after_step h x a.outcome) y) (sym a.gives) (pushed_pair h g x a.outcome k c q),
@@ -189,13 +196,17 @@ module _ (p : Problem) (v : IsValid p) (plain : Each IsNow p.goal) (i : Instance
       let ordered : AreOrdered h.start ((i, g.start) ∷ g.steps) = subst (λ xs. AreOrdered h.start xs) k.steps (ordered_of p h k.sets) in
       let meet = ap (λ x. settle_rounds p n x) same ∙ ends_meet p v.signature.values i before after start h.start g.start g.steps k.follows n m ordered fixed quiet f in
       let follow = subst (λ (x : History). Follows p i before after x.start end'.start) (sym (ap (λ x. settle_rounds p n x) same)) (ends_follow p v.signature.values i before after start h.start g.start g.steps k.follows n m ordered fixed quiet f) in
+      let fits : Fits end.start end'.start = keeps.grown h.start g.start end.start end'.start k.fits (rounds_forget p n h).0 (rounds_forget p m g).0 in
       let pair : IsPair (tidied_history end) (tidied_history end') = record {
         steps = ap (λ (x : History). map (λ (step : Instance × Five). let r : Instance × Five = (step.0, tidied step.1) in r) x.steps) meet;
         follows = second_tidied p v.signature.values i before after start (tidied end.start) end'.start (first_tidied p v.signature.values i before after start end.start end'.start follow);
         moments = settled_history_of p v h (tidied_history end) k.moments (record { count = n; last = e; gives = sym (ap (λ b. cond b Stopped (At (tidied_history end))) q) });
         sets = tidied_sets_along p end (rounds_sets p n h k.sets);
+        fits = keeps.tidy end.start end'.start fits;
       } in
-      subst (λ b. Paired (cond b Stopped (At (tidied_history end))) (state_of end')) (sym q) (subst (λ b. Paired (At (tidied_history end)) (cond b Stopped (At (tidied_history end')))) (sym (sym clash ∙ q)) pair))
+      let told : Alike (tidied end.start) (tidied end'.start) =
+      keeps.alike end.start end'.start end'.steps fits (subst (λ (x : History). ClosedAlong p end.start x.steps) meet (end_closed p end e q)) in
+      subst (λ b. Paired (cond b Stopped (At (tidied_history end))) (state_of end')) (sym q) (subst (λ b. Paired (At (tidied_history end)) (cond b Stopped (At (tidied_history end')))) (sym (sym clash ∙ q)) (pair, told)))
       (cases_Bool (clashes S end))
 
   settles_on : (h g : History) (y : State) → IsPair h g → Settles p h y → (z : State) × Settles p g z × Paired y z
@@ -234,6 +245,10 @@ module _ (p : Problem) (v : IsValid p) (plain : Each IsNow p.goal) (i : Instance
   replaced_follows moment next [] d c side f a = assumed_follows d moment next c side f a
   replaced_follows moment next (x ∷ rest) d c side f a = f
 
+  replaced_fits : (moment next : Five) (rest : List (Instance × Five)) (d : Five) (c : Choice) (side : Side) → Fits moment next → Assumes S (last_of next rest) c side (Next d) → Fits moment (with_last (record { start = next; steps = rest }) d).start
+  replaced_fits moment next [] d c side f a = keeps.assumed moment next d c side f a
+  replaced_fits moment next (x ∷ rest) d c side f a = f
+
   replaced_pair : (h g : History) (d : Five) (c : Choice) (side : Side) → IsPair h g → IsMember (last_moment h) c → IsSideOf S c side → Assumes S (last_moment h) c side (Next d) → IsPair (with_last h d) (with_last g d)
   replaced_pair h g d c side k m is a =
       let same = whole_is h g k in
@@ -245,23 +260,24 @@ module _ (p : Problem) (v : IsValid p) (plain : Each IsNow p.goal) (i : Instance
           start = k.sets.start;
           steps = last_replaced p ((i, g.start) ∷ g.steps) d (subst (SetSteps p) k.steps k.sets.steps) (closed_sets S (assumed S (last_moment h) c side) d (assumed_sets S (last_moment h) c side (last_sets p h.start h.steps k.sets.start k.sets.steps)) a);
         });
+        fits = subst (λ (x : Five). Fits x (with_last g d).start) (sym (ap (λ (x : History). (with_last x d).start) same)) (replaced_fits h.start g.start g.steps d c side k.fits (subst (λ x. Assumes S x c side (Next d)) last a));
       }
 
-  takes_on : (h g : History) (c : Choice) (side : Side) (y : State) → IsPair h g → IsMember (last_moment h) c → IsSideOf S c side → Takes p h c side y → (z : State) × Takes p g c side z × Paired y z
+  takes_on : (h g : History) (c : Choice) (side : Side) (y : State) → IsLike h g → IsMember (last_moment h) c → IsSideOf S c side → Takes p h c side y → (z : State) × Takes p g c side z × Paired y z
   takes_on h g c side y k m is t = go t.outcome t.assumed t.settled
     where
       go : (o : Outcome) → Assumes S (last_moment h) c side o → SettlesAfter p h o y → (z : State) × Takes p g c side z × Paired y z
       go (Next d) a s =
-          let r = settles_on (with_last h d) (with_last g d) y (replaced_pair h g d c side k m is a) s in
-          (r.0, record { outcome = Next d; assumed = subst (λ x. Assumes S x c side (Next d)) (last_same h g k) a; settled = r.1 }, r.2)
-      go (Clash l) a s = (Stopped, record { outcome = Clash l; assumed = subst (λ x. Assumes S x c side (Clash l)) (last_same h g k) a; settled = refl }, subst (λ y. Paired y Stopped) (sym s) tt)
+          let r = settles_on (with_last h d) (with_last g d) y (replaced_pair h g d c side k.0 m is a) s in
+          (r.0, record { outcome = Next d; assumed = subst (λ x. Assumes S x c side (Next d)) (last_same h g k.0) a; settled = r.1 }, r.2)
+      go (Clash l) a s = (Stopped, record { outcome = Clash l; assumed = subst (λ x. Assumes S x c side (Clash l)) (last_same h g k.0) a; settled = refl }, subst (λ y. Paired y Stopped) (sym s) tt)
 
-  takes_back : (h g : History) (c : Choice) (side : Side) (y : State) → IsPair h g → IsMember (last_moment g) c → IsSideOf S c side → Takes p g c side y → (z : State) × Takes p h c side z × Paired z y
-  takes_back h g c side y k m is t = go t.outcome (subst (λ x. Assumes S x c side t.outcome) (sym (last_same h g k)) t.assumed) t.settled
+  takes_back : (h g : History) (c : Choice) (side : Side) (y : State) → IsLike h g → IsMember (last_moment g) c → IsSideOf S c side → Takes p g c side y → (z : State) × Takes p h c side z × Paired z y
+  takes_back h g c side y k m is t = go t.outcome (subst (λ x. Assumes S x c side t.outcome) (sym (last_same h g k.0)) t.assumed) t.settled
     where
       go : (o : Outcome) → Assumes S (last_moment h) c side o → SettlesAfter p g o y → (z : State) × Takes p h c side z × Paired z y
       go (Next d) a s =
-          let r = settles_back (with_last h d) (with_last g d) y (replaced_pair h g d c side k (subst (λ x. IsMember x c) (sym (last_same h g k)) m) is a) s in
+          let r = settles_back (with_last h d) (with_last g d) y (replaced_pair h g d c side k.0 (subst (λ x. IsMember x c) (sym (last_same h g k.0)) m) is a) s in
           (r.0, record { outcome = Next d; assumed = a; settled = r.1 }, r.2)
       go (Clash l) a s = (Stopped, record { outcome = Clash l; assumed = a; settled = refl }, subst (λ y. Paired Stopped y) (sym s) tt)
 
@@ -287,22 +303,22 @@ module _ (p : Problem) (v : IsValid p) (plain : Each IsNow p.goal) (i : Instance
   stopped_back Stopped k = refl
 
   onward : Likens p Paired
-  onward = record { stopped = stopped_on; goes_on = goes_on; last = last_same; same_goal = met_same; acts = acts_on; takes = takes_on }
+  onward = record { stopped = stopped_on; goes_on = goes_on; last = λ h g k. last_same h g k.0; same_goal = met_same; acts = acts_on; takes = takes_on }
 
   back : Likens p Turned
   back = record {
     stopped = stopped_back;
     goes_on = goes_back;
-    last = λ h g k. sym (last_same g h k);
+    last = λ h g k. sym (last_same g h k.0);
     same_goal = λ h g k. sym (met_same g h k);
     acts = λ h g x y k chosen a. acts_back g h x y k chosen a;
     takes = λ h g c side y k m is t. takes_back g h c side y k m is t;
   }
 
-  pub without_first : (h g : History) → IsPair h g → (t : Tree) → Derives p (At h) t → Derives p (At g) t
+  pub without_first : (h g : History) → IsLike h g → (t : Tree) → Derives p (At h) t → Derives p (At g) t
   without_first h g k t d = like_trees p Paired onward t (At h) (At g) k d
 
-  pub with_the_first : (h g : History) → IsPair h g → (t : Tree) → Derives p (At g) t → Derives p (At h) t
+  pub with_the_first : (h g : History) → IsLike h g → (t : Tree) → Derives p (At g) t → Derives p (At h) t
   with_the_first h g k t d = like_trees p Turned back t (At g) (At h) k d
 
 pub settles : (p : Problem) (h : History) → IsValid p → AreMomentsOf p h → AreSetsAlong h → (x : State) × Settles p h x
@@ -317,6 +333,7 @@ start_of_step p v before i after m t = record {
   saturated = closed_saturated p.signature v.signature.values before m.closed m.ordered.known;
   fine = closed_fine p.signature v.signature.values before m.closed;
   decided = t.effects;
+  written = t.written;
   kept = t.literals;
   lasting = t.groups;
   objects = each_weaker (λ (r : Entry). AreObjects (entry_terms r) × IsIn r after.lcw) (λ (r : Entry). AreObjects (entry_terms r)) (λ r k. k.0) before.lcw t.regions;
@@ -324,17 +341,44 @@ start_of_step p v before i after m t = record {
   listed = regions_listed p.signature before m.closed;
 }
 
-pub cut : (p : Problem) (before : Five) (i : Instance) (h : History) (t : Tree) → IsValid p → Each IsNow p.goal → AreMomentsOf p (with_first before i h) → AreSetsAlong (with_first before i h) → IsTransparent p before i h.start
-    → (Derives p (At (with_first before i h)) t → Derives p (At h) t) × (Derives p (At h) t → Derives p (At (with_first before i h)) t)
-cut p before i h t v plain m sets k =
+-- where what the aims ask is told alike, the first moment goes
+pub cut_kept : (p : Problem) (before : Five) (i : Instance) (h : History) (t : Tree) (Fits Alike : Five → Five → Type 0) → KeepsGoal p i Fits Alike → Fits before h.start → Alike before h.start
+    → IsValid p → AreMomentsOf p (with_first before i h) → AreSetsAlong (with_first before i h) → IsTransparent p before i h.start → (Derives p (At (with_first before i h)) t → Derives p (At h) t) × (Derives p (At h) t → Derives p (At (with_first before i h)) t)
+cut_kept p before i h t Fits Alike keeps fits alike v m sets k =
     let start = start_of_step p v before i h.start m.start k in
-    let pair : IsPair p v plain i before h.start start (with_first before i h) h = record {
+    let pair : IsPair p v i Fits Alike keeps before h.start start (with_first before i h) h = record {
       steps = refl;
       follows = step_follows p v.signature.values i before h.start start (λ r j. (each_in (λ (r : Entry). AreObjects (entry_terms r) × IsIn r h.start.lcw) before.lcw r k.regions j).1);
       moments = m;
       sets = sets;
+      fits = fits;
     } in
-    (without_first p v plain i before h.start start (with_first before i h) h pair t, with_the_first p v plain i before h.start start (with_first before i h) h pair t)
+    (without_first p v i Fits Alike keeps before h.start start (with_first before i h) h (pair, alike) t, with_the_first p v i Fits Alike keeps before h.start start (with_first before i h) h (pair, alike) t)
+
+-- with aims of the last moment alone there is nothing to be told
+abbrev Any : Five → Five → Type 0
+Any d e = Unit {0}
+
+all_met : (s : Signature) (h g : History) → last_moment h ≡ last_moment g → (xs : List Aim) → Each IsNow xs → list_all (is_met s h) xs ≡ list_all (is_met s g) xs
+all_met s h g e [] a = refl
+all_met s h g e (Now q ∷ xs) a = λ j. answers s (e j) q && all_met s h g e xs a.1 j
+all_met s h g e (AtStart q ∷ xs) a = absurd a.0
+all_met s h g e (Always q ∷ xs) a = absurd a.0
+all_met s h g e (Once q ∷ xs) a = absurd a.0
+
+plain_goal : (p : Problem) (i : Instance) → Each IsNow p.goal → KeepsGoal p i Any Any
+unfolding met
+plain_goal p i plain = record {
+  goal = λ d e steps f a. all_met p.signature (record { start = d; steps = (i, e) ∷ steps }) (record { start = e; steps = steps }) refl p.goal plain;
+  grown = λ d e d' e' f g k. tt;
+  tidy = λ d e f. tt;
+  alike = λ d e steps f c. tt;
+  assumed = λ d e e' c side f a. tt;
+}
+
+pub cut : (p : Problem) (before : Five) (i : Instance) (h : History) (t : Tree) → IsValid p → Each IsNow p.goal → AreMomentsOf p (with_first before i h) → AreSetsAlong (with_first before i h) → IsTransparent p before i h.start
+    → (Derives p (At (with_first before i h)) t → Derives p (At h) t) × (Derives p (At h) t → Derives p (At (with_first before i h)) t)
+cut p before i h t v plain m sets k = cut_kept p before i h t Any Any (plain_goal p i plain) tt tt v m sets k
 
 -- so the best tree of at most a depth is the same
 pub cut_best : (p : Problem) (before : Five) (i : Instance) (h : History) (n : ℕ) (o : Option Tree) → IsValid p → Each IsNow p.goal → AreMomentsOf p (with_first before i h) → AreSetsAlong (with_first before i h) → IsTransparent p before i h.start

@@ -21,13 +21,14 @@ use Rattle.pks_terms.proofs.SetLaws.{ordered_added, in_set_of, set_of_in, same_m
 use Rattle.pks_laws.proofs.Least.{in_left, in_right, one_value, ranged, holds_grows, some_differ_grows}
 use Rattle.pks_laws.proofs.LeastFamily.{settled_least}
 use Rattle.pks_laws.proofs.SettledEnd.{rounds_have_start, end_closed}
-use Rattle.pks_laws_forget.specs.Transparent.{AreObjects, IsOfObjects, Makes, IsDecided, IsKept, LastsAsGroup}
+use Rattle.pks_laws_forget.specs.Transparent.{AreObjects, IsOfObjects, Makes, effects_by, IsDecided, IsReadAlike, IsKept, LastsAsGroup}
 use Rattle.pks_laws_forget.proofs.Lists.{nothing_found, any_more}
 use Rattle.pks_laws_forget.proofs.Alike.{not_denied}
 use Rattle.pks_laws_forget.proofs.Objects.{objects_normal, literal_normal, denied_by}
 use Rattle.pks_laws_forget.proofs.Given.{IsGiven, changed_in, stays_in, returns_in, is_own, known_then, first_known}
 use Rattle.pks_laws_forget.proofs.Returning.{no_clash}
-use Rattle.pks_laws_forget.proofs.Rules.{saturated_before, onward_in, backward_in}
+use Rattle.pks_laws_forget.proofs.Rules.{saturated_before}
+use Rattle.pks_laws_forget.proofs.Handing.{onward_in, backward_in}
 
 -- ---- a step, and what is known at its two moments later
 
@@ -36,9 +37,10 @@ pub record IsStart (p : Problem) (i : Instance) (before after : Five) : Type 0 w
   pub inhabited : HasValues p.signature
   pub saturated : IsSaturated p.signature before
   pub fine : first_clash p.signature before ≡ None
-  pub decided : Each (IsDecided before after) (effects_of p i)
-  pub kept : Each (IsKept before after (effects_of p i)) before.kf
-  pub lasting : Each (LastsAsGroup before after (effects_of p i)) before.kx
+  pub decided : Each (IsDecided before after) (effects_by p before i)
+  pub written : Each (IsReadAlike before after (effects_by p before i)) (effects_of p i)
+  pub kept : Each (IsKept before after (effects_by p before i)) before.kf
+  pub lasting : Each (LastsAsGroup before after (effects_by p before i)) before.kx
   pub objects : Each (λ r. AreObjects (entry_terms r)) before.lcw
   pub sequenced : Each (λ g. in_sequence g ≡ g) before.kx
   pub listed : Each (λ r. set_of atom_cmp r.listed ≡ r.listed) before.lcw
@@ -46,7 +48,7 @@ pub record IsStart (p : Problem) (i : Instance) (before after : Five) : Type 0 w
 -- two moments that come from those of the step
 pub record Follows (p : Problem) (i : Instance) (before after moment next : Five) : Type 0 where
   pub has : Within before.kf moment.kf
-  pub bounded : (later : Five) → Within next.kf later.kf → IsSaturated p.signature later → first_clash p.signature later ≡ None → Within moment.kf (known_then p.signature before later (effects_of p i))
+  pub bounded : (later : Five) → Within next.kf later.kf → IsSaturated p.signature later → first_clash p.signature later ≡ None → Within moment.kf (known_then p.signature before later (effects_by p before i))
   pub grown : Within after.kf next.kf
   pub own_groups : Within moment.kx before.kx
   pub own_regions : Within moment.lcw before.lcw
@@ -159,18 +161,18 @@ module _ (s : Signature) (later big : Five) (inhabited : HasValues s) (within : 
   known_then_grows : (before after : Five) (es : List Effect) → Each (IsDecided before after) es → Within (known_then s before later es) (known_then s before big es)
   known_then_grows before after es decided l i =
       ⊎_elim
-      (λ j. in_left (filter is_own before.kf) (filter (returns_in s before big es) big.kf) l j)
+      (λ j. in_left (filter (is_own before.kf) before.kf) (filter (returns_in s before big es) big.kf) l j)
       (λ j.
       let r = in_filtered (returns_in s before later es) later.kf l j in
       let q = and_parts (list_all (stays_in s before later es) l.arguments) _ r.1 in
-      in_right (filter is_own before.kf) (filter (returns_in s before big es) big.kf) l
+      in_right (filter (is_own before.kf) before.kf) (filter (returns_in s before big es) big.kf) l
       (in_filter (returns_in s before big es) big.kf l (within l r.0)
       (and_from _ _ (all_more (stays_in s before later es) (stays_in s before big es) (stays_more before es) l.arguments q.0)
       (not_from_false _ (false_from_ne_true _ (λ t. true≢false (sym
       (any_more (λ e. may_fire s before e && denied_by s big.kf l.relation l.arguments (not l.positive) e.target) (λ e. may_fire s before e && denied_by s later.kf l.relation l.arguments (not l.positive) e.target) es
       (λ e k h. let d = each_in (IsDecided before after) es e decided k in let z = and_parts (may_fire s before e) _ h in and_from _ _ z.0 (denied_back l.relation l.arguments (not l.positive) e.target d.made d.makes z.1)) t)
       ∙ not-true _ q.1)))))))
-      (in_appended (filter is_own before.kf) (filter (returns_in s before later es) later.kf) l i)
+      (in_appended (filter (is_own before.kf) before.kf) (filter (returns_in s before later es) later.kf) l i)
 
 one_normal : (kf : List Literal) (t : Term) → is_some (as_object t) ≡ true → normal kf t ≡ t
 one_normal kf t a = let e : normal kf t ∷ [] ≡ t ∷ [] = objects_normal kf (t ∷ []) (a, tt) in cc
@@ -223,7 +225,7 @@ module _ (p : Problem) (inhabited : HasValues p.signature) where
   -- ---- the two histories
 
   module _ (i : Instance) (before after : Five) (start : IsStart p i before after) where
-    given_of : (moment next later : Five) → Follows p i before after moment next → Within next.kf later.kf → next.kx ≡ later.kx → next.lcw ≡ later.lcw → IsSaturated p.signature later → first_clash p.signature later ≡ None → IsGiven p.signature before after later moment (effects_of p i)
+    given_of : (moment next later : Five) → Follows p i before after moment next → Within next.kf later.kf → next.kx ≡ later.kx → next.lcw ≡ later.lcw → IsSaturated p.signature later → first_clash p.signature later ≡ None → IsGiven p.signature before after later moment (effects_by p before i)
     given_of moment next later f w g r sat fine = record {
       inhabited = start.inhabited;
       first_saturated = start.saturated;
@@ -255,7 +257,7 @@ module _ (p : Problem) (inhabited : HasValues p.signature) where
       end' = settle_rounds p m short
 
       abbrev big : History
-      big = record { start = record moment { kf = known_then p.signature before end'.start (effects_of p i) }; steps = (i, end'.start) ∷ end'.steps }
+      big = record { start = record moment { kf = known_then p.signature before end'.start (effects_by p before i) }; steps = (i, end'.start) ∷ end'.steps }
 
       module _ (fixed : settle_round p end' ≡ end') (quiet : clashes p.signature end' ≡ false) where
         short_closed : ClosedAlong p end'.start end'.steps
@@ -271,9 +273,9 @@ module _ (p : Problem) (inhabited : HasValues p.signature) where
             let g = given_of moment next end'.start f w.0 w.1 w.2 c.0 c.1 in
             settled_least p inhabited n whole big
             ((f.bounded end'.start w.0 c.0 c.1, refl, refl), refl, short_had) (
-              (saturated_before p.signature before after end'.start moment (effects_of p i) g, no_clash p.signature before after end'.start moment (effects_of p i) g),
-              onward_in p.signature before after end'.start moment (effects_of p i) g,
-              backward_in p.signature before after end'.start moment (effects_of p i) g,
+              (saturated_before p.signature before after end'.start moment (effects_by p before i) g, no_clash p.signature before after end'.start moment (effects_by p before i) g),
+              onward_in p.signature before after end'.start moment (effects_of p i) g start.written,
+              backward_in p.signature before after end'.start moment (effects_of p i) g start.written,
               short_closed,
             )
 
@@ -282,9 +284,9 @@ module _ (p : Problem) (inhabited : HasValues p.signature) where
             let w = first_within next rest end'.start end'.steps short_had in
             let c = first_closed end'.start end'.steps short_closed in
             let g = given_of moment next end'.start f w.0 w.1 w.2 c.0 c.1 in (
-              (saturated_before p.signature before after end'.start moment (effects_of p i) g, no_clash p.signature before after end'.start moment (effects_of p i) g),
-              onward_in p.signature before after end'.start moment (effects_of p i) g,
-              backward_in p.signature before after end'.start moment (effects_of p i) g,
+              (saturated_before p.signature before after end'.start moment (effects_by p before i) g, no_clash p.signature before after end'.start moment (effects_by p before i) g),
+              onward_in p.signature before after end'.start moment (effects_of p i) g start.written,
+              backward_in p.signature before after end'.start moment (effects_of p i) g start.written,
               short_closed,
             )
 
@@ -353,7 +355,7 @@ module _ (p : Problem) (inhabited : HasValues p.signature) where
             let inside = first_within end.start end.steps big.start big.steps (in_big fixed' quiet') in
             record {
               has = λ l j. had.0 l (f.has l j);
-              bounded = λ later w sat fine l j. known_then_grows p.signature end'.start later inhabited w sat fine before after (effects_of p i) start.decided l (inside.0 l j);
+              bounded = λ later w sat fine l j. known_then_grows p.signature end'.start later inhabited w sat fine before after (effects_by p before i) start.decided l (inside.0 l j);
               grown = λ l j. had'.0 l (f.grown l j);
               own_groups = λ c j. f.own_groups c (subst (IsIn c) (sym had.1) j);
               own_regions = λ c j. f.own_regions c (subst (IsIn c) (sym had.2) j);
@@ -364,7 +366,7 @@ module _ (p : Problem) (inhabited : HasValues p.signature) where
     -- ---- with the other sets in normal form
 
     group_normal : (kf : List Literal) (g : List Literal) → IsIn g before.kx → normal_group kf g ≡ g
-    group_normal kf g j = group_at_objects kf g (each_in (LastsAsGroup before after (effects_of p i)) before.kx g start.lasting j).0 (each_in (λ g. in_sequence g ≡ g) before.kx g start.sequenced j)
+    group_normal kf g j = group_at_objects kf g (each_in (LastsAsGroup before after (effects_by p before i)) before.kx g start.lasting j).0 (each_in (λ g. in_sequence g ≡ g) before.kx g start.sequenced j)
 
     entry_normal : (kf : List Literal) (r : Entry) → IsIn r before.lcw → normal_entry kf r ≡ r
     entry_normal kf r j = entry_at_objects kf r (each_in (λ r. AreObjects (entry_terms r)) before.lcw r start.objects j) (each_in (λ (r : Entry). set_of atom_cmp r.listed ≡ r.listed) before.lcw r start.listed j)
@@ -413,7 +415,7 @@ module _ (p : Problem) (inhabited : HasValues p.signature) where
     pub step_follows : Within before.lcw after.lcw → Follows p i before after before after
     step_follows regions = record {
       has = λ l j. j;
-      bounded = λ later w sat fine. first_known p.signature before after later (effects_of p i) start.kept w;
+      bounded = λ later w sat fine. first_known p.signature before after later (effects_by p before i) start.kept w;
       grown = λ l j. j;
       own_groups = λ c j. j;
       own_regions = λ c j. j;

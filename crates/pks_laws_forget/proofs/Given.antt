@@ -8,22 +8,22 @@ use Rattle.pks_terms.specs.Sets.{Each, IsIn}
 use Rattle.pks_terms.specs.Syntax.{Term, object, place, Relation, Named, Equality, Literal, negated}
 use Rattle.pks_terms.specs.Orders.{term_cmp, term_eq, in_order, literal, number_of, arguments_of}
 use Rattle.pks_terms.specs.Signatures.{Signature, HasValues}
-use Rattle.pks_terms.specs.Databases.{Five, Told, value_if_at, told, values_at, least, normal, is_evident, is_plain, holds}
+use Rattle.pks_terms.specs.Databases.{Five, Told, value_if_at, told, values_at, least, normal, normal_literal, is_evident, is_plain, holds}
 use Rattle.pks_terms.specs.Closure.{first_clash, applications_in}
 use Rattle.pks_terms.specs.Actions.{Target, Set, Unset, Clear, Assign, Effect}
 use Rattle.pks_terms.specs.Spoiling.{may_fire, may_change}
 use Rattle.pks_terms.specs.Progress.{entry_terms}
 use Rattle.pks_terms.specs.Saturated.{Within, IsSaturated}
-use Rattle.pks_terms.proofs.ListLaws.{each_in, each_of, all_from_each, found_in, any_in, in_filter}
+use Rattle.pks_terms.proofs.ListLaws.{each_in, each_of, each_weaker, all_from_each, found_in, any_in, in_filter}
 use Rattle.pks_terms.proofs.OrderLaws.{term_cmp_tells, same_term}
 use Rattle.pks_terms.specs.Totality.{term_cmp_total}
 use Rattle.pks_laws.proofs.Least.{in_left, in_right, in_filter_map, term_eq_itself}
 use Rattle.pks_laws.proofs.Holding.{eqb_comm, same_objects_itself}
 use Rattle.pks_laws.proofs.NormalMembers.{eq_turned}
-use Rattle.pks_laws_forget.specs.Transparent.{AreObjects, is_named, gives_value, is_about, assigns_in, IsDecided, IsUntouched, IsKept, LastsAsGroup}
+use Rattle.pks_laws_forget.specs.Transparent.{AreObjects, is_named, gives_value, is_about, assigns_in, IsDecided, AreUnassigned, IsUntouched, IsKept, LastsAsGroup}
 use Rattle.pks_laws_forget.proofs.Agreeing.{objects_all}
 use Rattle.pks_laws_forget.specs.Testing.{is_of_objects}
-use Rattle.pks_laws_forget.proofs.Objects.{of_objects_test, denied_by, denies_about}
+use Rattle.pks_laws_forget.proofs.Objects.{of_objects_test, literal_normal, denied_by, denies_about}
 
 pub same_predicate : (p q : ℕ) → Named p ≡ Named q → p ≡ q
 same_predicate p q e = cc
@@ -63,26 +63,22 @@ touched_in s before later es r ts b = list_any (λ e. may_fire s before e && den
 abbrev pub returns_in : Signature → Five → Five → List Effect → Literal → Bool
 returns_in s before later es l = list_all (stays_in s before later es) l.arguments && not (touched_in s before later es l.relation l.arguments (not l.positive))
 
--- of a predicate at objects, or of the value of a place
-abbrev pub is_own : Literal → Bool
-is_own l = is_of_objects l || gives_value l.relation l.arguments
+-- in normal form of a predicate at objects, or of the value of a place
+abbrev pub is_own : List Literal → Literal → Bool
+is_own kf l = is_of_objects (normal_literal kf l) || gives_value l.relation l.arguments
 
 abbrev pub known_then : Signature → Five → Five → List Effect → List Literal
-known_then s before later es = filter is_own before.kf ++ filter (returns_in s before later es) later.kf
+known_then s before later es = filter (is_own before.kf) before.kf ++ filter (returns_in s before later es) later.kf
 
--- what is untouched comes back
-pub untouched_returns : (s : Signature) (before later : Five) (es : List Effect) (l : Literal) → IsUntouched es l → returns_in s before later es l ≡ true
-untouched_returns s before later es l u =
-    and_from _ _
-    (all_from_each (stays_in s before later es) l.arguments (each_of (λ t. stays_in s before later es t ≡ true) l.arguments
+-- in terms in which no function is assigned nothing is changed
+pub unassigned_stay : (s : Signature) (before later : Five) (es : List Effect) (ts : List Term) → AreUnassigned es ts → list_all (stays_in s before later es) ts ≡ true
+unassigned_stay s before later es ts u =
+    all_from_each (stays_in s before later es) ts (each_of (λ t. stays_in s before later es t ≡ true) ts
     (λ t i. all_from_each (λ w. not (changed_in s before later es w)) (applications_in t) (each_of (λ w. not (changed_in s before later es w) ≡ true) (applications_in t)
     (λ w j. not_from_false _ (false_from_ne_true _ (λ c.
     let f = found_in (λ e. may_fire s before e && may_change s later.kf (number_of w) (arguments_of w) e.target) es c in
     let h = assigned f.0.target t w j (and_parts (may_fire s before f.0) _ f.2).1 in
-    true≢false (sym (any_in (λ t. assigns_in t f.0.target) l.arguments t i h) ∙ (each_in (λ e. (is_about l.relation e.target ≡ false) × (list_any (λ t. assigns_in t e.target) l.arguments ≡ false)) es f.0 u f.1).1))))))))
-    (not_from_false _ (false_from_ne_true _ (λ t.
-    let f = found_in (λ e. may_fire s before e && denied_by s later.kf l.relation l.arguments (not l.positive) e.target) es t in
-    true≢false (sym (denies_about s later.kf l.relation l.arguments (not l.positive) f.0.target (and_parts (may_fire s before f.0) _ f.2).1) ∙ (each_in (λ e. (is_about l.relation e.target ≡ false) × (list_any (λ t. assigns_in t e.target) l.arguments ≡ false)) es f.0 u f.1).0))))
+    true≢false (sym (any_in (λ t. assigns_in t f.0.target) ts t i h) ∙ each_in (λ e. list_any (λ t. assigns_in t e.target) ts ≡ false) es f.0 u f.1)))))))
   where
     assigned : (x : Target) (t w : Term) → IsIn w (applications_in t) → may_change s later.kf (number_of w) (arguments_of w) x ≡ true → assigns_in t x ≡ true
     assigned (Assign f us v) t w j h = any_in (λ u. f == number_of u) (applications_in t) w j (and_parts (f == number_of w) _ h).0
@@ -90,14 +86,25 @@ untouched_returns s before later es l u =
     assigned (Unset a) t w j h = absurd (true≢false (sym h))
     assigned (Clear x) t w j h = absurd (true≢false (sym h))
 
+-- what is untouched comes back
+pub untouched_returns : (s : Signature) (before later : Five) (es : List Effect) (l : Literal) → IsUntouched es l → returns_in s before later es l ≡ true
+untouched_returns s before later es l u =
+    and_from _ _
+    (unassigned_stay s before later es l.arguments (each_weaker (λ e. (is_about l.relation e.target ≡ false) × (list_any (λ t. assigns_in t e.target) l.arguments ≡ false)) (λ e. list_any (λ t. assigns_in t e.target) l.arguments ≡ false) (λ e k. k.1) es u))
+    (not_from_false _ (false_from_ne_true _ (λ t.
+    let f = found_in (λ e. may_fire s before e && denied_by s later.kf l.relation l.arguments (not l.positive) e.target) es t in
+    true≢false (sym (denies_about s later.kf l.relation l.arguments (not l.positive) f.0.target (and_parts (may_fire s before f.0) _ f.2).1) ∙ (each_in (λ e. (is_about l.relation e.target ≡ false) × (list_any (λ t. assigns_in t e.target) l.arguments ≡ false)) es f.0 u f.1).0))))
+
 -- all that was known before is known then
 pub first_known : (s : Signature) (before after later : Five) (es : List Effect) → Each (IsKept before after es) before.kf → Within after.kf later.kf → Within before.kf (known_then s before later es)
 first_known s before after later es kept grown l i =
     ⊎_elim
-    (λ o. in_left (filter is_own before.kf) (filter (returns_in s before later es) later.kf) l (in_filter is_own before.kf l i (or_left _ _ (of_objects_test l o.0))))
+    (λ o. in_left (filter (is_own before.kf) before.kf) (filter (returns_in s before later es) later.kf) l (in_filter (is_own before.kf) before.kf l i (or_left _ _ (ap is_of_objects (literal_normal before.kf l o.0) ∙ of_objects_test l o.0))))
     (λ r. ⊎_elim
-    (λ o. in_left (filter is_own before.kf) (filter (returns_in s before later es) later.kf) l (in_filter is_own before.kf l i (or_right _ _ o.0)))
-    (λ u. in_right (filter is_own before.kf) (filter (returns_in s before later es) later.kf) l (in_filter (returns_in s before later es) later.kf l (grown l u.1) (untouched_returns s before later es l u.0))) r)
+    (λ o. in_left (filter (is_own before.kf) before.kf) (filter (returns_in s before later es) later.kf) l (in_filter (is_own before.kf) before.kf l i (or_right _ _ o.0)))
+    (λ q. ⊎_elim
+    (λ u. in_right (filter (is_own before.kf) before.kf) (filter (returns_in s before later es) later.kf) l (in_filter (returns_in s before later es) later.kf l (grown l u.1) (untouched_returns s before later es l u.0)))
+    (λ c. in_left (filter (is_own before.kf) before.kf) (filter (returns_in s before later es) later.kf) l (in_filter (is_own before.kf) before.kf l i (or_left _ _ (of_objects_test (normal_literal before.kf l) c.0)))) q) r)
     (each_in (IsKept before after es) before.kf l kept i)
 
 -- a literal that gives a value

@@ -5,10 +5,10 @@ pub mod Objects
 pub mod Given
 pub mod Returning
 pub mod Rules
-pub mod Small
+pub mod Forms
+pub mod Handing
 pub mod Ends
 pub mod Total
-pub mod ClosingEnds
 pub mod Sequence
 pub mod Trees
 pub mod Cut
@@ -20,3 +20,4 @@ pub mod TestedLooks
 pub mod Worlds
 pub mod OtherAims
 pub mod Fewer
+pub mod Told

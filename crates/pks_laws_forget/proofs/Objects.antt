@@ -13,7 +13,7 @@ use Rattle.pks_terms.specs.Spoiling.{may_make_true, may_make_false}
 use Rattle.pks_terms.specs.Progress.{fixed_terms, entry_terms}
 use Rattle.pks_terms.proofs.ListLaws.{each_front, each_back, in_mapped}
 use Rattle.pks_laws.proofs.Holding.{eqb_comm}
-use Rattle.pks_laws_forget.specs.Transparent.{AreObjects, is_named, IsOfObjects, is_place, gives_value, IsOfPlace, left_of, Makes, is_about, at_other_objects}
+use Rattle.pks_laws_forget.specs.Transparent.{AreObjects, is_named, IsOfObjects, is_place, gives_value, IsOfPlace, left_of, Makes, is_about, at_other_objects, arguments_made, leaves}
 use Rattle.pks_laws_forget.specs.Testing.{are_objects, is_of_objects}
 use Rattle.pks_laws_forget.proofs.Lists.{not_twice}
 
@@ -192,11 +192,54 @@ module _ (s : Signature) (kf : List Literal) where
   denies_about (Named p) ts false (Assign g us v) h = absurd (true≢false (sym h))
   denies_about Equality ts b x h = absurd (true≢false (sym h))
 
+-- what is at other objects is elsewhere
+pub itself_not_elsewhere : (ts : List Term) → at_other_objects ts ts ≡ true → ⊥
+itself_not_elsewhere (t ∷ ts) h = ⊎_elim (λ k. one t k) (λ k. itself_not_elsewhere ts k) (or_cases (are_two_objects t t) _ h)
+  where
+    one : (t : Term) → are_two_objects t t ≡ true → ⊥
+    one (Object d) k = true≢false (sym k ∙ ap not (eq-eqb d d refl))
+    one (Parameter d) k = true≢false (sym k)
+    one (Apply f us) k = true≢false (sym k)
+itself_not_elsewhere [] h = true≢false (sym h)
+
+pub makes_arguments : (x : Target) (l : Literal) → is_named l.relation ≡ true → Makes x l → arguments_made x ≡ l.arguments
+unfolding literal
+makes_arguments (Set a) l n h = ap (λ (m : Literal). m.arguments) h
+makes_arguments (Unset a) l n h = ap (λ (m : Literal). m.arguments) h
+makes_arguments (Clear y) l n h = absurd h
+makes_arguments (Assign f ts v) l n h = absurd (true≢false (sym n ∙ ap (λ (m : Literal). is_named m.relation) (sym h)))
+
+-- what makes the literal so doesn't leave it
+pub makes_no_leaving : (x : Target) (l : Literal) → is_named l.relation ≡ true → Makes x l → leaves l.relation l.arguments x ≡ true → ⊥
+makes_no_leaving x l n h k =
+    ⊎_elim (λ o. true≢false (sym (makes_about x l n h) ∙ not-true _ o)) (λ o. itself_not_elsewhere l.arguments (ap (λ ts. at_other_objects ts l.arguments) (sym (makes_arguments x l n h)) ∙ o)) (or_cases (not (is_about l.relation x)) _ k)
+
+-- what leaves a literal doesn't deny it
+pub leaving_no_denying : (s : Signature) (kf : List Literal) (r : Relation) (ts : List Term) (b : Bool) (x : Target) → leaves r ts x ≡ true → denied_by s kf r ts b x ≡ true → ⊥
+leaving_no_denying s kf r ts b x h k =
+    ⊎_elim (λ o. true≢false (sym (denies_about s kf r ts b x k) ∙ not-true _ o)) (λ o. apart r ts b x o k) (or_cases (not (is_about r x)) _ h)
+  where
+    differs : (us ts : List Term) → at_other_objects us ts ≡ true → not (some_differ s kf us ts) ≡ true → ⊥
+    differs us ts o k = true≢false (sym (others_differ s kf us ts o) ∙ not-true _ k)
+
+    apart : (r : Relation) (ts : List Term) (b : Bool) (x : Target) → at_other_objects (arguments_made x) ts ≡ true → denied_by s kf r ts b x ≡ true → ⊥
+    apart (Named p) ts true (Unset a) o k = differs a.arguments ts o (and_parts (a.predicate == p) _ k).1
+    apart (Named p) ts false (Set a) o k = differs a.arguments ts o (and_parts (a.predicate == p) _ k).1
+    apart (Named p) ts true (Set a) o k = true≢false (sym k)
+    apart (Named p) ts false (Unset a) o k = true≢false (sym k)
+    apart (Named p) ts b (Clear y) o k = true≢false (sym o)
+    apart (Named p) ts b (Assign f us v) o k = true≢false (sym o)
+    apart Equality ts b x o k = true≢false (sym k)
+
 -- ---- places
 
 pub named_gives_none : (r : Relation) (ts : List Term) → is_named r ≡ true → gives_value r ts ≡ true → ⊥
 named_gives_none (Named p) ts h k = true≢false (sym k)
 named_gives_none Equality ts h k = true≢false (sym h)
+
+pub named_order : (r : Relation) (ts : List Term) → is_named r ≡ true → in_order r ts ≡ ts
+named_order (Named p) ts h = refl
+named_order Equality ts h = absurd (true≢false (sym h))
 
 -- of a place: the function, the objects and the object on the right
 pub record OfPlace (l : Literal) : Type 0 where

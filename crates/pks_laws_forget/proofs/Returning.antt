@@ -7,22 +7,23 @@ use Rattle.pks_terms.specs.Sets.{Each, IsIn, all_some}
 use Rattle.pks_terms.specs.Syntax.{Object, Parameter, Apply, Inner, Term, object, term_of, place, as_object, Relation, Named, Equality, Literal, Atom, negated}
 use Rattle.pks_terms.specs.Orders.{term_cmp, term_eq, in_order, literal, inequation, number_of, arguments_of}
 use Rattle.pks_terms.specs.Signatures.{Signature}
-use Rattle.pks_terms.specs.Databases.{Entry, Five, told, values_at, least, applied, inner_normal, normal, normal_literal, is_known, is_evident, differ, some_differ, fits, is_shut_out, is_closed_off, holds}
+use Rattle.pks_terms.specs.Databases.{Entry, Five, values_at, least, applied, inner_normal, normal, normal_literal, is_known, is_evident, differ, some_differ, fits, is_shut_out, is_closed_off, holds}
 use Rattle.pks_terms.specs.Closure.{first_clash, is_application}
 use Rattle.pks_terms.specs.Actions.{Target, Set, Unset, Clear, Assign, Effect}
 use Rattle.pks_terms.specs.Spoiling.{may_fire, may_change}
 use Rattle.pks_terms.specs.Progress.{fixed_terms, entry_terms}
 use Rattle.pks_terms.specs.Saturated.{Within}
 use Rattle.pks_terms.proofs.ListLaws.{each_in, each_of, each_from_all, all_from_each, each_front, each_back, found_in, any_in, in_filter, in_filtered, in_appended, in_mapped}
-use Rattle.pks_laws.proofs.Least.{in_right, one_value, least_one, value_literal}
+use Rattle.pks_laws.proofs.Least.{addition_in, in_right, one_value, least_one, normal_literal_again, value_literal}
 use Rattle.pks_laws.proofs.ClosedAgain.{holds-normal}
+use Rattle.pks_laws.proofs.NormalMembers.{normal_in}
 use Rattle.pks_laws.proofs.Values.{least_in}
 use Rattle.pks_laws_forget.specs.Transparent.{AreObjects, is_named, IsOfObjects, IsOfPlace, left_of, Makes, is_elsewhere, Assigns, SurelyFires, NeverFires, IsDecided, IsAssigned, IsKept}
 use Rattle.pks_laws_forget.proofs.Lists.{not_twice, negated_twice, nothing_found, any_each}
 use Rattle.pks_laws_forget.proofs.Alike.{objects_stay, normal_relation, normal_sign, normal_arguments, negated_normal, evident_equation, found_known, holds_cases, evident_holds, off_holds, known_holds, differ_holds, not_denied, some_differ_alike, not_apart}
 use Rattle.pks_laws_forget.proofs.Agreeing.{objects_are, application_form, normal_agrees, normals_agree, normal_inners_again}
 use Rattle.pks_laws_forget.specs.Testing.{are_objects, is_of_objects}
-use Rattle.pks_laws_forget.proofs.Objects.{of_objects, objects_normal, literal_normal, others_differ, objects_shut_out, denied_by, makes_one, none_apart, denies, named_gives_none, OfPlace, of_place, objects_of_place, none_inside, place_is, literal_of_place, terms_of_place, negated_place}
+use Rattle.pks_laws_forget.proofs.Objects.{of_objects, objects_normal, literal_normal, others_differ, objects_shut_out, denied_by, makes_one, none_apart, denies, named_gives_none, named_order, no_applications, OfPlace, of_place, objects_of_place, none_inside, place_is, literal_of_place, terms_of_place, negated_place}
 use Rattle.pks_laws_forget.proofs.Given.{IsGiven, changed_in, stays_in, touched_in, returns_in, is_own, known_then, untouched_returns, first_known, value_from, none_least, literal_kind, literal_arguments, literal_sign, literal_negated, IsRight, right_holds, wrong_not_evident, right_wrong}
 
 module _ (s : Signature) (before after later moment : Five) (es : List Effect) (given : IsGiven s before after later moment es) where
@@ -61,7 +62,7 @@ module _ (s : Signature) (before after later moment : Five) (es : List Effect) (
   returns = returns_in s before later es
 
   abbrev pub own : List Literal
-  own = filter is_own before.kf
+  own = filter (is_own before.kf) before.kf
 
   abbrev pub back : List Literal
   back = filter returns later.kf
@@ -89,8 +90,14 @@ module _ (s : Signature) (before after later moment : Five) (es : List Effect) (
       let d = made_of e i in
       ⊎_elim (λ k. given.grown l (subst (λ x. IsIn x after.kf) (makes_one e.target d.made l d.makes m) k.1)) (λ n. absurd (fires_or_never e i f n.0)) d.known
 
-  pub own_of : (l : Literal) → IsIn l own → IsIn l before.kf × (IsOfObjects l ⊎ IsOfPlace l)
-  own_of l i = let q = in_filtered is_own before.kf l i in (q.0, ⊎_elim (λ o. inl (of_objects l o)) (λ o. inr o) (or_cases (is_of_objects l) _ q.1))
+  pub own_of : (l : Literal) → IsIn l own → IsIn l before.kf × (IsOfObjects (normal_literal before.kf l) ⊎ IsOfPlace l)
+  own_of l i =
+      let q = in_filtered (is_own before.kf) before.kf l i in
+      (q.0, ⊎_elim (λ o. inl (of_objects (normal_literal before.kf l) o)) (λ o. inr o) (or_cases (is_of_objects (normal_literal before.kf l)) _ q.1))
+
+  -- what is in normal form of a predicate is of a predicate
+  pub kind_of : (l : Literal) → IsOfObjects (normal_literal before.kf l) → is_named l.relation ≡ true
+  kind_of l o = ap is_named (sym (normal_relation before.kf l)) ∙ o.0
 
   pub back_of : (l : Literal) → IsIn l back → IsIn l later.kf × (all_stay l.arguments ≡ true) × (is_touched (negated l) ≡ false)
   back_of l i = let q = in_filtered returns later.kf l i in let r = and_parts (all_stay l.arguments) _ q.1 in (q.0, r.0, not-true _ r.1)
@@ -159,7 +166,9 @@ module _ (s : Signature) (before after later moment : Five) (es : List Effect) (
             let f = found_in (λ x. may_fire s before x && may_change s later.kf (number_of (left_of l)) (arguments_of (left_of l)) x.target) es c in
             elsewhere_stays (left_of l) f.0.target (each_in (λ e. is_elsewhere (left_of l) e.target ≡ true) es f.0 e.1 f.1) (ap is_application (place_left l q)) (and_parts (may_fire s before f.0) _ f.2).1),
       )) k.1)
-      (λ u. inr (given.grown l u.1, stays_left l q (and_parts (all_stay l.arguments) _ (untouched_returns s before later es l u.0)).0)) r)
+      (λ m. ⊎_elim
+      (λ u. inr (given.grown l u.1, stays_left l q (and_parts (all_stay l.arguments) _ (untouched_returns s before later es l u.0)).0))
+      (λ c. absurd (named_gives_none l.relation l.arguments (kind_of l c.0) o)) m) r)
       (each_in (IsKept before after es) before.kf l given.kept i)
     where
       stays_left : (l : Literal) (q : OfPlace l) → all_stay l.arguments ≡ true → is_changed (left_of l) ≡ false
@@ -397,7 +406,7 @@ module _ (s : Signature) (before after later moment : Five) (es : List Effect) (
           (λ i.
           let o = own_of f.0 i in
           ⊎_elim
-          (λ w. absurd (true≢false (sym w.0 ∙ same_kind f.0 l f.2 ∙ n)))
+          (λ w. absurd (true≢false (sym (kind_of f.0 w) ∙ same_kind f.0 l f.2 ∙ n)))
           (λ w. let q = of_place f.0 w in
           ⊎_elim
           (λ c.
@@ -425,7 +434,7 @@ module _ (s : Signature) (before after later moment : Five) (es : List Effect) (
       ⊎_elim
       (λ i. let o = own_of k i in
       ⊎_elim
-      (λ w. absurd (true≢false (sym w.0 ∙ ap is_named (sym (normal_relation all k) ∙ ap (λ (x : Literal). x.relation) e) ∙ ap (λ (x : Literal). is_named x.relation) q.is)))
+      (λ w. absurd (true≢false (sym (kind_of k w) ∙ ap is_named (sym (normal_relation all k) ∙ ap (λ (x : Literal). x.relation) e) ∙ ap (λ (x : Literal). is_named x.relation) q.is)))
       (λ w. let p = of_place k w in
       ⊎_elim
       (λ a. ⊎_elim (λ v. absurd (bare_not_said m k q v e)) (λ c. subst (λ x. IsIn x before.kf) (sym (literal_of_place all k p c.0) ∙ e) o.0) (said k o.0 p a))
@@ -502,6 +511,13 @@ module _ (s : Signature) (before after later moment : Five) (es : List Effect) (
   region_why (Named p) ts true a h = absurd (true≢false (sym h))
   region_why Equality ts b a h = absurd (true≢false (sym h))
 
+  -- a literal of before has there the normal form that it has then, and this was known
+  pub first_normal : (l : Literal) → IsOfObjects (normal_literal before.kf l) → IsIn l before.kf → IsIn (normal_literal before.kf l) before.kf
+  first_normal l o i = normal_in before.kf (addition_in s before given.inhabited given.first_saturated given.first_fine) l (named_order l.relation l.arguments (kind_of l o)) i
+
+  pub own_normal : (l : Literal) → IsOfObjects (normal_literal before.kf l) → normal_literal all l ≡ normal_literal before.kf l
+  own_normal l o = sym (normal_literal_again s before.kf all first_in one_all l) ∙ literal_normal all (normal_literal before.kf l) o
+
   pub why : (m : Literal) → is_named m.relation ≡ true → all_stay m.arguments ≡ true → holds s G m ≡ true → ByBack m ⊎ (ByOwn m ⊎ ByRegion m)
   why m n a h =
       ⊎_elim
@@ -510,7 +526,7 @@ module _ (s : Signature) (before after later moment : Five) (es : List Effect) (
       ⊎_elim
       (λ i. let o = own_of f.0 i in
       ⊎_elim
-      (λ w. inr (inl (f.0, o.0, w, sym (literal_normal all f.0 w) ∙ f.2 ∙ normal_same m a)))
+      (λ w. inr (inl (normal_literal before.kf f.0, first_normal f.0 w o.0, w, sym (own_normal f.0 w) ∙ f.2 ∙ normal_same m a)))
       (λ w. absurd (named_gives_none f.0.relation f.0.arguments (same_kind f.0 m f.2 ∙ n) w)) o.1)
       (λ i. inl (f.0, i, sym (normal_same f.0 (back_of f.0 i).1) ∙ f.2 ∙ normal_same m a))
       (in_appended own back f.0 f.1))
@@ -543,7 +559,9 @@ module _ (s : Signature) (before after later moment : Five) (es : List Effect) (
       ⊎_elim
       (λ o. ⊎_elim (λ j. inl (given.grown k j))
       (λ w. ⊎_elim (λ m. inl (made_later w.effect k w.among w.fires m)) (λ m. inr (w.effect, w.among, w.fires, m, made_later w.effect (negated k) w.among w.fires m)) w.makes) o.1)
-      (λ r. ⊎_elim (λ o. absurd (named_gives_none k.relation k.arguments n.0 o.0)) (λ u. inl (given.grown k u.1)) r)
+      (λ r. ⊎_elim (λ o. absurd (named_gives_none k.relation k.arguments n.0 o.0))
+      (λ q. ⊎_elim (λ u. inl (given.grown k u.1))
+      (λ c. ⊎_elim (λ j. inl (given.grown k j)) (λ m. absurd (subst (IsIn m.0) (no_applications k.arguments n.1) m.1)) c.1) q) r)
       (each_in (IsKept before after es) before.kf k given.kept i)
 
   pub opposed : (e : Effect) (x n : Literal) → IsIn e es → SurelyFires before e → Makes e.target (negated n) → normal_literal later.kf x ≡ n → is_named x.relation ≡ true → IsOfObjects n → is_touched x ≡ true
@@ -617,7 +635,7 @@ module _ (s : Signature) (before after later moment : Five) (es : List Effect) (
           ⊎_elim
           (λ m. let w = own_of k m in
           ⊎_elim
-          (λ z. true≢false (sym z.0 ∙ ap is_named (sym (normal_relation all k) ∙ ap (λ (x : Literal). x.relation) e) ∙ literal_kind Equality (object v.0 ∷ object v.1 ∷ []) (not l.positive)))
+          (λ z. true≢false (sym (kind_of k z) ∙ ap is_named (sym (normal_relation all k) ∙ ap (λ (x : Literal). x.relation) e) ∙ literal_kind Equality (object v.0 ∷ object v.1 ∷ []) (not l.positive)))
           (λ z. ⊎_elim
           (λ a. ⊎_elim (λ r. wrong_said k v r e) (λ b. bare_wrong k v (of_place k z) b e) (said k w.0 (of_place k z) a))
           (λ c. wrong_later k v c.0 (place_literal_stays k (of_place k z) c.1) e)
@@ -635,13 +653,23 @@ module _ (s : Signature) (before after later moment : Five) (es : List Effect) (
           (λ c. true≢false (sym (off_named G l.relation l.arguments (not l.positive) c) ∙ unnamed)) r)
           (holds_cases s G (negated l) h)
 
-  pub place_or_objects : (l : Literal) → IsIn l own → (IsIn l before.kf × IsOfObjects l) ⊎ (IsIn l before.kf × IsOfPlace l)
+  -- what holds, holds in normal form
+  pub holds_normal : (l m : Literal) → normal_literal all l ≡ normal_literal all m → holds s G l ≡ true → holds s G m ≡ true
+  holds_normal l m e h = sym (holds-normal s G one_all m) ∙ ap (holds s G) (sym e) ∙ holds-normal s G one_all l ∙ h
+
+  pub copy_free : (l : Literal) → IsIn l before.kf → IsOfObjects (normal_literal before.kf l) → holds s G (negated l) ≡ true → ⊥
+  copy_free l i o h =
+      let n = normal_literal before.kf l in
+      own_free n (first_normal l o i) o
+      (holds_normal (negated l) (negated n) (sym (negated_normal all l) ∙ ap negated (own_normal l o ∙ sym (literal_normal all n o)) ∙ negated_normal all n) h)
+
+  pub place_or_objects : (l : Literal) → IsIn l own → (IsIn l before.kf × IsOfObjects (normal_literal before.kf l)) ⊎ (IsIn l before.kf × IsOfPlace l)
   place_or_objects l i = let o = own_of l i in ⊎_elim (λ a. inl (o.0, a)) (λ a. inr (o.0, a)) o.1
 
   pub clash_free : (l : Literal) → IsIn l all → holds s G (negated l) ≡ true → ⊥
   clash_free l i h =
       ⊎_elim
-      (λ j. ⊎_elim (λ o. own_free l o.0 o.1 h) (λ o. place_free l o.0 o.1 h) (place_or_objects l j))
+      (λ j. ⊎_elim (λ o. copy_free l o.0 o.1 h) (λ o. place_free l o.0 o.1 h) (place_or_objects l j))
       (λ j. let q = back_of l j in
       ⊎_elim (λ n. back_free l q.0 q.1 q.2 n h) (λ n. later_denied l q.0 (equation_later (negated l) n q.1 h)) (cases_Bool (is_named l.relation)))
       (in_appended own back l i)

@@ -1,29 +1,32 @@
 -- What the moment before a transparent step may come to is closed under the rules.
-use Rattle.std.proofs.Common.{◌≡◌, ◌⊎◌, ◌&&◌, ◌||◌, ◌==◌, ◌++◌, ℕ, Bool, true, false, not, cond, is_some, is_lt, slice_get, List, [], ◌∷◌, map, filter, flat_map, Option, Some, None, refl, sym, ap, ◌∙◌, subst, inl, inr, ⊎_elim, true≢false}
-use Rattle.std.specs.List.{list_any, list_all}
+use Rattle.std.proofs.Common.{◌≡◌, ◌⊎◌, ◌&&◌, ◌||◌, ◌==◌, ℕ, Bool, true, false, not, cond, is_some, is_lt, slice_get, List, [], ◌∷◌, map, filter, flat_map, option_and_then, Option, Some, None, refl, sym, ap, ◌∙◌, subst, inl, inr, ⊎_elim, true≢false}
+use Rattle.std.specs.List.{list_all}
 use Rattle.std.specs.Option.{option_map_or}
-use Rattle.std.proofs.lemmas.Bool.{or_cases, or_left, or_right, and_parts, and_from, not_from_false, false_from_ne_true, not-true, eq-eqb, eqb-true, or_parts}
-use Rattle.pks_terms.specs.Sets.{Each, IsIn, all_some, one_replaced, with_others, with_later, choices_from}
+use Rattle.std.proofs.lemmas.Option.{none-some, same_Some}
+use Rattle.std.proofs.lemmas.Bool.{cases_Bool, or_cases, or_left, or_right, and_parts, and_from, not_from_false, false_from_ne_true, not-true, eqb-true, or_parts}
+use Rattle.pks_terms.specs.Sets.{Each, IsIn, all_some, one_replaced, with_others}
 use Rattle.pks_terms.specs.Syntax.{Object, Parameter, Apply, Inner, Term, object, term_of, place, as_object, Relation, Named, Equality, Literal, negated}
 use Rattle.pks_terms.specs.Orders.{term_cmp, in_order, literal, equation, inequation}
 use Rattle.pks_terms.specs.Signatures.{Shape, Signature, objects_of, object_is_of, is_foreign, range_of}
-use Rattle.pks_terms.specs.Databases.{Five, values_at, normal, normal_literal, some_differ, holds}
+use Rattle.pks_terms.specs.Databases.{Five, values_at, least, inner_normal, normal, normal_literal, holds}
 use Rattle.pks_terms.specs.Closure.{inner_steps, term_steps, by_value, by_member, by_group, is_application, applications_in, is_last_left, by_range, additions}
 use Rattle.pks_terms.specs.Actions.{Target, Set, Unset, Clear, Assign, Effect}
 use Rattle.pks_terms.specs.Spoiling.{may_fire, may_make_true, may_make_false, may_change, may_be_changed, is_stable, are_stable, may_be_denied, spoils}
-use Rattle.pks_terms.specs.Settling.{argument_forms, term_forms, stable_forms, target_forms, makes_same, is_made_otherwise, lasting, lasted, fired, must_have_fired, cannot_have_fired}
+use Rattle.pks_terms.specs.Settling.{lasting, lasted}
 use Rattle.pks_terms.specs.Saturated.{Within, IsSaturated}
-use Rattle.pks_terms.proofs.ListLaws.{each_in, each_of, each_from_all, all_from_each, found_in, any_in, in_filter, in_filtered, in_appended, in_mapped, in_map, in_flat_mapped, map-map}
+use Rattle.pks_terms.proofs.ListLaws.{each_in, each_from_all, all_from_each, found_in, any_in, in_filter, in_filtered, in_appended, in_mapped, in_map, in_flat_mapped, map-map}
 use Rattle.pks_terms.proofs.Types.{are_objects_of}
-use Rattle.pks_laws.proofs.Least.{in_left, in_right, in_flat, addition_in, ranged}
-use Rattle.pks_laws.proofs.BelongingHistories.{later_each, other_each}
-use Rattle.pks_laws_forget.specs.Transparent.{AreObjects, is_named, IsOfObjects, gives_value, IsOfPlace, left_of, Makes, is_about, assigns_in, SurelyFires, NeverFires, IsAssigned, IsUntouched, LastsAsGroup}
-use Rattle.pks_laws_forget.proofs.Lists.{negated_twice, in_cond, any_each, any_more, self_or_other, replaced_alike, replaced_too}
-use Rattle.pks_laws_forget.proofs.Alike.{normal_relation, known_holds, group_closed, no_both, some_differ_alike, inner_step_normal, step_normal, member_grows, member_is}
+use Rattle.pks_laws.proofs.Least.{in_left, in_right, in_flat, addition_in, ranged, values_within}
+use Rattle.pks_laws.proofs.ClosedAgain.{holds-normal}
+use Rattle.pks_laws.proofs.Holding.{eqb_comm}
+use Rattle.pks_laws.proofs.BelongingHistories.{other_each}
+use Rattle.pks_laws_forget.specs.Transparent.{AreObjects, is_named, IsOfObjects, gives_value, IsOfPlace, left_of, Makes, IsAssigned, leaves, IsLeft, IsKept, LastsAsGroup}
+use Rattle.pks_laws_forget.proofs.Lists.{negated_twice, any_each, any_more, replaced_alike, replaced_too}
+use Rattle.pks_laws_forget.proofs.Alike.{all_themselves, objects_stay, normal_relation, normal_arguments, normal_of, known_holds, group_closed, some_differ_alike, inner_step_normal, step_normal, member_grows, member_is}
 use Rattle.pks_laws_forget.proofs.Agreeing.{objects_are, normal-term_of}
-use Rattle.pks_laws_forget.proofs.Objects.{literal_normal, no_steps, no_applications, denied_by, makes_about, none_apart, named_gives_none, OfPlace, of_place, objects_of_place, none_inside, inequation_place, inequation_left, equation_is}
-use Rattle.pks_laws_forget.proofs.Given.{IsGiven, changed_in, is_own, known_then, literal_arguments, literal_kind, literal_named, literal_negated, returns_in, same_predicate, stays_in, touched_in, untouched_returns, value_from}
-use Rattle.pks_laws_forget.proofs.Returning.{apart, IsBare, assigned_changed, back_holds, bare_holds, back_of, changed_alike, clash_free, each_stays, equation_later, equations_untouched, fires_or_never, first_in, into_back, kept_place, later_denied, made_later, made_of, none_differ, objects_do, objects_each, opposed, order_stays, place_left, place_literal_stays, place_or_objects, place_stays, region_holds, some_differ_later, stays_each, stays_or_opposed, surely_may, touched_named, value_first, value_known, value_later, valued_or_bare, why}
+use Rattle.pks_laws_forget.proofs.Objects.{literal_normal, denied_by, makes_no_leaving, leaving_no_denying, named_gives_none, OfPlace, of_place, objects_of_place, none_inside, inequation_place, inequation_left, equation_is}
+use Rattle.pks_laws_forget.proofs.Given.{IsGiven, changed_in, is_own, known_then, literal_arguments, literal_kind, literal_negated, returns_in, right_holds, stays_in, touched_in, value_from}
+use Rattle.pks_laws_forget.proofs.Returning.{IsBare, kind_of, least_there, one_all, one_first, assigned_changed, back_holds, bare_holds, back_of, changed_alike, clash_free, each_stays, equation_later, equations_untouched, first_in, into_back, kept_place, made_of, none_differ, objects_do, objects_each, opposed, order_stays, place_left, place_literal_stays, place_or_objects, place_stays, region_holds, stays_each, stays_or_opposed, surely_may, touched_named, value_first, value_known, value_later, valued_or_bare, why}
 
 module _ (s : Signature) (before after later moment : Five) (es : List Effect) (given : IsGiven s before after later moment es) where
   abbrev is_changed : Term → Bool
@@ -45,7 +48,7 @@ module _ (s : Signature) (before after later moment : Five) (es : List Effect) (
   returns = returns_in s before later es
 
   abbrev own : List Literal
-  own = filter is_own before.kf
+  own = filter (is_own before.kf) before.kf
 
   abbrev back : List Literal
   back = filter returns later.kf
@@ -58,7 +61,7 @@ module _ (s : Signature) (before after later moment : Five) (es : List Effect) (
 
   -- ---- the same effects may fire
 
-  same_fire : (e : Effect) → IsIn e es → may_fire s G e ≡ may_fire s before e
+  pub same_fire : (e : Effect) → IsIn e es → may_fire s G e ≡ may_fire s before e
   unfolding may_fire
   same_fire e i =
       ⊎_elim
@@ -91,7 +94,7 @@ module _ (s : Signature) (before after later moment : Five) (es : List Effect) (
       neither true k = true≢false (sym (and_parts (list_all (λ t. is_some (as_object t)) vs) _ k).1)
       neither false k = true≢false (sym (and_parts (list_all (λ t. is_some (as_object t)) us) _ k).1)
 
-  made_place : (f : ℕ) (us : List Inner) (v : Term) (l : Literal) → Makes (Assign f us v) l → IsOfObjects l ⊎ IsOfPlace l → (list_all (λ t. is_some (as_object t)) us ≡ true) × (e : ℕ) × (v ≡ object e)
+  pub made_place : (f : ℕ) (us : List Inner) (v : Term) (l : Literal) → Makes (Assign f us v) l → IsOfObjects l ⊎ IsOfPlace l → (list_all (λ t. is_some (as_object t)) us ≡ true) × (e : ℕ) × (v ≡ object e)
   made_place f us v l m o =
       ⊎_elim
       (λ n. absurd (true≢false (sym n.0 ∙ ap (λ (x : Literal). is_named x.relation) (sym m) ∙ literal_kind Equality (Apply f us ∷ v ∷ []) true)))
@@ -131,7 +134,7 @@ module _ (s : Signature) (before after later moment : Five) (es : List Effect) (
       let r = inner_unchanged us q.1 in
       and_from _ _ (not_from_false _ (false_from_ne_true _ (λ t. true≢false (sym (changed_too f us r.1 t) ∙ not-true _ q.0)))) r.0
 
-  all_stable_stay : (ts : List Term) → are_stable s G es ts ≡ true → all_stay ts ≡ true
+  pub all_stable_stay : (ts : List Term) → are_stable s G es ts ≡ true → all_stay ts ≡ true
   all_stable_stay [] h = refl
   all_stable_stay (t ∷ ts) h = let q = and_parts (is_stable s G es t) _ h in and_from _ _ (stable_stays t q.0) (all_stable_stay ts q.1)
 
@@ -172,17 +175,20 @@ module _ (s : Signature) (before after later moment : Five) (es : List Effect) (
 
   -- ---- by value
 
-  -- known later, and staying: so is each literal of it but those of assigned places and of predicates at objects
+  -- known later, and staying: so is each literal of it but those of assigned places and those that in normal form are of predicates at objects
   abbrev Stays : Literal → Type 0
   Stays l = IsIn l later.kf × (all_stay l.arguments ≡ true) × (is_touched (negated l) ≡ false)
 
   abbrev Assigned : Literal → Type 0
   Assigned l = IsIn l before.kf × OfPlace l × IsAssigned before es (left_of l)
 
-  three : (l : Literal) → IsIn l all → Stays l ⊎ (IsOfObjects l ⊎ Assigned l)
+  abbrev Copies : Literal → Type 0
+  Copies l = IsIn l before.kf × IsOfObjects (normal_literal before.kf l)
+
+  three : (l : Literal) → IsIn l all → Stays l ⊎ (Copies l ⊎ Assigned l)
   three l i =
       ⊎_elim
-      (λ j. ⊎_elim (λ o. inr (inl o.1))
+      (λ j. ⊎_elim (λ o. inr (inl o))
       (λ o. let q = of_place l o.1 in
       ⊎_elim (λ a. inr (inr (o.0, q, a)))
       (λ c. inl (c.0, place_literal_stays s before after later moment es given l q c.1, equations_untouched s before after later moment es given l (ap (λ (x : Literal). is_named x.relation) q.is)))
@@ -212,7 +218,7 @@ module _ (s : Signature) (before after later moment : Five) (es : List Effect) (
   inner_step_alike : (x y : Inner) → IsIn y (inner_steps later.kf x) → normal later.kf (term_of y) ≡ normal later.kf (term_of x)
   inner_step_alike x y i = normal-term_of later.kf y ∙ ap term_of (inner_step_normal s later given.inhabited given.saturated given.fine x y i) ∙ sym (normal-term_of later.kf x)
 
-  steps_later : (t u : Term) → stays t ≡ true → IsIn u (term_steps all t) → IsIn u (term_steps later.kf t) × (stays u ≡ true)
+  pub steps_later : (t u : Term) → stays t ≡ true → IsIn u (term_steps all t) → IsIn u (term_steps later.kf t) × (stays u ≡ true)
   unfolding term_steps
   steps_later (Object d) u h i = absurd i
   steps_later (Parameter d) u h i = absurd i
@@ -312,12 +318,109 @@ module _ (s : Signature) (before after later moment : Five) (es : List Effect) (
       (first_in s before after later moment es given) k (unfold by_value in addition_in s before given.inhabited given.first_saturated given.first_fine l k h.0
       (subst (λ x. IsIn x (map (λ ts. literal l.relation ts l.positive) (one_replaced (term_steps before.kf) l.arguments))) r.2 (in_map (λ ts. literal l.relation ts l.positive) (one_replaced (term_steps before.kf) l.arguments) r.0 z.0)))
 
+  -- ---- what is in normal form of objects
+
+  abbrev IsValued : Term → Type 0
+  IsValued t = is_some (as_object (normal before.kf t)) ≡ true
+
+  abbrev IsInnerValued : Inner → Type 0
+  IsInnerValued u = is_some (as_object (inner_normal before.kf u)) ≡ true
+
+  inner_value : (g : ℕ) (ds : List ℕ) → IsInnerValued (Apply g ds) → (e : ℕ) × IsIn e (values_at before.kf g ds)
+  inner_value g ds h =
+      elim (least (values_at before.kf g ds)) as (λ o. least (values_at before.kf g ds) ≡ o → is_some (as_object (option_map_or Object o (Apply g (map (λ d. d) ds)))) ≡ true → (e : ℕ) × IsIn e (values_at before.kf g ds)) [
+        | None ↦ λ r k. absurd (true≢false (sym k))
+        | Some e ↦ λ r k. (e, least_there s before after later moment es given (values_at before.kf g ds) e r)
+      ] refl (ap (λ o. is_some (as_object (option_map_or Object (option_and_then (λ ds. least (values_at before.kf g ds)) o) (Apply g (map (λ d. d) ds))))) (sym (all_themselves ds)) ∙ h)
+
+  -- the value of an application, at the values of its arguments
+  abbrev HasValue : ℕ → List Inner → Type 0
+  HasValue f us = (ds : List ℕ) × (all_some (map as_object (map (inner_normal before.kf) us)) ≡ Some ds) × (e : ℕ) × IsIn e (values_at before.kf f ds) × (normal before.kf (Apply f us) ≡ object e)
+
+  outer_value : (f : ℕ) (us : List Inner) → IsValued (Apply f us) → HasValue f us
+  unfolding normal
+  outer_value f us h =
+      elim (all_some (map as_object (map (inner_normal before.kf) us))) as (λ o. all_some (map as_object (map (inner_normal before.kf) us)) ≡ o → is_some (as_object (option_map_or Object (option_and_then (λ ds. least (values_at before.kf f ds)) o) (Apply f (map (inner_normal before.kf) us)))) ≡ true → HasValue f us) [
+        | None ↦ λ q k. absurd (true≢false (sym k))
+        | Some ds ↦ λ q k. elim (least (values_at before.kf f ds)) as (λ o. least (values_at before.kf f ds) ≡ o → is_some (as_object (option_map_or Object o (Apply f (map (inner_normal before.kf) us)))) ≡ true → HasValue f us) [
+          | None ↦ λ r k. absurd (true≢false (sym k))
+          | Some e ↦ λ r k. (ds, q, e, least_there s before after later moment es given (values_at before.kf f ds) e r, ap (λ o. option_map_or Object (option_and_then (λ ds. least (values_at before.kf f ds)) o) (Apply f (map (inner_normal before.kf) us))) q ∙ ap (λ o. option_map_or Object o (Apply f (map (inner_normal before.kf) us))) r)
+        ] refl k
+      ] refl h
+
+  -- such a value is the only one
+  value_before : (f : ℕ) (ds : List ℕ) (e d : ℕ) → IsIn e (values_at before.kf f ds) → IsIn d (values_at all f ds) → IsIn d (values_at before.kf f ds)
+  value_before f ds e d i j =
+      subst (λ x. IsIn x (values_at before.kf f ds)) (one_all s before after later moment es given f ds e d (values_within s before.kf all (first_in s before after later moment es given) (one_all s before after later moment es given) f ds e i) j) i
+
+  inner_valued : (us : List Inner) (ds : List ℕ) → all_some (map as_object (map (inner_normal before.kf) us)) ≡ Some ds → Each IsInnerValued us
+  inner_valued [] ds q = tt
+  inner_valued (u ∷ us) ds q =
+      elim (as_object (inner_normal before.kf u)) as (λ o. as_object (inner_normal before.kf u) ≡ o → all_some (o ∷ map as_object (map (inner_normal before.kf) us)) ≡ Some ds → Each IsInnerValued (u ∷ us)) [
+        | None ↦ λ r k. absurd (none-some ds k)
+        | Some d ↦ λ r. elim (all_some (map as_object (map (inner_normal before.kf) us))) as (λ o. all_some (map as_object (map (inner_normal before.kf) us)) ≡ o → ◌≡◌ {A = Option (List ℕ)} (elim o [ None ↦ None | Some ys ↦ Some (d ∷ ys) ]) (Some ds) → Each IsInnerValued (u ∷ us)) [
+          | None ↦ λ p k. absurd (none-some ds k)
+          | Some ys ↦ λ p k. (ap is_some r, inner_valued us ys p)
+        ] refl
+      ] refl q
+
+  inner_steps_before : (u y : Inner) → IsInnerValued u → IsIn y (inner_steps all u) → IsIn y (inner_steps before.kf u) × IsInnerValued y
+  inner_steps_before (Object d) y h i = absurd i
+  inner_steps_before (Parameter d) y h i = absurd i
+  inner_steps_before (Apply g ds) y h i =
+      let r = in_mapped Object (values_at all g ds) y i in
+      let v = inner_value g ds h in
+      (subst (λ z. IsIn z (map Object (values_at before.kf g ds))) r.2 (in_map Object (values_at before.kf g ds) r.0 (value_before g ds v.0 r.0 v.1 r.1)), ap (λ z. is_some (as_object (inner_normal before.kf z))) (sym r.2))
+
+  steps_before : (t u : Term) → IsValued t → IsIn u (term_steps all t) → IsIn u (term_steps before.kf t)
+  unfolding term_steps
+  steps_before (Object d) u h i = absurd i
+  steps_before (Parameter d) u h i = absurd i
+  steps_before (Apply f us) u h i =
+      let v = outer_value f us h in
+      ⊎_elim
+      (λ j. let r = in_mapped Object (option_map_or (values_at all f) (all_some (map as_object us)) []) u j in
+      in_left (map Object (option_map_or (values_at before.kf f) (all_some (map as_object us)) [])) (map (Apply f) (one_replaced (inner_steps before.kf) us)) u
+      (subst (λ z. IsIn z (map Object (option_map_or (values_at before.kf f) (all_some (map as_object us)) []))) r.2
+      (in_map Object (option_map_or (values_at before.kf f) (all_some (map as_object us)) []) r.0 (values v (all_some (map as_object us)) refl r.0 r.1))))
+      (λ j. let r = in_mapped (Apply f) (one_replaced (inner_steps all) us) u j in
+      let z = replaced_too IsInnerValued (inner_steps all) (inner_steps before.kf) inner_steps_before us r.0 (inner_valued us v.0 v.1) r.1 in
+      in_right (map Object (option_map_or (values_at before.kf f) (all_some (map as_object us)) [])) (map (Apply f) (one_replaced (inner_steps before.kf) us)) u
+      (subst (λ y. IsIn y (map (Apply f) (one_replaced (inner_steps before.kf) us))) r.2 (in_map (Apply f) (one_replaced (inner_steps before.kf) us) r.0 z.0)))
+      (in_appended (map Object (option_map_or (values_at all f) (all_some (map as_object us)) [])) _ u i)
+    where
+      values : HasValue f us → (o : Option (List ℕ)) → all_some (map as_object us) ≡ o → (d : ℕ) → IsIn d (option_map_or (values_at all f) o []) → IsIn d (option_map_or (values_at before.kf f) o [])
+      values v None q d k = k
+      values v (Some xs) q d k =
+          let same : v.0 ≡ xs = same_Some v.0 xs (sym v.1 ∙ ap (λ ws. all_some (map as_object ws)) (objects_stay before.kf us xs q) ∙ q) in
+          value_before f xs v.2 d (subst (λ ds. IsIn v.2 (values_at before.kf f ds)) same v.3) k
+
+  steps_valued : (t u : Term) → IsValued t → IsIn u (term_steps all t) → IsIn u (term_steps before.kf t) × IsValued u
+  steps_valued t u h i =
+      let j = steps_before t u h i in
+      (j, ap (λ z. is_some (as_object z)) (step_normal s before given.inhabited given.first_saturated given.first_fine t u j) ∙ h)
+
+  each_valued : (ts : List Term) → AreObjects (map (normal before.kf) ts) → Each IsValued ts
+  each_valued [] a = tt
+  each_valued (t ∷ ts) a = (a.0, each_valued ts a.1)
+
+  arguments_valued : (l : Literal) → IsOfObjects (normal_literal before.kf l) → Each IsValued l.arguments
+  arguments_valued l o = each_valued l.arguments (subst AreObjects (normal_arguments before.kf l (kind_of s before after later moment es given l o)) o.1)
+
+  value_copied : (l k : Literal) → Copies l → IsIn k (by_value all l) → IsIn k all
+  unfolding by_value
+  value_copied l k h j =
+      let r = in_mapped (λ ts. literal l.relation ts l.positive) (one_replaced (term_steps all) l.arguments) k j in
+      let z = replaced_too IsValued (term_steps all) (term_steps before.kf) steps_valued l.arguments r.0 (arguments_valued l h.1) r.1 in
+      (first_in s before after later moment es given) k (unfold by_value in addition_in s before given.inhabited given.first_saturated given.first_fine l k h.0
+      (subst (λ x. IsIn x (map (λ ts. literal l.relation ts l.positive) (one_replaced (term_steps before.kf) l.arguments))) r.2 (in_map (λ ts. literal l.relation ts l.positive) (one_replaced (term_steps before.kf) l.arguments) r.0 z.0)))
+
   value_in : (l k : Literal) → IsIn l all → IsIn k (by_value all l) → IsIn k all
   unfolding by_value
   value_in l k i j =
       ⊎_elim (λ h. unfold by_value in value_stays l k h j)
       (λ r. ⊎_elim
-      (λ o. let q = in_mapped (λ ts. literal l.relation ts l.positive) (one_replaced (term_steps all) l.arguments) k j in absurd (no_steps all l.arguments q.0 o.1 q.1))
+      (λ o. unfold by_value in value_copied l k o j)
       (λ a. unfold by_value in value_assigned l k a j) r)
       (three l i)
 
@@ -367,12 +470,10 @@ module _ (s : Signature) (before after later moment : Five) (es : List Effect) (
       (equations_untouched s before after later moment es given (equation t (object r.0)) (literal_kind Equality (t ∷ object r.0 ∷ []) true)))
 
   -- the value that a place had is one of its function's result type
-  value_ranged : (f : ℕ) (us : List Inner) (u : ℕ) → list_all (λ t. is_some (as_object t)) us ≡ true → IsIn (equation (Apply f us) (object u)) before.kf → (e : ℕ) → IsIn e (range_of s (let t : Term = Apply f us in t)) → IsIn u (range_of s (let t : Term = Apply f us in t))
+  value_ranged : (f : ℕ) (us : List Inner) (ds : List ℕ) (u : ℕ) → IsIn u (values_at before.kf f ds) → (e : ℕ) → IsIn e (range_of s (let t : Term = Apply f us in t)) → IsIn u (range_of s (let t : Term = Apply f us in t))
   unfolding is_foreign
-  value_ranged f us u o i e j =
-      let ds = objects_of_place us o in
-      let value : IsIn u (values_at before.kf f ds.0) = value_from before.kf f ds.0 u (subst (λ l. IsIn l before.kf) (ap (λ ws. equation (Apply f ws) (object u)) (objects_are us ds.0 ds.1) ∙ equation_is f (map Object ds.0) u) i) in
-      let own = ranged s before given.inhabited given.first_saturated given.first_fine f ds.0 u value in
+  value_ranged f us ds u value e j =
+      let own = ranged s before given.inhabited given.first_saturated given.first_fine f ds u value in
       elim (slice_get s.functions f) as (λ o. option_map_or (λ (x : Shape). not (object_is_of s x.result u)) o false ≡ false → IsIn e (option_map_or (λ (x : Shape). objects_of s x.result) o []) → IsIn u (option_map_or (λ (x : Shape). objects_of s x.result) o [])) [
         | None ↦ λ h k. absurd k
         | Some x ↦ λ h k. are_objects_of s x.result u (is_of (object_is_of s x.result u) h)
@@ -404,15 +505,15 @@ module _ (s : Signature) (before after later moment : Five) (es : List Effect) (
           bare_there : (m : OfPlace (inequation (Apply f us) (object o))) → IsBare s before after later moment es given (Apply m.fun m.arguments)
           bare_there m = subst (IsBare s before after later moment es given) (sym (inequation_left f us o) ∙ place_left s before after later moment es given (inequation (Apply f us) (object o)) m) b
 
-  range_valued : (f : ℕ) (us : List Inner) (u : ℕ) (k : Literal) → list_all (λ t. is_some (as_object t)) us ≡ true → IsIn (equation (Apply f us) (object u)) before.kf → IsIn k (by_range_of G (Apply f us)) → IsIn k all
-  range_valued f us u k a value j =
+  range_valued : (f : ℕ) (us : List Inner) (ds : List ℕ) (u : ℕ) (k : Literal) → IsIn u (values_at before.kf f ds) → IsIn (equation (Apply f us) (object u)) before.kf → IsIn k (by_range_of G (Apply f us)) → IsIn k all
+  range_valued f us ds u k own value j =
       let t : Term = Apply f us in
       let r = in_mapped (λ e. equation t (object e)) (filter (is_last_left s G t (range_of s t)) (range_of s t)) k j in
       let z = in_filtered (is_last_left s G t (range_of s t)) (range_of s t) r.0 r.1 in
       ⊎_elim
       (λ e. first_in s before after later moment es given k (subst (λ x. IsIn x before.kf) (ap (λ x. equation t (object x)) e ∙ r.2) value))
       (λ d. absurd (clash_free s before after later moment es given (equation t (object u)) (first_in s before after later moment es given (equation t (object u)) value) (ap (holds s G) (literal_negated Equality (t ∷ object u ∷ []) true) ∙ d)))
-      (denied_or t u r.0 (range_of s t) (value_ranged f us u a value r.0 z.0) z.1)
+      (denied_or t u r.0 (range_of s t) (value_ranged f us ds u own r.0 z.0) z.1)
 
   range_bare : (l k : Literal) (f : ℕ) (us : List Inner) → IsIn l before.kf → IsIn (let t : Term = Apply f us in t) (flat_map applications_in l.arguments) → list_all (λ t. is_some (as_object t)) us ≡ true → IsBare s before after later moment es given (Apply f us) → IsIn k (by_range_of G (Apply f us)) → IsIn k all
   unfolding additions by_range
@@ -435,7 +536,9 @@ module _ (s : Signature) (before after later moment : Five) (es : List Effect) (
       let changed : is_changed (Apply q.fun q.arguments) ≡ true = ap is_changed (sym (place_left s before after later moment es given l q)) ∙ assigned_changed s before after later moment es given (left_of l) h.2 in
       let there : IsIn k (by_range_of G (Apply q.fun q.arguments)) = subst (λ x. IsIn k (by_range_of G x)) (sym is) j in
       ⊎_elim
-      (λ w. range_valued q.fun q.arguments w.0 k q.at_objects (value_at q.fun q.arguments ds.0 w.0 ds.1 (value_known s before after later moment es given q.fun q.arguments ds.0 w.0 ds.1 changed w.1)) there)
+      (λ w.
+      let known = value_known s before after later moment es given q.fun q.arguments ds.0 w.0 ds.1 changed w.1 in
+      range_valued q.fun q.arguments ds.0 w.0 k (value_from before.kf q.fun ds.0 w.0 known) (value_at q.fun q.arguments ds.0 w.0 ds.1 known) there)
       (λ b. range_bare l k q.fun q.arguments h.0 (subst (λ x. IsIn x (flat_map applications_in l.arguments)) (sym is) i) q.at_objects b there)
       (valued_or_bare s before after later moment es given q.fun q.arguments ds.0 ds.1 changed)
     where
@@ -446,16 +549,74 @@ module _ (s : Signature) (before after later moment : Five) (es : List Effect) (
       value_at : (f : ℕ) (us : List Inner) (ds : List ℕ) (u : ℕ) → all_some (map as_object us) ≡ Some ds → IsIn (record { relation = Equality; arguments = place f ds ∷ object u ∷ []; positive = true }) before.kf → IsIn (equation (Apply f us) (object u)) before.kf
       value_at f us ds u q v = subst (λ l. IsIn l before.kf) (sym (equation_is f (map Object ds) u) ∙ ap (λ ws. equation (Apply f ws) (object u)) (sym (objects_are us ds q))) v
 
+  object_first : (o : ℕ) → normal before.kf (object o) ≡ object o
+  unfolding normal
+  object_first o = refl
+
+  other_denied : (t : Term) (u o : ℕ) → normal before.kf t ≡ object u → (o == u) ≡ false → holds s before (inequation t (object o)) ≡ true
+  other_denied t u o n z =
+      sym (holds-normal s before (one_first s before after later moment es given) (inequation t (object o)))
+      ∙ ap (holds s before) (normal_of before.kf Equality (t ∷ object o ∷ []) false ∙ (λ i. literal Equality (n i ∷ object_first o i ∷ []) false)) ∙ right_holds s before u o false (eqb_comm u o ∙ z)
+
+  -- the last value left to a term that has one is this
+  left_valued : (t : Term) (u : ℕ) → normal before.kf t ≡ object u → (os : List ℕ) → is_last_left s before t os u ≡ true
+  left_valued t u n [] = refl
+  left_valued t u n (o ∷ os) = and_from _ _ (⊎_elim (λ z. or_left _ _ z) (λ z. or_right _ _ (other_denied t u o n z)) (cases_Bool (o == u))) (left_valued t u n os)
+
+  equation_before : (l : Literal) (f : ℕ) (us : List Inner) (ds : List ℕ) (u : ℕ) → IsIn l before.kf → IsIn (let t : Term = Apply f us in t) (flat_map applications_in l.arguments) → normal before.kf (Apply f us) ≡ object u → IsIn u (values_at before.kf f ds) → (e : ℕ) → IsIn e (range_of s (let t : Term = Apply f us in t)) → IsIn (equation (Apply f us) (object u)) before.kf
+  unfolding additions by_range
+  equation_before l f us ds u i j n value e r =
+      let t : Term = Apply f us in
+      let there : IsIn (equation t (object u)) (by_range_of before t) = in_map (λ e. equation t (object e)) (filter (is_last_left s before t (range_of s t)) (range_of s t)) u (in_filter (is_last_left s before t (range_of s t)) (range_of s t) u (value_ranged f us ds u value e r) (left_valued t u n (range_of s t))) in
+      given.first_saturated (equation t (object u)) (in_right (flat_map (by_value before.kf) before.kf) _ (equation t (object u)) (in_right (flat_map (by_group s before) before.kx) _ (equation t (object u))
+      (in_flat (λ l. flat_map (λ t. by_range_of before t) (flat_map applications_in l.arguments)) before.kf l (equation t (object u)) i (in_flat (λ t. by_range_of before t) (flat_map applications_in l.arguments) t (equation t (object u)) j there))))
+
+  -- an application in a term that has a value has one
+  application_valued : (u t : Term) → IsValued u → IsIn t (applications_in u) → IsValued t
+  application_valued (Object d) t h i = absurd i
+  application_valued (Parameter d) t h i = absurd i
+  application_valued (Apply f us) t h (inl e) = subst IsValued e h
+  application_valued (Apply f us) t h (inr i) =
+      let v = outer_value f us h in
+      let r = in_mapped term_of us t (in_filtered is_application (map term_of us) t i).0 in
+      subst IsValued r.2 (ap (λ x. is_some (as_object x)) (normal-term_of before.kf r.0) ∙ lifted (inner_normal before.kf r.0) (each_in IsInnerValued us r.0 (inner_valued us v.0 v.1) r.1))
+    where
+      lifted : (x : Inner) → is_some (as_object x) ≡ true → is_some (as_object (term_of x)) ≡ true
+      lifted (Object d) k = refl
+      lifted (Parameter d) k = absurd (true≢false (sym k))
+      lifted (Apply g ds) k = absurd (true≢false (sym k))
+
+  is_one : (u t : Term) → IsIn t (applications_in u) → is_application t ≡ true
+  is_one (Object d) t i = absurd i
+  is_one (Parameter d) t i = absurd i
+  is_one (Apply f us) t (inl e) = ap is_application (sym e)
+  is_one (Apply f us) t (inr i) = (in_filtered is_application (map term_of us) t i).1
+
+  range_copied : (l k : Literal) (t : Term) → Copies l → IsIn t (flat_map applications_in l.arguments) → IsIn k (by_range_of G t) → IsIn k all
+  range_copied l k t h i j =
+      let r = in_flat_mapped applications_in l.arguments t i in
+      on_term t (is_one r.0 t r.2) (application_valued r.0 t (each_in IsValued l.arguments r.0 (arguments_valued l h.1) r.1) r.2) i j
+    where
+      on_term : (t : Term) → is_application t ≡ true → IsValued t → IsIn t (flat_map applications_in l.arguments) → IsIn k (by_range_of G t) → IsIn k all
+      on_term (Object d) a v i j = absurd (true≢false (sym a))
+      on_term (Parameter d) a v i j = absurd (true≢false (sym a))
+      on_term (Apply f us) a v i j =
+          let w = outer_value f us v in
+          let t : Term = Apply f us in
+          let r = in_mapped (λ e. equation t (object e)) (filter (is_last_left s G t (range_of s t)) (range_of s t)) k j in
+          let z = in_filtered (is_last_left s G t (range_of s t)) (range_of s t) r.0 r.1 in
+          range_valued f us w.0 w.2 k w.3 (equation_before l f us w.0 w.2 h.0 i w.4 w.3 r.0 z.0) j
+
   range_in : (l k : Literal) (t : Term) → IsIn l all → IsIn t (flat_map applications_in l.arguments) → IsIn k (by_range_of G t) → IsIn k all
   range_in l k t i j h =
       ⊎_elim (λ a. range_of_stays l k t a j h)
-      (λ r. ⊎_elim (λ o. absurd (subst (IsIn t) (no_applications l.arguments o.1) j)) (λ a. range_assigned l k t a j h) r)
+      (λ r. ⊎_elim (λ o. range_copied l k t o j h) (λ a. range_assigned l k t a j h) r)
       (three l i)
 
   -- ---- by groups
 
   abbrev Lies : Literal → Type 0
-  Lies m = IsOfObjects m × IsUntouched es m
+  Lies m = IsOfObjects m × IsLeft es m
 
   held_later : (m : Literal) → Lies m → holds s G m ≡ true → holds s later m ≡ true
   held_later m a h =
@@ -465,7 +626,8 @@ module _ (s : Signature) (before after later moment : Five) (es : List Effect) (
       (λ j. known_holds s later k.0 m j (literal_normal later.kf k.0 k.2 ∙ k.3))
       (λ w.
       let same : k.0.relation ≡ m.relation = ap (λ (x : Literal). x.relation) k.3 ∙ normal_relation later.kf m in
-      absurd (true≢false (sym (ap (λ r. is_about r w.0.target) (sym same) ∙ makes_about w.0.target (negated k.0) k.2.0 w.3) ∙ (each_in (λ e. (is_about m.relation e.target ≡ false) × (list_any (λ t. assigns_in t e.target) m.arguments ≡ false)) es w.0 a.1 w.1).0)))
+      let at : k.0.arguments ≡ m.arguments = ap (λ (x : Literal). x.arguments) (k.3 ∙ literal_normal later.kf m a.0) in
+      absurd (makes_no_leaving w.0.target (negated k.0) k.2.0 w.3 ((λ i. leaves (same i) (at i) w.0.target) ∙ each_in (λ e. leaves m.relation m.arguments e.target ≡ true) es w.0 a.1 w.1)))
       (stays_or_opposed s before after later moment es given k.0 k.1 k.2))
       (region_holds s before after later moment es given m) r)
       (why s before after later moment es given m a.0.0 (objects_do s before after later moment es given m.arguments a.0.1) h)
@@ -480,12 +642,16 @@ module _ (s : Signature) (before after later moment : Five) (es : List Effect) (
   known_before m k h =
       ⊎_elim (λ i. known_holds s before m m i refl) (λ i. absurd (clash_free s before after later moment es given (negated m) (first_in s before after later moment es given (negated m) i) (ap (holds s G) (negated_twice m) ∙ h))) k
 
-  lies_each : (g : List Literal) → Each IsOfObjects g → Each (IsUntouched es) g → Each Lies g
+  lies_each : (g : List Literal) → Each IsOfObjects g → Each (IsLeft es) g → Each Lies g
   lies_each [] a b = tt
   lies_each (m ∷ g) a b = ((a.0, b.0), lies_each g a.1 b.1)
 
   lies_back : (k : Literal) → IsIn k later.kf → Lies k → IsIn k all
-  lies_back k i a = let q = and_parts (all_stay k.arguments) _ (untouched_returns s before later es k a.1) in into_back s before after later moment es given k i q.0 (not-true _ q.1)
+  lies_back k i a =
+      into_back s before after later moment es given k i (objects_do s before after later moment es given k.arguments a.0.1)
+      (false_from_ne_true _ (λ t.
+      let f = found_in (λ e. may_fire s before e && denied_by s later.kf k.relation k.arguments (not k.positive) e.target) es t in
+      leaving_no_denying s later.kf k.relation k.arguments (not k.positive) f.0.target (each_in (λ e. leaves k.relation k.arguments e.target ≡ true) es f.0 a.1 f.1) (and_parts (may_fire s before f.0) _ f.2).1))
 
   group_in : (g : List Literal) → IsIn g moment.kx → (q : Literal × List Literal) → IsIn q (with_others g) → Within (by_member s G q) all
   group_in g i q j k h =
@@ -516,180 +682,40 @@ module _ (s : Signature) (before after later moment : Five) (es : List Effect) (
       (in_appended (flat_map (λ g. flat_map (by_member s G) (with_others g)) moment.kx) _ k j))
       (in_appended (flat_map (by_value all) all) _ k i)
 
-  -- ---- the five rules
+  -- ---- what lasts
 
-  lasting_in : Within (lasting s es G) later.kf
+  pub lasting_in : Within (lasting s es G) later.kf
   lasting_in l i =
       let r = in_filtered (λ l. not (spoils s G es l)) all l i in
       let u = unspoiled l r.1 in
       ⊎_elim
       (λ j. ⊎_elim
-      (λ o. ⊎_elim (λ k. k) (λ w. absurd (true≢false (sym (opposed s before after later moment es given w.0 l l w.1 w.2 w.3 (literal_normal later.kf l o.1) o.1.0 o.1) ∙ u.1))) (stays_or_opposed s before after later moment es given l o.0 o.1))
+      (λ o. own_lasts l o u.0 u.1)
       (λ o. let q = of_place l o.1 in ⊎_elim (λ a. absurd (true≢false (sym (assigned_changed s before after later moment es given (left_of l) a) ∙ left_stays l q u.0))) (λ c. c.0) (kept_place s before after later moment es given l o.0 o.1))
       (place_or_objects s before after later moment es given l j))
       (λ j. (back_of s before after later moment es given l j).0)
       (in_appended own back l r.0)
     where
+      own_lasts : (l : Literal) → Copies l → all_stay l.arguments ≡ true → is_touched l ≡ false → IsIn l later.kf
+      own_lasts l o a c =
+          ⊎_elim
+          (λ k. ⊎_elim (λ j. j) (λ w. absurd (true≢false (sym (opposed s before after later moment es given w.0 l l w.1 w.2 w.3 (literal_normal later.kf l k.0) k.0.0 k.0) ∙ c))) (stays_or_opposed s before after later moment es given l o.0 k.0))
+          (λ r. ⊎_elim (λ v. absurd (named_gives_none l.relation l.arguments (kind_of s before after later moment es given l o.1) v.0))
+          (λ q. ⊎_elim (λ n. given.grown l n.1)
+          (λ k. ⊎_elim (λ j. given.grown l j)
+          (λ m.
+          let f = in_flat_mapped applications_in l.arguments m.0 m.1 in
+          let still = each_in (λ t. stays t ≡ true) l.arguments f.0 (stays_each s before after later moment es given l.arguments a) f.1 in
+          absurd (true≢false (sym (assigned_changed s before after later moment es given m.0 m.2) ∙ not-true _ (each_in (λ w. not (is_changed w) ≡ true) (applications_in f.0) m.0 (each_from_all (λ w. not (is_changed w) ≡ true) (λ w. not (is_changed w)) (λ w k. k) (applications_in f.0) still) f.2))))
+          k.1) q) r)
+          (each_in (IsKept before after es) before.kf l given.kept o.0)
+
       left_stays : (l : Literal) (q : OfPlace l) → all_stay l.arguments ≡ true → is_changed (left_of l) ≡ false
       left_stays l q h =
           let h' : all_stay (Apply q.fun q.arguments ∷ Object q.value ∷ []) ≡ true = ap (λ (x : Literal). all_stay x.arguments) (sym q.is) ∙ h in
           ap is_changed (place_left s before after later moment es given l q) ∙ not-true _ (and_parts (not (is_changed (Apply q.fun q.arguments))) _ (and_parts (stays (Apply q.fun q.arguments)) _ h').0).0
 
-  lasted_in : Within (lasted s es G later) all
+  pub lasted_in : Within (lasted s es G later) all
   lasted_in l i =
       let r = in_filtered (λ l. not (spoils s G es (negated l))) later.kf l i in
       let u = unspoiled (negated l) r.1 in into_back s before after later moment es given l r.0 u.0 u.1
-
-  choices_alone : (ts : List Term) → AreObjects ts → choices_from (map (term_forms all) ts) ≡ ts ∷ []
-  choices_alone [] a = refl
-  choices_alone (Object d ∷ ts) a = ap (λ (xs : List (List Term)). flat_map (λ x. map (λ ys. x ∷ ys) xs) (Object d ∷ [])) (choices_alone ts a.1)
-  choices_alone (Parameter d ∷ ts) a = absurd (true≢false (sym a.0))
-  choices_alone (Apply f us ∷ ts) a = absurd (true≢false (sym a.0))
-
-  arguments_alone : (us : List Inner) → list_all (λ t. is_some (as_object t)) us ≡ true → argument_forms all us ≡ us ∷ []
-  arguments_alone [] a = refl
-  arguments_alone (Object d ∷ us) a = ap (λ (xs : List (List Inner)). flat_map (λ x. map (λ ys. x ∷ ys) xs) (Object d ∷ [])) (arguments_alone us a)
-  arguments_alone (Parameter d ∷ us) a = absurd (true≢false (sym a))
-  arguments_alone (Apply f ds ∷ us) a = absurd (true≢false (sym a))
-
-  only : {X : Type 0} (x y : X) → IsIn y (x ∷ []) → y ≡ x
-  only x y (inl e) = sym e
-  only x y (inr i) = absurd i
-
-  -- the forms of a target are what it makes so
-  forms_made : (x : Target) (l : Literal) → Makes x l → IsOfObjects l ⊎ IsOfPlace l → (m : Literal) → IsIn m (target_forms s G es x) → m ≡ l
-  forms_made (Set a) l h o m i =
-      let r = in_mapped (λ ts. literal (Named a.predicate) ts true) (stable_forms s G es a.arguments) m i in
-      let q = in_filtered (are_stable s G es) (choices_from (map (term_forms all) a.arguments)) r.0 r.1 in
-      let at : AreObjects a.arguments = ⊎_elim (λ n. subst (λ (k : Literal). AreObjects k.arguments) (sym h) n.1) (λ n. absurd (named_gives_none l.relation l.arguments (ap (λ (x : Literal). is_named x.relation) (sym h)) n)) o in
-      sym r.2 ∙ (λ j. literal (Named a.predicate) (only a.arguments r.0 (subst (IsIn r.0) (choices_alone a.arguments at) q.0) j) true) ∙ literal_named a.predicate a.arguments true ∙ h
-  forms_made (Unset a) l h o m i =
-      let r = in_mapped (λ ts. literal (Named a.predicate) ts false) (stable_forms s G es a.arguments) m i in
-      let q = in_filtered (are_stable s G es) (choices_from (map (term_forms all) a.arguments)) r.0 r.1 in
-      let at : AreObjects a.arguments = ⊎_elim (λ n. subst (λ (k : Literal). AreObjects k.arguments) (sym h) n.1) (λ n. absurd (named_gives_none l.relation l.arguments (ap (λ (x : Literal). is_named x.relation) (sym h)) n)) o in
-      sym r.2 ∙ (λ j. literal (Named a.predicate) (only a.arguments r.0 (subst (IsIn r.0) (choices_alone a.arguments at) q.0) j) false) ∙ literal_named a.predicate a.arguments false ∙ h
-  forms_made (Clear y) l h o m i = absurd h
-  forms_made (Assign f us v) l h o m i =
-      let place = made_place f us v l h o in
-      let r = in_flat_mapped (λ ws. map (equation (Apply f ws)) (filter (is_stable s G es) (term_forms all v))) (filter (λ ws. are_stable s G es (map term_of ws)) (argument_forms all us)) m i in
-      let q = in_filtered (λ ws. are_stable s G es (map term_of ws)) (argument_forms all us) r.0 r.1 in
-      let w = in_mapped (equation (Apply f r.0)) (filter (is_stable s G es) (term_forms all v)) m r.2 in
-      let value : IsIn w.0 (term_forms all v) = (in_filtered (is_stable s G es) (term_forms all v) w.0 w.1).0 in
-      let same : w.0 ≡ v = subst (λ x. IsIn w.0 (term_forms all x) → w.0 ≡ x) (sym place.2) (only (object place.1) w.0) value in
-      sym w.2 ∙ (λ j. equation (Apply f (only us r.0 (subst (IsIn r.0) (arguments_alone us place.0) q.0) j)) (same j)) ∙ h
-
-  -- an effect with conditions that hold surely fires
-  held_fires : (e : Effect) → IsIn e es → list_all (holds s G) e.condition ≡ true → SurelyFires before e
-  held_fires e i h =
-      ⊎_elim (λ f. f.0)
-      (λ n. let c = n.0 in
-      absurd (clash_free s before after later moment es given (negated c.0) (first_in s before after later moment es given (negated c.0) c.2) (ap (holds s G) (negated_twice c.0) ∙ each_in (λ c. holds s G c ≡ true) e.condition c.0 (each_from_all (λ c. holds s G c ≡ true) (holds s G) (λ c k. k) e.condition h) c.1)))
-      (made_of s before after later moment es given e i).known
-
-  later_effect : (q : Effect × List Effect) → IsIn q (with_later es) → IsIn q.0 es
-  later_effect q i = (each_in (λ (q : Effect × List Effect). IsIn q.0 es × Each (λ e. IsIn e es) q.1) (with_later es) q (later_each (λ e. IsIn e es) es (each_of (λ e. IsIn e es) es (λ e j. j))) i).0
-
-  other_effect : (q : Effect × List Effect) → IsIn q (with_others es) → IsIn q.0 es
-  other_effect q i = (each_in (λ (q : Effect × List Effect). IsIn q.0 es × Each (λ e. IsIn e es) q.1) (with_others es) q (other_each (λ e. IsIn e es) es (each_of (λ e. IsIn e es) es (λ e j. j))) i).0
-
-  fired_in : (q : Effect × List Effect) → IsIn q (with_later es) → Within (fired s es G q) later.kf
-  fired_in q i l j =
-      let c = in_cond _ (target_forms s G es q.0.target) l j in
-      let e = later_effect q i in
-      let d = made_of s before after later moment es given q.0 e in
-      let fires = held_fires q.0 e (and_parts (list_all (holds s G) q.0.condition) _ c.0).0 in
-      subst (λ x. IsIn x later.kf) (sym (forms_made q.0.target d.made d.makes d.objects l c.1)) (made_later s before after later moment es given q.0 d.made e fires d.makes)
-
-  apart_all : (ts : List Term) → AreObjects ts → some_differ s all ts ts ≡ false
-  apart_all ts a = false_from_ne_true _ (λ t. true≢false (sym (some_differ_later s before after later moment es given ts ts (objects_do s before after later moment es given ts a) (objects_do s before after later moment es given ts a) t) ∙ none_apart s later.kf (apart s before after later moment es given) ts ts refl))
-
-  same_target : (x y : Target) (l : Literal) → IsOfObjects l → Makes x l → Makes y l → makes_same s G x y ≡ true
-  same_target (Set a) (Set b) l o m n =
-      let p : b.predicate ≡ a.predicate = same_predicate b.predicate a.predicate (ap (λ (k : Literal). k.relation) (n ∙ sym m)) in
-      let ts : a.arguments ≡ b.arguments = ap (λ (k : Literal). k.arguments) (m ∙ sym n) in
-      and_from _ _ (eq-eqb b.predicate a.predicate p) (not_from_false _ (ap (λ us. some_differ s all b.arguments us) ts ∙ apart_all b.arguments (subst (λ (k : Literal). AreObjects k.arguments) (sym n) o.1)))
-  same_target (Unset a) (Unset b) l o m n =
-      let p : b.predicate ≡ a.predicate = same_predicate b.predicate a.predicate (ap (λ (k : Literal). k.relation) (n ∙ sym m)) in
-      let ts : a.arguments ≡ b.arguments = ap (λ (k : Literal). k.arguments) (m ∙ sym n) in
-      and_from _ _ (eq-eqb b.predicate a.predicate p) (not_from_false _ (ap (λ us. some_differ s all b.arguments us) ts ∙ apart_all b.arguments (subst (λ (k : Literal). AreObjects k.arguments) (sym n) o.1)))
-  same_target (Set a) (Unset b) l o m n = absurd (true≢false (ap (λ (k : Literal). k.positive) (m ∙ sym n)))
-  same_target (Unset a) (Set b) l o m n = absurd (true≢false (ap (λ (k : Literal). k.positive) (n ∙ sym m)))
-  same_target (Set a) (Clear y) l o m n = absurd n
-  same_target (Unset a) (Clear y) l o m n = absurd n
-  same_target (Set a) (Assign g vs v) l o m n = absurd (true≢false (sym o.0 ∙ ap (λ (k : Literal). is_named k.relation) (sym n) ∙ literal_kind Equality (Apply g vs ∷ v ∷ []) true))
-  same_target (Unset a) (Assign g vs v) l o m n = absurd (true≢false (sym o.0 ∙ ap (λ (k : Literal). is_named k.relation) (sym n) ∙ literal_kind Equality (Apply g vs ∷ v ∷ []) true))
-  same_target (Clear y) x l o m n = absurd m
-  same_target (Assign g vs v) x l o m n = absurd (true≢false (sym o.0 ∙ ap (λ (k : Literal). is_named k.relation) (sym m) ∙ literal_kind Equality (Apply g vs ∷ v ∷ []) true))
-
-  -- where the target is so after and not before, an effect that never fires isn't the only one that can have made it so
-  made_otherwise : (q : Effect × List Effect) → IsIn q (with_others es) → NeverFires before q.0 → (l : Literal) → Makes q.0.target l → IsOfObjects l → holds s G (negated l) ≡ true → holds s later l ≡ true → is_made_otherwise s G q ≡ true
-  made_otherwise q i never l m o h k =
-      let both = no_both s later given.inhabited given.saturated given.fine l o.0 k in
-      ⊎_elim
-      (λ b. absurd (both (back_holds s before after later moment es given (negated l) b)))
-      (λ r. ⊎_elim
-      (λ b.
-      let same : b.0 ≡ negated l = b.3 ∙ literal_normal later.kf (negated l) o in
-      ⊎_elim
-      (λ j. absurd (both (known_holds s later b.0 (negated l) j (ap (normal_literal later.kf) same))))
-      (λ w.
-      let makes : Makes w.0.target l = subst (Makes w.0.target) (ap negated same ∙ negated_twice l) w.3 in
-      ⊎_elim
-      (λ e. absurd (fires_or_never s before after later moment es given w.0 w.1 w.2 (subst (NeverFires before) e never)))
-      (λ j. any_in (λ e. may_fire s G e && makes_same s G q.0.target e.target) q.1 w.0 j (and_from _ _ (same_fire w.0 w.1 ∙ surely_may s before after later moment es given w.0 w.2) (same_target q.0.target w.0.target l o m makes)))
-      (self_or_other es q i w.0 w.1))
-      (stays_or_opposed s before after later moment es given b.0 b.1 b.2))
-      (λ b. absurd (both (region_holds s before after later moment es given (negated l) b)))
-      r)
-      (why s before after later moment es given (negated l) o.0 (objects_do s before after later moment es given l.arguments o.1) h)
-
-  must_in : (q : Effect × List Effect) → IsIn q (with_others es) → Within (must_have_fired s es G later q) all
-  must_in q i l j =
-      let c = in_cond _ q.0.condition l j in
-      let e = other_effect q i in
-      let d = made_of s before after later moment es given q.0 e in
-      let b = and_parts (list_any (λ l. holds s G (negated l) && holds s later l) (target_forms s G es q.0.target)) _ c.0 in
-      ⊎_elim
-      (λ f. first_in s before after later moment es given l (each_in (λ c. IsIn c before.kf) q.0.condition l f.0 c.1))
-      (λ n.
-      let f = found_in (λ l. holds s G (negated l) && holds s later l) (target_forms s G es q.0.target) b.0 in
-      let same = forms_made q.0.target d.made d.makes d.objects f.0 f.1 in
-      let h = and_parts (holds s G (negated f.0)) _ f.2 in
-      absurd (true≢false (sym (made_otherwise q i n.0 d.made d.makes n.1 (ap (λ x. holds s G (negated x)) (sym same) ∙ h.0) (ap (holds s later) (sym same) ∙ h.1)) ∙ not-true _ b.1)))
-      d.known
-
-  cannot_in : (q : Effect × List Effect) → IsIn q (with_later es) → Within (cannot_have_fired s es G later q) all
-  cannot_in q i l j =
-      let c = in_cond _ (flat_map (λ c. cond (list_all (holds s G) c.1) (negated c.0 ∷ []) []) (with_others q.0.condition)) l j in
-      let e = later_effect q i in
-      let d = made_of s before after later moment es given q.0 e in
-      let b = and_parts (list_any (λ l. holds s later (negated l)) (target_forms s G es q.0.target)) _ c.0 in
-      ⊎_elim
-      (λ f.
-      let k = found_in (λ l. holds s later (negated l)) (target_forms s G es q.0.target) b.0 in
-      let same = forms_made q.0.target d.made d.makes d.objects k.0 k.1 in
-      absurd (later_denied s before after later moment es given d.made (made_later s before after later moment es given q.0 d.made e f.0 d.makes) (ap (λ x. holds s later (negated x)) (sym same) ∙ k.2)))
-      (λ never.
-      let n = never.0 in
-      let k = in_flat_mapped (λ (c : Literal × List Literal). cond (list_all (holds s G) c.1) (negated c.0 ∷ []) []) (with_others q.0.condition) l c.1 in
-      let a = in_cond (list_all (holds s G) k.0.1) (negated k.0.0 ∷ []) l k.2 in
-      ⊎_elim
-      (λ t. first_in s before after later moment es given l (subst (λ x. IsIn x before.kf) (ap negated (sym t) ∙ sym (only (negated k.0.0) l a.1)) n.2))
-      (λ t. absurd (clash_free s before after later moment es given (negated n.0) (first_in s before after later moment es given (negated n.0) n.2) (ap (holds s G) (negated_twice n.0) ∙ each_in (λ c. holds s G c ≡ true) k.0.1 n.0 (each_from_all (λ c. holds s G c ≡ true) (holds s G) (λ c h. h) k.0.1 a.0) t)))
-      (self_or_other q.0.condition k.0 k.1 n.0 n.1))
-      d.known
-
-  -- what the moment gives the next one is there
-  pub onward_in : Within (lasting s es G ++ flat_map (fired s es G) (with_later es)) later.kf
-  onward_in l i =
-      ⊎_elim (lasting_in l) (λ j. let r = in_flat_mapped (fired s es G) (with_later es) l j in fired_in r.0 r.1 l r.2) (in_appended (lasting s es G) (flat_map (fired s es G) (with_later es)) l i)
-
-  -- and what it gets from it
-  pub backward_in : Within (lasted s es G later ++ (flat_map (must_have_fired s es G later) (with_others es) ++ flat_map (cannot_have_fired s es G later) (with_later es))) all
-  backward_in l i =
-      ⊎_elim (lasted_in l)
-      (λ j. ⊎_elim
-      (λ k. let r = in_flat_mapped (must_have_fired s es G later) (with_others es) l k in must_in r.0 r.1 l r.2)
-      (λ k. let r = in_flat_mapped (cannot_have_fired s es G later) (with_later es) l k in cannot_in r.0 r.1 l r.2)
-      (in_appended (flat_map (must_have_fired s es G later) (with_others es)) _ l j))
-      (in_appended (lasted s es G later) _ l i)

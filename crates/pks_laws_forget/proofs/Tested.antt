@@ -1,21 +1,22 @@
 -- A step that passes the test hides nothing.
 use Rattle.std.proofs.Common.{◌≡◌, ◌⊎◌, ◌&&◌, ◌||◌, Bool, true, false, not, is_some, List, Option, Some, None, Ordering, Less, Equal, Greater, is_eq, refl, sym, ap, ◌∙◌, subst, inl, inr, ⊎_elim, true≢false}
-use Rattle.std.specs.List.{list_any, list_all}
+use Rattle.std.specs.List.{list_any, list_all, flat_map}
 use Rattle.std.specs.Option.{option_map_or}
 use Rattle.std.proofs.lemmas.Bool.{or_cases, and_parts, not-true}
 use Rattle.std.proofs.lemmas.Option.{none-some, same_Some}
 use Rattle.pks_terms.specs.Sets.{Each, IsIn}
 use Rattle.pks_terms.specs.Syntax.{Apply, Term, as_object, Literal, negated, affirmed, denied}
 use Rattle.pks_terms.specs.Orders.{literal_eq, conj_cmp, equation}
-use Rattle.pks_terms.specs.Databases.{Entry, entry_cmp, Five}
+use Rattle.pks_terms.specs.Databases.{Entry, entry_cmp, Five, normal_literal}
+use Rattle.pks_terms.specs.Closure.{applications_in}
 use Rattle.pks_terms.specs.Actions.{Target, Set, Unset, Clear, Assign, Effect, Instance}
 use Rattle.pks_terms.specs.Progress.{entry_terms}
 use Rattle.pks_terms.specs.Problems.{Problem}
 use Rattle.pks_terms.specs.Settling.{effects_of}
 use Rattle.pks_terms.proofs.ListLaws.{each_from_all, found_in}
 use Rattle.pks_terms.proofs.OrderLaws.{same_literal, same_term, conj_cmp_tells, entry_cmp_tells}
-use Rattle.pks_laws_forget.specs.Transparent.{AreObjects, IsOfObjects, gives_value, left_of, Makes, is_about, assigns_in, is_elsewhere, Assigns, SurelyFires, NeverFires, IsDecided, IsWritten, IsAssigned, IsUntouched, IsKept, LastsAsGroup, IsTransparent}
-use Rattle.pks_laws_forget.specs.Testing.{has, are_objects, is_of_objects, made_by, fires_surely, fires_never, is_decided_to, is_decided, is_written, assigns, is_assigned, is_untouched, is_kept, lasts_as_group, lasts_as_region, hides_nothing}
+use Rattle.pks_laws_forget.specs.Transparent.{AreObjects, is_named, IsOfObjects, gives_value, IsOfPlace, left_of, Makes, is_about, assigns_in, is_elsewhere, leaves, Assigns, SurelyFires, NeverFires, effects_by, IsDecided, AreUnassigned, IsReadAlike, IsWritten, IsAssigned, IsUntouched, IsMoved, IsLeft, IsKept, LastsAsGroup, IsTransparent}
+use Rattle.pks_laws_forget.specs.Testing.{has, are_objects, is_of_objects, made_by, fires_surely, fires_never, is_decided_to, is_decided, are_unassigned, stands_written, is_read_alike, is_written, assigns, is_assigned, is_untouched, is_moved, is_left, is_kept, lasts_as_group, lasts_as_region, hides_nothing}
 use Rattle.pks_laws_forget.proofs.Objects.{of_objects}
 
 -- each element that passes has P
@@ -67,6 +68,18 @@ decided before after e h = go (made_by e.target) refl h
     go None q k = absurd (true≢false (sym k))
     go (Some l) q k = decided_to before after e l (makes e.target l q) k
 
+unassigned : (es : List Effect) (ts : List Term) → are_unassigned es ts ≡ true → AreUnassigned es ts
+unassigned es ts h = each_passes (λ e. list_any (λ t. assigns_in t e.target) ts ≡ false) (λ e. not (list_any (λ t. assigns_in t e.target) ts)) (λ e k. not-true _ k) es h
+
+read_alike : (before after : Five) (es : List Effect) (e : Effect) → is_read_alike before after es e ≡ true → IsReadAlike before after es e
+read_alike before after es e h = ⊎_elim (λ n. inl (never before e n)) (λ k. inr (go (made_by e.target) refl k)) (or_cases (fires_never before e) _ h)
+  where
+    go : (o : Option Literal) → made_by e.target ≡ o → option_map_or (stands_written after es) o false ≡ true → (l : Literal) × Makes e.target l × IsIn l after.kf × (IsOfPlace l ⊎ ((is_named l.relation ≡ true) × AreUnassigned es l.arguments))
+    go None q k = absurd (true≢false (sym k))
+    go (Some l) q k =
+        let p = and_parts (has after l) _ k in
+        (l, makes e.target l q, has_in after l p.0, ⊎_elim (λ g. inl g) (λ n. let r = and_parts (is_named l.relation) _ n in inr (r.0, unassigned es l.arguments r.1)) (or_cases (gives_value l.relation l.arguments) _ p.1))
+
 written : (before : Five) (es : List Effect) (l : Literal) → is_written before es l ≡ true → IsWritten before es l
 written before es l h =
     let f = found_in (λ e. fires_surely before e && option_map_or (λ m. literal_eq m l || literal_eq m (negated l)) (made_by e.target) false) es h in
@@ -94,6 +107,12 @@ untouched es l h =
     each_passes (λ e. (is_about l.relation e.target ≡ false) × (list_any (λ t. assigns_in t e.target) l.arguments ≡ false)) (λ e. not (is_about l.relation e.target) && not (list_any (λ t. assigns_in t e.target) l.arguments))
     (λ e k. let p = and_parts (not (is_about l.relation e.target)) _ k in (not-true _ p.0, not-true _ p.1)) es h
 
+left : (es : List Effect) (l : Literal) → is_left es l ≡ true → IsLeft es l
+left es l h = each_passes (λ e. leaves l.relation l.arguments e.target ≡ true) (λ e. leaves l.relation l.arguments e.target) (λ e k. k) es h
+
+moved : (before : Five) (es : List Effect) (l : Literal) → is_moved before es l ≡ true → IsMoved before es l
+moved before es l h = let f = found_in (is_assigned before es) (flat_map applications_in l.arguments) h in (f.0, f.1, assigned before es f.0 f.2)
+
 kept : (before after : Five) (es : List Effect) (l : Literal) → is_kept before after es l ≡ true → IsKept before after es l
 kept before after es l h =
     ⊎_elim
@@ -107,7 +126,10 @@ kept before after es l h =
           (λ j. let q = and_parts (has after l) _ j in inr (has_in after l q.0, each_passes (λ e. is_elsewhere (left_of l) e.target ≡ true) (λ e. is_elsewhere (left_of l) e.target) (λ e z. z) es q.1))
           (or_cases (is_assigned before es (left_of l)) _ p.1),
     )))
-    (λ k. let p = and_parts (is_untouched es l) _ k in inr (inr (untouched es l p.0, has_in after l p.1)))
+    (λ k. ⊎_elim
+    (λ u. let p = and_parts (is_untouched es l) _ u in inr (inr (inl (untouched es l p.0, has_in after l p.1))))
+    (λ c. let p = and_parts (is_of_objects (normal_literal before.kf l)) _ c in inr (inr (inr (of_objects (normal_literal before.kf l) p.0, ⊎_elim (λ i. inl (has_in after l i)) (λ m. inr (moved before es l m)) (or_cases (has after l) _ p.1)))))
+    (or_cases (is_untouched es l && has after l) _ k))
     (or_cases (gives_value l.relation l.arguments && (is_assigned before es (left_of l) || (has after l && list_all (λ e. is_elsewhere (left_of l) e.target) es))) _ r))
     (or_cases (is_of_objects l && (has after l || is_written before es l)) _ h)
 
@@ -119,9 +141,9 @@ group_lasts before after es g h =
           (λ k.
           let q = and_parts (list_any (λ h. is_eq (conj_cmp g h)) after.kx) _ k in
           let f = found_in (λ h. is_eq (conj_cmp g h)) after.kx q.0 in
-          inl (subst (λ x. IsIn x after.kx) (sym (conj_cmp_tells g f.0 (equal_of (conj_cmp g f.0) f.2))) f.1, each_passes (IsUntouched es) (is_untouched es) (untouched es) g q.1))
+          inl (subst (λ x. IsIn x after.kx) (sym (conj_cmp_tells g f.0 (equal_of (conj_cmp g f.0) f.2))) f.1, each_passes (IsLeft es) (is_left es) (left es) g q.1))
           (λ k. inr (each_passes (λ m. IsIn m before.kf ⊎ IsIn (negated m) before.kf) (λ m. has before m || has before (negated m)) (λ m z. ⊎_elim (λ i. inl (has_in before m i)) (λ i. inr (has_in before (negated m) i)) (or_cases (has before m) _ z)) g k))
-          (or_cases (list_any (λ h. is_eq (conj_cmp g h)) after.kx && list_all (is_untouched es) g) _ p.1),
+          (or_cases (list_any (λ h. is_eq (conj_cmp g h)) after.kx && list_all (is_left es) g) _ p.1),
     )
 
 pub region_lasts : (after : Five) (r : Entry) → lasts_as_region after r ≡ true → AreObjects (entry_terms r) × IsIn r after.lcw
@@ -132,12 +154,14 @@ region_lasts after r h =
 
 pub tested : (p : Problem) (before : Five) (i : Instance) (after : Five) → hides_nothing p before i after ≡ true → IsTransparent p before i after
 tested p before i after h =
-    let es = effects_of p i in
+    let es = effects_by p before i in
     let a = and_parts (list_all (is_decided before after) es) _ h in
-    let b = and_parts (list_all (is_kept before after es) before.kf) _ a.1 in
+    let w = and_parts (list_all (is_read_alike before after es) (effects_of p i)) _ a.1 in
+    let b = and_parts (list_all (is_kept before after es) before.kf) _ w.1 in
     let c = and_parts (list_all (lasts_as_group before after es) before.kx) _ b.1 in
     record {
       effects = each_passes (IsDecided before after) (is_decided before after) (decided before after) es a.0;
+      written = each_passes (IsReadAlike before after es) (is_read_alike before after es) (read_alike before after es) (effects_of p i) w.0;
       literals = each_passes (IsKept before after es) (is_kept before after es) (kept before after es) before.kf b.0;
       groups = each_passes (LastsAsGroup before after es) (lasts_as_group before after es) (group_lasts before after es) before.kx c.0;
       regions = each_passes (λ r. AreObjects (entry_terms r) × IsIn r after.lcw) (lasts_as_region after) (region_lasts after) before.lcw c.1;

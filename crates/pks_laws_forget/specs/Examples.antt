@@ -39,12 +39,13 @@ house = record {
   schemas = deed (record { condition = []; target = Assign 0 [] (Parameter 0) })
       ∷ deed (record { condition = []; target = Set (record { predicate = 0; arguments = Parameter 0 ∷ [] }) })
       ∷ deed (record { condition = record { relation = Named 0; arguments = Parameter 0 ∷ []; positive = true } ∷ []; target = Unset (record { predicate = 0; arguments = Parameter 0 ∷ [] }) })
+      ∷ deed (record { condition = []; target = Set (record { predicate = 0; arguments = Apply 0 [] ∷ [] }) })
       ∷ [];
   init = [];
   goal = [];
 }
 
--- to go to the room, to tidy it, to air it
+-- to go to the room, to tidy it, to air it, and to tidy the room where one is
 abbrev pub go : ℕ → Instance
 go d = record { action = 0; arguments = Object d ∷ [] }
 
@@ -53,6 +54,9 @@ tidying d = record { action = 1; arguments = Object d ∷ [] }
 
 abbrev pub airing : ℕ → Instance
 airing d = record { action = 2; arguments = Object d ∷ [] }
+
+abbrev pub tidying_here : Instance
+tidying_here = record { action = 3; arguments = Object 0 ∷ [] }
 
 -- databases with these literals, groups and regions
 abbrev pub knowing : List Literal → List (List Literal) → List Entry → Five

@@ -3,3 +3,4 @@ pub mod Testing
 pub mod Examples
 pub mod Fewer
 pub mod Looks
+pub mod Staying

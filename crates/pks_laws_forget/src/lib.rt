@@ -3,4 +3,5 @@
 #![tactic(auto)]
 
 pub mod laws;
+pub mod laws_of_aims;
 pub mod laws_of_looks;

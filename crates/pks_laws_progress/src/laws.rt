@@ -7,7 +7,7 @@ ghost use Rattle.pks_terms.specs.Syntax.{Literal, negated};
 ghost use Rattle.pks_terms.specs.Orders.{literal_cmp};
 ghost use Rattle.pks_terms.specs.Signatures.{Signature, HasValues};
 ghost use Rattle.pks_terms.specs.Databases.{Five, entry_cmp, holds};
-ghost use Rattle.pks_terms.specs.Closure.{additions, round, rounds, tidied, first_clash, Closes, IsClosed, Next};
+ghost use Rattle.pks_terms.specs.Closure.{additions, round, rounds, tidied, first_clash, Outcome, Closes, IsClosed, Next};
 ghost use Rattle.pks_terms.specs.Actions.{Effect};
 ghost use Rattle.pks_terms.specs.Spoiling.{spoils};
 ghost use Rattle.pks_terms.specs.Progress.{is_untouched, kept_entry};
@@ -41,4 +41,9 @@ pub fn what_follows_closes_alike()
 /// or says or denies at objects a predicate that is in no group, and none is then derived false.
 pub fn loose_literals_bring_nothing()
     ensures { (s : Signature) (k e : Five) (ls : List Literal) → HasValues s → IsSaturated s k → first_clash s k ≡ None → IsOrdered literal_cmp k.kf → e.kf ≡ added literal_cmp k.kf ls → e.kx ≡ k.kx → e.lcw ≡ k.lcw → bring_nothing k.kf k.kx ls ≡ true → list_any (λ l. holds s e (negated l)) ls ≡ false → IsSaturated s e × (first_clash s e ≡ None) }
+{}
+
+/// Closing comes to an end, by whatever signature, where the known literals are in order: there is an outcome.
+pub fn closing_comes_to_an_end()
+    ensures { (s : Signature) (d : Five) → IsOrdered literal_cmp d.kf → (o : Outcome) × Closes s d o }
 {}

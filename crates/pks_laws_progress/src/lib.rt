@@ -1,4 +1,4 @@
-//! Laws: what an action keeps of closed databases is closed.
+//! Laws: what an action keeps of closed databases is closed, and closing comes to an end.
 #![tactic(auto)]
 
 pub mod laws;

@@ -19,7 +19,7 @@ use Rattle.pks_laws.proofs.Least.{in_filter_map, value_literal, rounds_within, h
 use Rattle.pks_laws.proofs.Belonging.{saturated_end}
 use Rattle.pks_laws_forget.proofs.Lists.{negated_twice, nothing_found}
 use Rattle.pks_laws_forget.proofs.Alike.{found_known, holds_cases, evident_holds, negated_normal, not_denied}
-use Rattle.pks_laws_forget.proofs.ClosingEnds.{closing_ends}
+use Rattle.pks_laws_progress.proofs.ClosingEnds.{closing_ends}
 use Rattle.pks_laws_symmetry.specs.Trivial.{is_trivial}
 use Rattle.pks_laws_symmetry.specs.Renamed.{IsRenaming, renamed_inner, renamed_literal, GoesTo, AreImages}
 use Rattle.pks_laws_symmetry.proofs.Trivial.{shape_of, evident_form}

@@ -17,7 +17,7 @@ use Rattle.pks_reader_shape.proofs.Deciding.{of_the_sort}
 use Rattle.pks_laws_reader.proofs.Shapes.{of_sort, headed}
 use Rattle.pks_laws_version1.specs.Grammar as old
 
-same_lists : (s : Sort) → now.lists First s ≡ old.lists s
+pub same_lists : (s : Sort) → now.lists First s ≡ old.lists s
 unfolding now.lists old.lists
 same_lists Domain = refl
 same_lists Types = refl

@@ -11,3 +11,5 @@ pub mod Answered
 pub mod Grammars
 pub mod Old
 pub mod Replies
+pub mod Shaped
+pub mod ReadAlike

@@ -8,3 +8,5 @@ pub mod Trees
 pub mod Grammar
 pub mod Codes
 pub mod Texts
+pub mod Walk
+pub mod Files

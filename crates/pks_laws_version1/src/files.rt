@@ -21,9 +21,10 @@ ghost use Rattle.pks_reader_world.specs.Facts as facts;
 ghost use Rattle.pks_reader.specs.Files.{IsFileOf, AreRefused, FormsState};
 ghost use Rattle.pks_terms.specs.Printed.{Text};
 ghost use Rattle.pks_terms.specs.Jobs.{Job};
-ghost use Rattle.pks_terms.specs.Answers.{Status, text_for, AnswersJob};
+ghost use Rattle.pks_terms.specs.Answers.{Reading, Status, text_for, AnswersJob};
 ghost use Rattle.pks_reader.specs.Inputs.{Reads};
 ghost use Rattle.pks_laws_version1.specs.Answering as answering;
+ghost use Rattle.pks_laws_version1.specs.Files as files_then;
 ghost use Rattle.pks_laws_version1.specs.Texts.{IsOfFirstVersion};
 ghost use Rattle.pks_laws_version1.specs.Grammar as grammar;
 ghost use Rattle.pks_laws_version1.specs.Codes as codes_then;
@@ -95,7 +96,12 @@ pub fn first_files_state_problems_of_the_first_version()
     ensures { (fs : List Form) (p : Problem) (n : Named) → FormsState fs p n → version_of fs ≡ file.First → IsValid p × IsFirstVersion p }
 {}
 
-/// What is answered about a text of the first version is what is answered by the rules of that version.
+/// A text of the first version reads as by that version's own rules: it has that first fault, or states that problem, with those names, places and world.
+pub fn first_texts_read_as_in_the_first_version()
+    ensures { (text : Text) (reading : Reading) → IsOfFirstVersion text → Reads text reading ↔ files_then.Reads text reading }
+{}
+
+/// So what is answered about a text of the first version is what that version's own rules answer, by which it is read, too.
 pub fn answers_to_first_files_are_of_the_first_version()
-    ensures { (j : Job) (input : Text) (status : Status) (text : Text) → IsOfFirstVersion (text_for j input) → AnswersJob Reads j input status text ↔ answering.AnswersJob Reads j input status text }
+    ensures { (j : Job) (input : Text) (status : Status) (text : Text) → IsOfFirstVersion (text_for j input) → AnswersJob Reads j input status text ↔ answering.AnswersJob files_then.Reads j input status text }
 {}

@@ -71,23 +71,28 @@ fn type_of(s: &Signature, t: &Term) -> Option<TypeId>
     }
 }
 
-/// Whether the object with this number and this own type isn't of the type, or is `d`, or is cited not to be the term's value.
+/// An object with its own type.
+#[derive(Clone, Copy)]
+struct TypedObject {
+    id: ObjId,
+    own: TypeId,
+}
+
+/// Whether the object isn't of the type, or is `d`, or is cited not to be the term's value.
 fn is_ruled_out(
     c: &Cited<'_>,
     s: &Signature,
     t: &Term,
     d: ObjId,
     of: TypeId,
-    own: TypeId,
-    number: u16,
+    e: TypedObject,
 ) -> bool
-    ensures { result ≡ (not (fits_type (signature_of s.now) own.0 of.0) || ((number == d.0) || is_cited (judge_of c.now) c.now.moment (inequation (term_of t.now) (object number)))) }
+    ensures { result ≡ (not (fits_type (signature_of s.now) e.own.0 of.0) || ((e.id.0 == d.0) || is_cited (judge_of c.now) c.now.moment (inequation (term_of t.now) (object e.id.0)))) }
 {
-    !s.fits(own, of) || (number == d.0 || c.tells_apart(t, &Term::Obj(ObjId(number))))
+    !s.fits(e.own, of) || (e.id.0 == d.0 || c.tells_apart(t, &Term::Obj(e.id)))
 }
 
-/// Whether each of these objects, the first having this number, that is of the type and isn't `d` is cited not to be the
-/// term's value.
+/// Whether each of these objects, counted from 0, that is of the type and isn't `d` is cited not to be the term's value.
 #[tactic(auto, using(crate::proofs::Ranging::one_ruled_out))]
 fn are_ruled_out(
     c: &Cited<'_>,
@@ -96,14 +101,17 @@ fn are_ruled_out(
     d: ObjId,
     of: TypeId,
     owns: &[TypeId],
-    number: usize,
 ) -> bool
-    requires { number + length owns.now ≤ 65536 }
-    ensures { result ≡ others_ruled_out (judge_of c.now) c.now.moment (term_of t.now) d.0 (objects_from (λ own. fits_type (signature_of s.now) own of.0) number (types_of owns.now)) }
+    requires { length owns.now ≤ 65536 }
+    ensures { result ≡ others_ruled_out (judge_of c.now) c.now.moment (term_of t.now) d.0 (objects_from (λ own. fits_type (signature_of s.now) own of.0) 0 (types_of owns.now)) }
 {
-    let mut at = number;
+    let mut at: usize = 0;
     for own in owns {
-        if !is_ruled_out(c, s, t, d, of, *own, at as u16) {
+        let e = TypedObject {
+            id: ObjId(at as u16),
+            own: *own,
+        };
+        if !is_ruled_out(c, s, t, d, of, e) {
             return false;
         }
         at += 1;
@@ -118,8 +126,7 @@ fn is_last_left(c: &Cited<'_>, s: &Signature, t: &Term, d: ObjId) -> bool
 {
     match type_of(s, t) {
         None => false,
-        Some(of) => object_is_of(s, of, d)
-            && are_ruled_out(c, s, t, d, of, s.objects.as_slice(), 0),
+        Some(of) => object_is_of(s, of, d) && are_ruled_out(c, s, t, d, of, s.objects.as_slice()),
     }
 }
 

@@ -19,7 +19,7 @@ use Rattle.pks_laws.proofs.Belonging.{saturated_end}
 use Rattle.pks_laws_progress.specs.Following.{Follows}
 use Rattle.pks_laws_progress.proofs.Following.{put_implied, addition_implied, closes_alike}
 use Rattle.pks_laws_progress.proofs.Keeping.{none_found}
-use Rattle.pks_laws_forget.proofs.ClosingEnds.{closing_ends}
+use Rattle.pks_laws_progress.proofs.ClosingEnds.{closing_ends}
 use Rattle.pks_query_closing.specs.Working.{Clashes, SomeDenied, GrowsTo, GrowsBy}
 
 -- ---- what follows

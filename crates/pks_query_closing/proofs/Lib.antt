@@ -8,3 +8,4 @@ pub mod Growing
 pub mod Apart
 pub mod ByValue
 pub mod OwnSets
+pub mod Spared

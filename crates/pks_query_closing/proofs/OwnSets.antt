@@ -5,17 +5,17 @@ use Rattle.std.specs.List.{list_all}
 use Rattle.std.specs.Cmp.{IsTotalOrder, Equal-is}
 use Rattle.std.specs.Ordering.{on, is_gt, ordering_reverse}
 use Rattle.pks_terms.specs.Sets.{Each, IsOrdered, set_of}
-use Rattle.pks_terms.specs.Syntax.{Term, Literal, Atom}
+use Rattle.pks_terms.specs.Syntax.{Object, Parameter, Apply, Term, Literal, Atom}
 use Rattle.pks_terms.specs.Orders.{literal_cmp, term_eq, atom_cmp, pattern_cmp}
 use Rattle.pks_terms.specs.Totality.{literal_cmp_total, atom_cmp_total}
 use Rattle.pks_terms.specs.Databases.{Entry, normal, normal_literal}
 use Rattle.pks_terms.specs.Closure.{is_application, put_in, all_put_in, in_sequence, normal_conj, normal_group, normal_atom, normal_pattern, normal_entry}
-use Rattle.pks_terms.proofs.OrderLaws.{literal_cmp_tells, same_literal, same_term, atom_cmp_tells, pattern_cmp_tells}
+use Rattle.pks_terms.proofs.OrderLaws.{literal_cmp_tells, same_literal, same_term, pattern_cmp_tells}
 use Rattle.pks_pmap_set.specs.Members.{rises}
 use Rattle.pks_pmap_set.proofs.Mapped.{ordered-map}
 use Rattle.pks_pmap_set.proofs.Rising.{added_rising, ordered_of_rises}
 use Rattle.pks_query_lookup.specs.Forms.{is_normal}
-use Rattle.pks_query_closing.specs.Own.{never_falls_from, never_falls, is_own_formula, is_own_group, is_own_application, is_own_pattern, is_own_atom}
+use Rattle.pks_query_closing.specs.Own.{never_falls_from, never_falls, is_own_formula, is_own_group, is_own_application, is_own_pattern, is_own_term, is_own_atom}
 
 -- the set of what a set says
 pub set_stays : {X Y : Type 0} (v : X → Y) (R : Y → Y → Ordering) → IsTotalOrder R → (xs : List X) → IsOrdered (on v R) xs → (ys : List Y) → ys ≡ map v xs → map v xs ≡ set_of R ys
@@ -129,11 +129,23 @@ module _ (kf : List Literal) where
       let own = and_parts (is_application t) (term_eq (normal kf t) t) parts.0 in
       ap (λ u. filter is_application (u ∷ map (normal kf) ts)) (same_term (normal kf t) t own.1) ∙ (λ i. cond (own.0 i) (t ∷ own_values ts parts.1 i) (own_values ts parts.1 i))
 
+  own_term : (t : Term) → is_own_term kf t ≡ true → normal kf t ≡ t
+  unfolding normal
+  own_term (Object d) h = refl
+  own_term (Parameter i) h = same_term (normal kf (Parameter i)) (Parameter i) h
+  own_term (Apply f ts) h = same_term (normal kf (Apply f ts)) (Apply f ts) h
+
+  own_terms : (ts : List Term) → list_all (is_own_term kf) ts ≡ true → map (normal kf) ts ≡ ts
+  own_terms [] h = refl
+  own_terms (t ∷ ts) h =
+      let parts = and_parts (is_own_term kf t) (list_all (is_own_term kf) ts) h in
+      λ i. own_term t parts.0 i ∷ own_terms ts parts.1 i
+
   own_atoms : (es : List Atom) → list_all (is_own_atom kf) es ≡ true → map (normal_atom kf) es ≡ es
   own_atoms [] h = refl
   own_atoms (a ∷ es) h =
       let parts = and_parts (is_own_atom kf a) (list_all (is_own_atom kf) es) h in
-      λ i. atom_cmp_tells (normal_atom kf a) a ((Equal-is (atom_cmp (normal_atom kf a) a)).0 parts.0) i ∷ own_atoms es parts.1 i
+      λ i. record { predicate = a.predicate; arguments = own_terms a.arguments parts.0 i } ∷ own_atoms es parts.1 i
 
   pub own_region : (e : Entry) → IsOrdered atom_cmp e.listed → is_own_pattern kf e.pattern ≡ true → list_all (is_own_atom kf) e.listed ≡ true → normal_entry kf e ≡ e
   own_region e ordered p h =

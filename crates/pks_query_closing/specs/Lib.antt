@@ -5,3 +5,4 @@ pub mod Closing
 pub mod Working
 pub mod Carrying
 pub mod Own
+pub mod Listing

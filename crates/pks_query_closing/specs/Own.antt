@@ -2,10 +2,10 @@
 use Rattle.std.specs.Prelude.{Bool, true, not, ◌&&◌, List, [], ◌∷◌}
 use Rattle.std.specs.List.{list_all}
 use Rattle.std.specs.Ordering.{is_eq, is_gt}
-use Rattle.pks_terms.specs.Syntax.{Term, Literal, Atom, Pattern}
-use Rattle.pks_terms.specs.Orders.{literal_cmp, term_eq, atom_cmp, pattern_cmp}
+use Rattle.pks_terms.specs.Syntax.{Object, Term, Literal, Atom, Pattern}
+use Rattle.pks_terms.specs.Orders.{literal_cmp, term_eq, pattern_cmp}
 use Rattle.pks_terms.specs.Databases.{normal}
-use Rattle.pks_terms.specs.Closure.{is_application, normal_atom, normal_pattern}
+use Rattle.pks_terms.specs.Closure.{is_application, normal_pattern}
 use Rattle.pks_pmap_set.specs.Members.{rises}
 use Rattle.pks_query_lookup.specs.Forms.{is_normal}
 
@@ -35,6 +35,11 @@ is_own_application kf t = is_application t && term_eq (normal kf t) t
 abbrev pub is_own_pattern : List Literal → Pattern → Bool
 is_own_pattern kf p = is_eq (pattern_cmp (normal_pattern kf p) p)
 
--- the atom is its own normal form
+-- an object, or another term that is its own normal form
+abbrev pub is_own_term : List Literal → Term → Bool
+is_own_term kf (Object d) = true
+is_own_term kf t = term_eq (normal kf t) t
+
+-- each argument of the atom is its own normal form
 abbrev pub is_own_atom : List Literal → Atom → Bool
-is_own_atom kf a = is_eq (atom_cmp (normal_atom kf a) a)
+is_own_atom kf a = list_all (is_own_term kf) a.arguments

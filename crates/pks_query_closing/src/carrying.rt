@@ -305,15 +305,15 @@ fn is_old(old: &Derived, l: &Literal) -> bool {
     old.five().kf.has(l)
 }
 
-/// Whether the literal gives or denies a value, and the old databases don't have it.
-fn is_new_value(old: &Derived, l: &Literal) -> bool {
-    (gives_value(l) || denied_place(l).is_some()) && !is_old(old, l)
+/// Whether the literal gives or denies a value, or has other forms by the values of the old databases.
+fn may_bring_more(old: &Derived, l: &Literal) -> bool {
+    gives_value(l) || denied_place(l).is_some() || old.normals().normal_literal(l) != *l
 }
 
-/// Whether some of the literals gives or denies a value that the old databases don't have.
-fn some_new_value(old: &Derived, kf: &Kf) -> bool {
+/// Whether some of the literals may bring more by values, and the old databases don't have it.
+fn some_new_may(old: &Derived, kf: &Kf) -> bool {
     for l in kf.items() {
-        if is_new_value(old, l) {
+        if may_bring_more(old, l) && !is_old(old, l) {
             return true;
         }
     }
@@ -388,7 +388,7 @@ pub(crate) fn carried(
     requires values { HasValues (signature_of s.now) }
     ensures { IfOk result (λ e. GrowsTo (signature_of s.now) (five_of five) (five_of e)) }
 {
-    if five.kx.len() == 0 && !some_new_value(old, &five.kf) {
+    if five.kx.len() == 0 && !some_new_may(old, &five.kf) {
         return Ok(five);
     }
     let (mut carrying, from) = listed(alloc, old, five)?;

@@ -14,6 +14,7 @@ ghost use Rattle.pks_query_closing.specs.Closing.{IfClash};
 ghost use Rattle.pks_query_closing.specs.Working.{EndsWith};
 ghost use Rattle.pks_query_closing.specs.declared.closing.CloseEnd.TheVariants.{Memory};
 
+use crate::clashing::least_clash;
 use crate::rounds::last_round;
 use crate::tidied::tidied;
 use crate::working::worked;
@@ -66,7 +67,8 @@ pub fn close(alloc: Global, s: &Signature, five: Five) -> Result<Derived, CloseE
     ensures moment { IfOk result (λ d. HasValues (signature_of s.now) → AreOf (signature_of s.now) (five_of five) → AreInOrder (five_of five) → IsMomentOf (signature_of s.now) (five_of d)) }
 {
     let last = last_round(alloc, s, five)?;
-    match first_clash(s, &last) {
+    let clash = least_clash(alloc, s, &last)?;
+    match clash {
         Some(l) => {
             drop(last);
             Err(CloseEnd::Clash(l))
@@ -95,7 +97,8 @@ pub fn close_unless_clash(
         return Ok(None);
     };
     let _known = last.five().kf.len();
-    if first_clash(s, &last).is_some() {
+    let clash = least_clash(alloc, s, &last)?;
+    if clash.is_some() {
         drop(last);
         return Ok(None);
     }

@@ -6,6 +6,7 @@ mod clashing;
 pub mod closing;
 pub mod forms;
 pub mod groups;
+mod listing;
 mod numbers;
 mod own;
 pub mod ranges;

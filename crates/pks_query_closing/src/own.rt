@@ -3,16 +3,15 @@ ghost use Rattle.std.specs.Prelude.{◌≡◌, IsTrue};
 ghost use Rattle.std.specs.List.{list_all};
 ghost use Rattle.pks_terms.specs.Orders.{literal_cmp};
 ghost use Rattle.pks_terms.specs.Closure.{normal_entry};
-ghost use Rattle.pks_terms.specs.Views.{term_of, literal_of, literals_in, atom_of, conj_of, pattern_of};
+ghost use Rattle.pks_terms.specs.Views.{term_of, terms_of, literal_of, literals_in, atom_of, conj_of, pattern_of};
 ghost use Rattle.pks_pmap_set.specs.Members.{rises_from, rises};
 ghost use Rattle.pks_kf.specs.Known.{literals_of};
 ghost use Rattle.pks_lcw.specs.Entries.{atoms_of, entry_of};
 ghost use Rattle.pks_query_lookup.specs.Forms.{is_normal};
-ghost use Rattle.pks_query_closing.specs.Own.{never_falls_from, never_falls, is_own_formula, is_own_group, is_own_application, is_own_pattern, is_own_atom};
+ghost use Rattle.pks_query_closing.specs.Own.{never_falls_from, never_falls, is_own_formula, is_own_group, is_own_application, is_own_pattern, is_own_term, is_own_atom};
 
 use crate::forms::normal_pattern;
 use pks_lcw::Entry;
-use pks_query_lookup::atoms::normal_atom;
 use pks_query_lookup::normals::Normals;
 use pks_terms::group::Group;
 use pks_terms::literal::{Conj, Literal, Pattern, PredAtom};
@@ -108,10 +107,30 @@ fn is_own_pattern(by: &Normals, p: &Pattern) -> bool
     normal_pattern(by, p) == *p
 }
 
+/// Whether the term is its own normal form, as an object always is.
+#[tactic(auto, unfolding(pks_terms::specs::Orders::term_eq))]
+fn is_own_term(by: &Normals, t: &Term) -> bool
+    ensures { result ≡ is_own_term (literals_of by.now.kf) (term_of t.now) }
+{
+    match t {
+        Term::Obj(_) => true,
+        Term::Param(_) | Term::App { .. } => by.normal(t) == *t,
+    }
+}
+
+fn are_own_terms(by: &Normals, ts: &[Term]) -> bool
+    ensures { result ≡ list_all (is_own_term (literals_of by.now.kf)) (terms_of ts.now) }
+{
+    match ts {
+        [] => true,
+        [t, ts @ ..] => is_own_term(by, t) && are_own_terms(by, ts),
+    }
+}
+
 fn is_own_atom(by: &Normals, a: &PredAtom) -> bool
     ensures { result ≡ is_own_atom (literals_of by.now.kf) (atom_of a.now) }
 {
-    normal_atom(by, a) == *a
+    are_own_terms(by, front(&a.args, a.n))
 }
 
 fn are_own_atoms(by: &Normals, atoms: &[PredAtom]) -> bool

@@ -30,6 +30,8 @@ mod streams;
 #[cfg(test)]
 mod sure;
 #[cfg(test)]
+mod undecided;
+#[cfg(test)]
 mod words;
 #[cfg(test)]
 mod worked;

@@ -263,6 +263,111 @@ fn an_aim_that_is_met_keeps_no_past(rt: HostRuntime) -> Result<(), Fail> {
     all_so(rt.alloc(), MET_AT_START)
 }
 
+/// What is asked of some moment is of a place that a step assigns: what is learnt of it later tells it of that moment.
+const ONCE_THERE: &str = "(pks 2)
+(domain (types t) (objects (t a b)) (predicates (q t) (done)) (functions (f t))
+  (action act (effects (assign (f) b) (set (done))) (knows (kf (= (f) b)) (kf (done))))
+  (action look (senses (sense (q a))) (knows (kw (q a))))
+  (action put (pre (k (not (q a)))) (effects (set (q (f)))) (knows (kf (q (f))))))
+(problem (init (kf (= (f) a))) (goal (k (done)) (once (k (q (f))))))
+";
+
+const ONCE_THERE_PLAN: &str = "plan depth 4
+(act)
+(look)
+branch (q a)
+true
+  goal
+false
+  (put)
+  goal
+";
+
+/// Whether it was lit at the start isn't told by lighting it, nor by a look whose answer nobody asks for.
+const LIT_AT_START: &str = "(pks 2)
+(domain (predicates (lit))
+  (action on (effects (set (lit))) (knows (kf (lit))))
+  (action look (senses (sense (lit))) (knows (kw (lit)))))
+(problem (goal (k (lit)) (at-start (kw (lit)))))
+";
+
+const LIT_AT_START_PLAN: &str = "plan depth 3
+(look)
+branch (lit)
+true
+  goal
+false
+  (on)
+  goal
+";
+
+/// After a look it is known whether it is lit, which wasn't so at the start before the branch.
+const SHUT_AND_LOOK: &str = "(pks 2)
+(domain (predicates (lit) (shut))
+  (action shut (effects (set (shut))) (knows (kf (shut))))
+  (action look (senses (sense (lit))) (knows (kw (lit)))))
+(problem (goal (k (shut)) (at-start (kw (lit)))))
+";
+
+const SHUT_AND_LOOK_PLAN: &str = "plan depth 3
+(shut)
+(look)
+branch (lit)
+true
+  goal
+false
+  goal
+";
+
+/// It is lit between two moments at which it isn't.
+const LIT_ONCE: &str = "(pks 2)
+(domain (predicates (lit) (shut))
+  (action shut (effects (set (shut))) (knows (kf (shut))))
+  (action on (effects (set (lit))) (knows (kf (lit))))
+  (action off (effects (unset (lit))) (knows (kf (not (lit))))))
+(problem (init (kf (not (lit)))) (goal (k (shut)) (once (k (lit))) (k (not (lit)))))
+";
+
+const LIT_ONCE_PLAN: &str = "plan depth 3
+(shut)
+(on)
+(off)
+goal
+";
+
+const OVER_TIME: &[Answered] = &[
+    Answered("plan 3", ONCE_THERE, NoPlan, "none to depth 3\n"),
+    Answered("plan 4", ONCE_THERE, Done, ONCE_THERE_PLAN),
+    Answered("plan 2", LIT_AT_START, NoPlan, "none to depth 2\n"),
+    Answered("plan 3", LIT_AT_START, Done, LIT_AT_START_PLAN),
+    Answered("plan 2", SHUT_AND_LOOK, NoPlan, "none to depth 2\n"),
+    Answered("plan 3", SHUT_AND_LOOK, Done, SHUT_AND_LOOK_PLAN),
+    Answered("plan 2", LIT_ONCE, NoPlan, "none to depth 2\n"),
+    Answered("plan 3", LIT_ONCE, Done, LIT_ONCE_PLAN),
+];
+
+#[test]
+fn aims_over_time_are_answered_as_before(rt: HostRuntime) -> Result<(), Fail> {
+    all_so(rt.alloc(), OVER_TIME)
+}
+
+/// No switch opens what is shut.
+const SWITCHES: &str = "(pks 2)
+(domain (types room) (objects (room hall study attic cellar porch)) (predicates (lit room) (shut))
+  (action on (params (?r room)) (pre (not-derived (k (lit ?r)))) (effects (set (lit ?r))) (knows (kf (lit ?r))))
+  (action off (params (?r room)) (pre (not-derived (k (not (lit ?r))))) (effects (unset (lit ?r))) (knows (kf (not (lit ?r))))))
+(problem (init (kf (shut))) (goal (k (lit hall)) (always (k (shut))) (once (k (not (shut))))))
+";
+
+const SHUT_FOR_GOOD: &[Answered] = &[Answered("plan 16", SWITCHES, NoPlan, "none to depth 16\n")];
+
+/// A twentieth of a second of a processor; where the past is kept, each action more takes seven times as long, at depth 8 five
+/// seconds.
+#[test]
+fn aims_over_time_keep_little_past(rt: HostRuntime) -> Result<(), Fail> {
+    all_so(rt.alloc(), SHUT_FOR_GOOD)
+}
+
 const FAILED: &[Answered] = &[Answered("plan 11", ELEVEN, NoPlan, "none to depth 11\n")];
 
 /// A second and a half of a processor; where the tables tell nothing, more than a minute.

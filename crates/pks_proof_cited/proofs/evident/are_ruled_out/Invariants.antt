@@ -9,4 +9,4 @@ abbrev pub invariant-loop-own : goal.invariant-loop-own
 invariant-loop-own l =
     (l.at + length (drop l.own-index l.owns) ≤ 65536)
     × (others_ruled_out (judge_of l.c) l.c.moment (term_of l.t) l.d.0 (objects_from (λ own. fits_type (signature_of l.s) own l.of.0) l.at (types_of (drop l.own-index l.owns)))
-    ≡ others_ruled_out (judge_of l.c) l.c.moment (term_of l.t) l.d.0 (objects_from (λ own. fits_type (signature_of l.s) own l.of.0) l.number (types_of l.owns)))
+    ≡ others_ruled_out (judge_of l.c) l.c.moment (term_of l.t) l.d.0 (objects_from (λ own. fits_type (signature_of l.s) own l.of.0) 0 (types_of l.owns)))

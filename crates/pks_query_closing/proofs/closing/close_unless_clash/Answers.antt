@@ -14,7 +14,7 @@ pub returns-then-is_some : goal.returns-then-is_some
 returns-then-is_some c =
     let s = signature_of c.args.s.now in
     let reached = subst (IsWorked s (five_of c.args.five)) c.in-Some.is c.in_ok-last.ensures in
-    some_clashes s c.requires.values (five_of c.args.five) (five_of c.in-Some.last) c.first_clash.result (ordered-map literal_of literal_cmp c.args.five.kf c.len-start.ensures.ordered) reached.0 c.first_clash.ensures
+    some_clashes s c.requires.values (five_of c.args.five) (five_of c.in-Some.last) c.in_ok-clash.clash (ordered-map literal_of literal_cmp c.args.five.kf c.len-start.ensures.ordered) reached.0 c.in_ok-clash.ensures
     (sym c.is_some.ensures ∙ c.if-is_some.true)
 
 pub returns : goal.returns
@@ -22,5 +22,5 @@ returns c =
     let s = signature_of c.args.s.now in
     let here : IsOrdered (on literal_of literal_cmp) c.in-Some.last.kf = subst (λ (d : DFive). IsOrdered (on literal_of literal_cmp) d.kf) c.five.ensures c.len-known.ensures.ordered in
     let reached = subst (IsWorked s (five_of c.args.five)) c.in-Some.is c.in_ok-last.ensures in
-    ends_fine s c.requires.values (five_of c.args.five) (five_of c.in-Some.last) (five_of c.in_ok-d.d) c.first_clash.result (ordered-map literal_of literal_cmp c.args.five.kf c.len-start.ensures.ordered) (ordered-map literal_of literal_cmp c.in-Some.last.kf here)
-    reached.0 reached.1 c.first_clash.ensures (sym c.is_some.ensures ∙ c.if-is_some.false) c.in_ok-d.ensures
+    ends_fine s c.requires.values (five_of c.args.five) (five_of c.in-Some.last) (five_of c.in_ok-d.d) c.in_ok-clash.clash (ordered-map literal_of literal_cmp c.args.five.kf c.len-start.ensures.ordered) (ordered-map literal_of literal_cmp c.in-Some.last.kf here)
+    reached.0 reached.1 c.in_ok-clash.ensures (sym c.is_some.ensures ∙ c.if-is_some.false) c.in_ok-d.ensures

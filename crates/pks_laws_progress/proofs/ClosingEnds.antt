@@ -11,8 +11,8 @@ use Rattle.pks_terms.specs.Closure.{additions, round, rounds, outcome, Outcome, 
 use Rattle.pks_terms.proofs.ListLaws.{each_added, each_weaker}
 use Rattle.pks_terms.proofs.OrderLaws.{literal_cmp_tells}
 use Rattle.pks_terms.proofs.SetLaws.{added_longer, added_same, ordered_added}
-use Rattle.pks_laws_forget.proofs.Small.{FormSmall, InnerSmall, TermSmall, RelationSmall, LiteralSmall, FiveSmall, additions_small}
-use Rattle.pks_laws_forget.proofs.Total.{most, at_most}
+use Rattle.pks_laws_progress.proofs.Small.{FormSmall, InnerSmall, TermSmall, RelationSmall, LiteralSmall, FiveSmall, additions_small}
+use Rattle.pks_laws_progress.proofs.Bounded.{most, at_most}
 
 -- ---- each of finitely many things is below some bound
 
