@@ -22,7 +22,7 @@ said_first : (said : Said) (part whole : Talked) → Begins part whole → Begin
 said_first said part whole (rest, e) = (rest, ap (λ lines. said ∷ lines) e)
 
 -- a question, and what comes of what its answer told
-abbrev asked_then : {X : Type 0} → Text → (X → GoesOn) → ℕ → Option X → List Text → Talked
+abbrev pub asked_then : {X : Type 0} → Text → (X → GoesOn) → ℕ → Option X → List Text → Talked
 asked_then question go k o answers = saying (Question question) (option_map_or (λ x. go x (k + 1) answers) o (record { lines = []; end = Unfit k; left = answers }))
 
 asking_alike : {X : Type 0} (reads : Text → Option X) (question : Text) (go : X → GoesOn) → ((x : X) → GoesOnAlike (go x)) → GoesOnAlike (asking reads question go)

@@ -4,6 +4,7 @@ pub mod Bounding
 pub mod Causing
 pub mod Joining
 pub mod Told
+pub mod Fitting
 pub mod Fronts
 pub mod Sizes
 pub mod Longest

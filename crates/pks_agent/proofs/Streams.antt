@@ -2,7 +2,7 @@
 use Rattle.std.proofs.Common.{◌≡◌, ◌<◌, ◌≤◌, ◌+◌, ◌-◌, ℕ, zero, suc, Bool, true, false, cond, ◌&&◌, List, [], ◌∷◌, ◌++◌, length, take, drop, slice_index_or, slice_set, Option, Some, None, option_map, IfSome, Result, Ok, Err, Vec, refl, sym, ap, ap₂, ◌∙◌, subst, append-nil, append_assoc, arith}
 use Rattle.std.specs.Prelude.{nat_eq}
 use Rattle.std.specs.Io.KnownBytes.{Consumes, IsAtEnd}
-use Rattle.std.proofs.lemmas.List.{length-append, take_all}
+use Rattle.std.proofs.lemmas.List.{length-append, length-drop, take_all}
 use Rattle.std.specs.declared.alloc.Global.{Global}
 use Rattle.pks_io.specs.declared.read.ReadEnd.{ReadEnd}
 use Rattle.pks_io.specs.declared.read.ReadEnd.TheVariants as read_end
@@ -51,6 +51,18 @@ none_ahead bytes at end h = let zero_more : end - at ≡ 0 = omega (arith, h) in
 
 pub none_behind : (bytes : List ℕ) (at end : ℕ) → length bytes ≤ at → take (end - at) (drop at bytes) ≡ []
 none_behind bytes at end h = none_left bytes at (end - at) h
+
+-- no more is left than there are
+take_fewer : (n : ℕ) (bytes : List ℕ) → length (take n bytes) ≤ length bytes
+take_fewer zero bytes = subst (λ l. length l ≤ length bytes) (sym (none_taken bytes)) (omega arith)
+take_fewer (suc n) [] = omega arith
+take_fewer (suc n) (b ∷ bytes) = let fewer = take_fewer n bytes in omega (arith, fewer)
+
+pub few_left : (bytes : List ℕ) (at end : ℕ) → length bytes ≡ 512 → length (take (end - at) (drop at bytes)) ≤ 512
+few_left bytes at end all =
+    let few : length (take (end - at) (drop at bytes)) ≤ length (drop at bytes) = take_fewer (end - at) (drop at bytes) in
+    let rest : length (drop at bytes) ≡ length bytes - at = length-drop at bytes in
+    omega (arith, few, rest, all)
 
 -- what was just read
 pub read_ahead : (bytes : List ℕ) (end : ℕ) → take (end - 0) (drop 0 bytes) ≡ take end bytes

@@ -2,6 +2,7 @@ pub mod Along
 pub mod Answers
 pub mod Asking
 pub mod Bounds
+pub mod Fitting
 pub mod Hearing
 pub mod Leading
 pub mod Memory

@@ -1,5 +1,5 @@
 //! Bytes that were read ahead.
-ghost use Rattle.std.specs.Prelude.{◌≡◌, ◌≤◌, ◌∷◌, [], IfSome, IsNone, IfOk, OnOk};
+ghost use Rattle.std.specs.Prelude.{◌≡◌, ◌≤◌, ◌-◌, ◌∷◌, [], take, drop, length, IfSome, IsNone, IfOk, OnOk};
 ghost use Rattle.std.specs.Io.KnownBytes.{Consumes, IsAtEnd};
 ghost use Rattle.pks_io.specs.Causes.{HasCause};
 ghost use Rattle.pks_agent.specs.Streams.{ahead_of, coming, GivesByte};
@@ -14,7 +14,20 @@ pub struct ReadAhead {
     end: usize,
 }
 
+/// What is left of an array of 512 bytes has no more.
+#[tactic(auto, using(crate::proofs::Streams::few_left))]
+fn few_left(bytes: &[u8; 512], at: usize, end: usize)
+    ensures { length (take (end - at) (drop at bytes.now)) ≤ 512 }
+{}
+
 impl ReadAhead {
+    /// At most 512 bytes are read ahead, whatever was read and taken.
+    pub(crate) fn stays_small(&self)
+        ensures { length (ahead_of self.now) ≤ 512 }
+    {
+        few_left(&self.bytes, self.at, self.end)
+    }
+
     /// No bytes.
     pub(crate) fn none() -> ReadAhead
         ensures { ahead_of result ≡ [] }

@@ -1,7 +1,7 @@
 //! The file that stands before the answers.
-ghost use Rattle.std.specs.Prelude.{◌≡◌, ◌≤◌, ◌<◌, ◌∷◌, ◌++◌, [], IfSome, IfOk, OnOk, IsErrOf, vec_len};
+ghost use Rattle.std.specs.Prelude.{◌≡◌, ◌≤◌, ◌<◌, ◌∷◌, ◌++◌, [], IfSome, IfOk, OnOk, IsErrOf, length, vec_len};
 ghost use Rattle.pks_io.specs.Causes.{Rose, HasCause};
-ghost use Rattle.pks_agent.specs.Streams.{coming, Finds, FindsStop, Appended, ReadsFile, ReadsFront};
+ghost use Rattle.pks_agent.specs.Streams.{ahead_of, coming, Finds, FindsStop, Appended, ReadsFile, ReadsFront};
 
 use crate::ahead::ReadAhead;
 use pks_io::{Failed, ReadEnd, Source};
@@ -127,7 +127,7 @@ fn read_on<S: Source>(
 }
 
 /// Reads the file of a dialogue: what stands before the first line that is a full stop alone, or all that is left where there is
-/// none. The bytes that were read behind it come first in the dialogue. A source that waits for a caller isn't asked for more once
+/// none. The bytes that were read behind it, at most 512, come first in the dialogue. A source that waits for a caller isn't asked for more once
 /// that line was read.
 ///
 /// It answers `TooLong` exactly where the file has more than 262,144 bytes, `Fault` only where the source's count of faults rose, which
@@ -139,6 +139,7 @@ pub fn read_file_text<S: Source>(
 ) -> Result<(Vec<u8>, ReadAhead), ReadEnd>
     ensures told { IfSome (S.left source.old) (ReadsFront 262144 (S.left source.new) result) }
     ensures bound { IfOk result (λ r. vec_len r.0 ≤ 262144) }
+    ensures few { IfOk result (λ r. length (ahead_of r.1) ≤ 512) }
     ensures later { S.faults source.old ≤ S.faults source.new }
     ensures quiet { OnOk result (S.faults source.new ≡ S.faults source.old) }
     ensures quiet_long { IsErrOf result ReadEnd.TooLong → S.faults source.new ≡ S.faults source.old }
@@ -147,7 +148,10 @@ pub fn read_file_text<S: Source>(
 {
     let mut ahead = ReadAhead::none();
     match read_on(alloc, &mut ahead, source) {
-        Ok(text) => Ok((text, ahead)),
+        Ok(text) => {
+            ahead.stays_small();
+            Ok((text, ahead))
+        }
         Err(end) => Err(end),
     }
 }

@@ -6,7 +6,8 @@ ghost use Rattle.pks_terms.specs.Knowledge.{AtGoal, Good, run_of};
 ghost use Rattle.pks_terms.specs.Meaning.{IsWorld};
 ghost use Rattle.pks_terms.specs.Printed.{Text, Names};
 ghost use Rattle.pks_terms.specs.Problems.{Problem, IsCompatible};
-ghost use Rattle.pks_terms.specs.Talk.{Talked, talk, Over, world_answers, statements, run_statements};
+ghost use Rattle.pks_terms.specs.Signatures.{Signature};
+ghost use Rattle.pks_terms.specs.Talk.{Talked, talk, talked_text, Over, world_answers, statements, run_statements};
 ghost use Rattle.pks_terms.specs.Trees.{Tree, IsPlan, depth};
 ghost use Rattle.pks_terms.specs.Valid.{IsValid};
 ghost use Rattle.pks_terms.specs.Worlds.{World};
@@ -19,6 +20,7 @@ ghost use Rattle.pks_agent.specs.declared.peers.PeerFault.{PeerFault};
 ghost use Rattle.pks_agent.specs.declared.ends.TalkEnd.{TalkEnd};
 ghost use Rattle.pks_agent.specs.Along.{AreShort, LeadsAlong};
 ghost use Rattle.pks_agent.specs.Bounds.{IsWithin, IsShortTalk, HasShortNames, HasSmallTests, Begins, StandFirst};
+ghost use Rattle.pks_agent.specs.Fitting.{IsFront, ComesOfFit};
 
 /// Where the answers are what is so in a world, the actions that are told and the end are those of the run in it.
 pub fn answers_of_a_world_lead_along_its_run()
@@ -52,6 +54,19 @@ pub fn more_answers_keep_what_was_told()
 pub fn what_was_told_begins_a_good_run()
     ensures { (p : Problem) (names : Names) (t : Tree) (w : World) → IsValid p → AreNamesOf p names → AreShort names → unjustified p ≡ [] → IsPlan p t → IsCompatible p w → (given more : List Text) →
         given ++ more ≡ world_answers p names t w → Good p t w × StandFirst (statements (talk p.signature names t given)) (run_statements names (run_of p t w)) }
+{}
+
+/// What was told of a dialogue, or a front of it, comes of the first answers, each of which was fit and asked for in it by a whole line: it is
+/// the lines of the dialogue with these answers alone, or a front of them. The others change nothing of it.
+pub fn lines_come_of_fit_answers()
+    ensures { (s : Signature) (names : Names) (t : Tree) (answers : List Text) (text : Text) → IsFront text (talked_text (talk s names t answers)) → (fit : List Text) × ComesOfFit s names t answers fit text }
+{}
+
+/// Where a compatible world begins with these answers, the actions and the end that are told by them begin those of the run of the plan in
+/// it, which is good.
+pub fn fit_answers_begin_a_run()
+    ensures { (p : Problem) (names : Names) (t : Tree) (w : World) → IsValid p → AreNamesOf p names → AreShort names → unjustified p ≡ [] → IsPlan p t → IsCompatible p w → (answers fit : List Text) (text : Text) →
+        ComesOfFit p.signature names t answers fit text → StandFirst fit (world_answers p names t w) → Good p t w × StandFirst (statements (talk p.signature names t fit)) (run_statements names (run_of p t w)) }
 {}
 
 /// A peer in memory that lists no failing call, and of which at most 15 calls were made, fails in no such dialogue, by what `converse`

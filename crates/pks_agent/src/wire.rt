@@ -9,7 +9,7 @@ ghost use Rattle.pks_terms.specs.Views.{signature_of, names_of};
 ghost use Rattle.pks_plan.specs.TreeViews.{tree_of};
 ghost use Rattle.pks_agent.specs.Leading.{Led, HasTalkCause};
 ghost use Rattle.pks_agent.specs.Rooms.{IsRoomOf};
-ghost use Rattle.pks_agent.specs.Streams.{coming, answers_coming};
+ghost use Rattle.pks_agent.specs.Streams.{ahead_of, coming, answers_coming};
 ghost use Rattle.pks_agent.specs.declared.ahead.ReadAhead.{ReadAhead};
 
 use crate::ahead::ReadAhead;
@@ -103,10 +103,13 @@ fn converse_on<S: Source, K: Sink>(
     ensures led { IfSome (answers_coming (coming wire.old.ahead (S.left wire.old.source.now))) (λ answers. Led (K.written wire.old.sink.now) (K.written wire.new.sink.now)
         (answers_coming (coming wire.new.ahead (S.left wire.new.source.now))) result (talk (signature_of p.now.signature) (names_of p.now) (tree_of t.now) answers)) }
     ensures cause { HasTalkCause (K.faults wire.old.sink.now) (K.faults wire.new.sink.now) (S.faults wire.old.source.now) (S.faults wire.new.source.now) result }
+    ensures few { length (ahead_of wire.new.ahead) ≤ 512 }
     ensures same_source { wire.new.source.ghost_name ≡ wire.old.source.ghost_name }
     ensures same_sink { wire.new.sink.ghost_name ≡ wire.old.sink.ghost_name }
 {
-    converse(p, t, wire, room)
+    let ended = converse(p, t, wire, room);
+    wire.ahead.stays_small();
+    ended
 }
 
 /// Leads a caller through the tree, as [`converse`] does: what it is told goes to the sink, and its answers come from what was read ahead and
@@ -114,7 +117,7 @@ fn converse_on<S: Source, K: Sink>(
 ///
 /// Where the source tells the bytes that are left, the text that is written is the lines of the dialogue that comes of these answers,
 /// or after a fault a front of these. `Failed` comes only where the count of that side rose, which stands still else. At the end of the
-/// dialogue what was read ahead of the answers that it takes and what the source has left are the other answers.
+/// dialogue what was read ahead of the answers that it takes, at most 512 bytes, and what the source has left are the other answers.
 pub fn converse_over<S: Source, K: Sink>(
     p: &Problem<'_>,
     t: &Tree,
@@ -126,6 +129,8 @@ pub fn converse_over<S: Source, K: Sink>(
     requires objects { length p.now.signature.objects ≤ 65536 }
     requires room { IsRoomOf (names_of p.now) (tree_of t.now) room.old }
     ensures led { IfSome (answers_coming (coming ahead (S.left source.old))) (λ answers. (kept : ReadAhead) × Led (K.written sink.old) (K.written sink.new)
+        (answers_coming (coming kept (S.left source.new))) result (talk (signature_of p.now.signature) (names_of p.now) (tree_of t.now) answers)) }
+    ensures few { IfSome (answers_coming (coming ahead (S.left source.old))) (λ answers. (kept : ReadAhead) × (length (ahead_of kept) ≤ 512) × Led (K.written sink.old) (K.written sink.new)
         (answers_coming (coming kept (S.left source.new))) result (talk (signature_of p.now.signature) (names_of p.now) (tree_of t.now) answers)) }
     ensures cause { HasTalkCause (K.faults sink.old) (K.faults sink.new) (S.faults source.old) (S.faults source.new) result }
 {

@@ -10,6 +10,7 @@ ghost use Rattle.pks_reader_names.specs.Views.{scope_view};
 ghost use Rattle.pks_reader_problem.specs.Sizes.{IsSmall};
 ghost use Rattle.pks_laws_reader.specs.Facts.{EachForm, HasShapes};
 ghost use Rattle.pks_world.specs.Contents.{world_of};
+ghost use Rattle.pks_world.specs.Counts.{WorldCounts};
 ghost use Rattle.pks_world.specs.First.{first_world, IsWorldOf};
 ghost use Rattle.pks_reader_world.specs.Naming.{object_named, atom_named, place_named};
 ghost use Rattle.pks_reader_world.specs.Facts.{world_faults};
@@ -33,6 +34,7 @@ fn put_fact(world: &mut World, scope: &Scope<'_, '_>, fact: &Form<'_>) -> Result
     requires world { IsWorldOf (signature_in (scope_view scope.now)) world.old }
     ensures says { OnOk result (world_of world.new ≡ with_atom (world_of world.old) (atom_named (scope_view scope.now) (form_view fact.now))) }
     ensures of_signature { IsWorldOf (signature_in (scope_view scope.now)) world.new }
+    ensures counts { WorldCounts world.old → WorldCounts world.new }
 {
     match atom_named(scope, fact) {
         None => Ok(()),
@@ -50,6 +52,7 @@ fn put_facts(world: &mut World, scope: &Scope<'_, '_>, facts: &[Form<'_>]) -> Re
     requires world { IsWorldOf (signature_in (scope_view scope.now)) world.old }
     ensures says { OnOk result (world_of world.new ≡ with_facts (scope_view scope.now) (world_of world.old) (forms_view facts.now)) }
     ensures of_signature { OnOk result (IsWorldOf (signature_in (scope_view scope.now)) world.new) }
+    ensures counts { WorldCounts world.old → OnOk result (WorldCounts world.new) }
 {
     for fact in facts {
         put_fact(world, scope, fact)?;
@@ -64,6 +67,7 @@ fn put_entry(world: &mut World, scope: &Scope<'_, '_>, entry: &Form<'_>)
     requires world { IsWorldOf (signature_in (scope_view scope.now)) world.old }
     ensures says { world_of world.new ≡ with_place (world_of world.old) (place_named (scope_view scope.now) (first_in (form_view entry.now))) (object_named (scope_view scope.now) (second_in (form_view entry.now))) }
     ensures of_signature { IsWorldOf (signature_in (scope_view scope.now)) world.new }
+    ensures counts { WorldCounts world.old → WorldCounts world.new }
 {
     if let Some(place) = place_named(scope, first_in(entry)) {
         if let Some(value) = object_named(scope, second_in(entry)) {
@@ -79,6 +83,7 @@ fn put_entries(world: &mut World, scope: &Scope<'_, '_>, entries: &[Form<'_>])
     requires world { IsWorldOf (signature_in (scope_view scope.now)) world.old }
     ensures says { world_of world.new ≡ with_entries (scope_view scope.now) (world_of world.old) (forms_view entries.now) }
     ensures of_signature { IsWorldOf (signature_in (scope_view scope.now)) world.new }
+    ensures counts { WorldCounts world.old → WorldCounts world.new }
 {
     for entry in entries {
         put_entry(world, scope, entry);
@@ -99,6 +104,7 @@ pub(crate) fn filled(
     requires faultless { world_faults (scope_view scope.now) (forms_view parts.now) ≡ [] }
     ensures says { IfOk result (λ w. world_of w ≡ world_in (scope_view scope.now) (forms_view parts.now)) }
     ensures of_signature { IfOk result (IsWorldOf (signature_of p.now.signature)) }
+    ensures counts { IfOk result WorldCounts }
 {
     let mut world = World::first(alloc, p)?;
     put_facts(&mut world, scope, section("true", parts))?;

@@ -1,5 +1,6 @@
 //! What the words of facts name.
 ghost use Rattle.std.specs.Prelude.{◌≡◌, ◌≤◌, ◌+◌, ℕ, List, ◌∷◌, map, take, option_map, option_and_then, IfSome};
+ghost use Rattle.pks_terms.specs.Counts.{AtomCounts};
 ghost use Rattle.pks_terms.specs.Syntax.{place};
 ghost use Rattle.pks_terms.specs.Views.{object_of, term_of, atom_of};
 ghost use Rattle.pks_text.specs.FormViews.{form_view, forms_view};
@@ -129,7 +130,8 @@ pub(crate) fn place(fun: FnId, objects: Objects) -> Term
 // The predicate at the objects.
 fn ground(pred: PredId, objects: Objects) -> PredAtom
     requires { objects.n ≤ 3 }
-    ensures { atom_of result ≡ ground pred.0 (objects_in objects) }
+    ensures says { atom_of result ≡ ground pred.0 (objects_in objects) }
+    ensures counts { AtomCounts result }
 {
     let [a, b, c] = objects.items;
     PredAtom {
@@ -142,7 +144,8 @@ fn ground(pred: PredId, objects: Objects) -> PredAtom
 /// The atom that a fact names.
 pub(crate) fn atom_named(scope: &Scope<'_, '_>, fact: &Form<'_>) -> Option<PredAtom>
     requires { IsSmall (scope_view scope.now) }
-    ensures { option_map atom_of result ≡ atom_named (scope_view scope.now) (form_view fact.now) }
+    ensures says { option_map atom_of result ≡ atom_named (scope_view scope.now) (form_view fact.now) }
+    ensures counts { IfSome result AtomCounts }
 {
     match predicate_named(scope, head_of(parts_of(fact))) {
         None => None,

@@ -11,6 +11,7 @@ ghost use Rattle.pks_reader_declared.specs.Views.{declared_view};
 ghost use Rattle.pks_reader_problem.specs.Sizes.{IsSmall};
 ghost use Rattle.pks_laws_reader.specs.Facts.{HasShapes};
 ghost use Rattle.pks_world.specs.Contents.{world_of};
+ghost use Rattle.pks_world.specs.Counts.{WorldCounts};
 ghost use Rattle.pks_world.specs.First.{IsWorldOf};
 ghost use Rattle.pks_reader_world.specs.Stated.{world_in, contents_fault, parts_at, place_at, declared_by, world_fault, world_by};
 ghost use Rattle.pks_reader_world.specs.Views.{IsRefusal};
@@ -71,6 +72,7 @@ fn stated(
     requires stated { signature_of p.now.signature ≡ signature_in (scope_view scope.now) }
     ensures says { IfOk result (λ w. world_of w ≡ world_in (scope_view scope.now) (behind_head (form_view form.now))) }
     ensures of_signature { IfOk result (IsWorldOf (signature_of p.now.signature)) }
+    ensures counts { IfOk result WorldCounts }
     ensures fine { OnOk result (contents_fault (scope_view scope.now) (form_view form.now) ≡ None) }
     ensures refused { IfErr result (IsRefusal (contents_fault (scope_view scope.now) (form_view form.now))) }
 {
@@ -99,6 +101,7 @@ fn among(
     requires stated { signature_of p.now.signature ≡ signature_in (declared_view declared.now) }
     ensures says { IfOk result (λ w. world_of w ≡ world_in (declared_view declared.now) (behind_head (form_view form.now))) }
     ensures of_signature { IfOk result (IsWorldOf (signature_of p.now.signature)) }
+    ensures counts { IfOk result WorldCounts }
     ensures fine { OnOk result (contents_fault (declared_view declared.now) (form_view form.now) ≡ None) }
     ensures refused { IfErr result (IsRefusal (contents_fault (declared_view declared.now) (form_view form.now))) }
 {
@@ -123,6 +126,7 @@ fn declared(
     requires stated { signature_of p.now.signature ≡ signature_in (declared_by (map form_view top.now)) }
     ensures says { IfOk result (λ w. world_of w ≡ world_in (declared_by (map form_view top.now)) (behind_head (form_view form.now))) }
     ensures of_signature { IfOk result (IsWorldOf (signature_of p.now.signature)) }
+    ensures counts { IfOk result WorldCounts }
     ensures fine { OnOk result (contents_fault (declared_by (map form_view top.now)) (form_view form.now) ≡ None) }
     ensures refused { IfErr result (IsRefusal (contents_fault (declared_by (map form_view top.now)) (form_view form.now))) }
 {
@@ -142,6 +146,7 @@ pub fn read_world(alloc: Global, p: &Problem<'_>, forms: &Forms<'_>) -> Result<W
     requires stated { signature_of p.now.signature ≡ signature_in (declared_by (map form_view forms.now.top.items)) }
     ensures says { IfOk result (λ w. world_of w ≡ world_by (map form_view forms.now.top.items)) }
     ensures of_signature { IfOk result (IsWorldOf (signature_of p.now.signature)) }
+    ensures counts { IfOk result WorldCounts }
     ensures fine { OnOk result (world_fault (map form_view forms.now.top.items) ≡ None) }
     ensures refused { IfErr result (IsRefusal (world_fault (map form_view forms.now.top.items))) }
 {

@@ -1,5 +1,5 @@
 -- Dialogues: what answers them, and that nothing else does.
-use Rattle.std.proofs.Common.{◌≡◌, ◌⊎◌, ◌+◌, ℕ, List, [], ◌∷◌, ◌++◌, Option, Some, None, option_map, inl, inr, Result, Ok, Err, refl, sym, ap, ◌∙◌, subst, arith}
+use Rattle.std.proofs.Common.{◌≡◌, ◌⊎◌, ◌≤◌, ◌+◌, ℕ, List, [], ◌∷◌, ◌++◌, take, length, Option, Some, None, option_map, inl, inr, Result, Ok, Err, refl, sym, ap, ◌∙◌, subst, arith}
 use Rattle.std.specs.Io.KnownBytes.{Appends}
 use Rattle.pks_io.specs.Causes.{Rose}
 use Rattle.pks_io.specs.Writing.{AppendsFront}
@@ -15,6 +15,7 @@ use Rattle.pks_agent.specs.declared.ahead.ReadAhead.{ReadAhead}
 use Rattle.pks_agent.specs.declared.ends.TalkEnd.{TalkEnd}
 use Rattle.pks_agent.specs.declared.ends.TalkEnd.TheVariants.{Misfit, Silent, Failed}
 use Rattle.pks_agent.specs.declared.peers.PeerFault.TheVariants.{Send, Receive}
+use Rattle.pks_agent.specs.Fitting.{IsFront}
 use Rattle.pks_agent.specs.Leading.{Led, HasTalkCause}
 use Rattle.pks_agent.specs.Streams.{ahead_of, coming, answers_coming}
 use Rattle.pks_agent.proofs.Joining.{appends_more, front_behind, front_first}
@@ -25,7 +26,8 @@ use Rattle.pks_run_answer.proofs.Lasting.{best_is_good}
 use Rattle.pks_run_answer.proofs.OneReply.{all_justified, one_refusal, one_tree, none_or_tree, one_unplanned}
 use Rattle.pks_run.proofs.ShortNames.{read_short}
 use Rattle.pks_run.specs.Answer.{AnswersJob, IsAnswered, IsReplyTo, LeadsFront, LeavesAnswers}
-use Rattle.pks_run.specs.Leads.{HasCauses, line_refused, WritesRefusal, Concludes, IsWellLed, Converses}
+use Rattle.pks_run.proofs.Telling.{told_well, front_of, whole_front}
+use Rattle.pks_run.specs.Leads.{HasCauses, line_refused, WritesRefusal, Concludes, IsWellLed, WritesTold, TellsWell, TellsBest, Converses}
 use Rattle.pks_run.specs.declared.status.Status.{Status}
 use Rattle.pks_run.specs.declared.status.Status.TheVariants.{Done, NoPlan, Words, Refused, ReadFault, WriteFault, Memory}
 
@@ -139,6 +141,16 @@ module _ (n : ℕ) (input : Text) (f : File) (read : IsRead (file_text input) f)
       only WriteFault y a = absurd a
       only Memory y a = absurd a
 
+  -- where it is refused no dialogue is begun
+  pub refused_unled : (r : Refusal) → RefusesFile (Agent n) f r → (g : File) (t : Tree) → IsAccepted Reads (Agent n) input g → IsBest g.problem n (Some t) → ⊥
+  refused_unled r refuses g t accepted best = fine_here g accepted r refuses
+
+  -- nor where it has no plan
+  pub unplanned_unled : (x : Text) → IsUnplanned (Agent n) f x → (g : File) (t : Tree) → IsAccepted Reads (Agent n) input g → IsBest g.problem n (Some t) → ⊥
+  unplanned_unled x none g t accepted best =
+      let best_here : IsBest f.problem n (Some t) = subst (λ (h : File). IsBest h.problem n (Some t)) (this_file g accepted.reads) best in
+      none_or_tree f.problem none.0 n t none.1 none.2 best_here
+
   module _ (fine : NoneApplies (RefusesFile (Agent n) f)) where
     accepts : IsAccepted Reads (Agent n) input f
     accepts = record { reads = read; fine = fine }
@@ -228,6 +240,13 @@ module _ (n : ℕ) (input : Text) (f : File) (read : IsRead (file_text input) f)
 
         -- what comes of its end
         module _ (old mid new left : Option Text) (writes writes' stop : ℕ) (stop_is : stop ≡ stop_line input) where
+          -- what was told of it was told of the best plan of the accepted input
+          told_here : (s : Status) (x : Text) → IsFront x (talked_text talked) → WritesTold input talked x old new s → TellsBest n input old new s
+          told_here s x front written = λ g u accepted best_u.
+              let same : g ≡ f = this_file g accepted.reads in
+              let best_here : IsBest f.problem n (Some u) = subst (λ (h : File). IsBest h.problem n (Some u)) same best_u in
+              subst (λ (h : File). TellsWell h u input old new s) (sym same) (subst (λ (v : Tree). TellsWell f v input old new s) (one_tree f.problem n t u best best_here) (told_well n input f t accepts best old new s x front written))
+
           left_out : (kept : ReadAhead) (others : List Text) → answers_coming (coming kept left) ≡ Some others → option_map (λ bytes. lines_of (ahead_of kept ++ bytes)) left ≡ Some others
           left_out kept others e = by_left left e
             where
@@ -235,12 +254,13 @@ module _ (n : ℕ) (input : Text) (f : File) (read : IsRead (file_text input) f)
               by_left None e = e
               by_left (Some bytes) e = e
 
-          whole : (s : Status) (x : Text) → TalkAnswers input talked s x → Appends old new x → (s ≡ Done → LeavesAnswers n input left) → Converses n input old new left s
-          whole s x a appends taken = record {
+          whole : (s : Status) (x : Text) → TalkAnswers input talked s x → Appends old new x → (s ≡ Done → LeavesAnswers n input left) → TellsBest n input old new s → Converses n input old new left s
+          whole s x a appends taken told = record {
             answered = λ h. (x, talked_reply s x a, appends);
             front = λ e. answered_fault s (is_answered s a) e;
             taken = taken;
             led = λ e. well;
+            told = told;
           }
             where
               is_answered : (s : Status) → TalkAnswers input talked s x → IsAnswered s
@@ -252,13 +272,18 @@ module _ (n : ℕ) (input : Text) (f : File) (read : IsRead (file_text input) f)
               is_answered WriteFault a = absurd a
               is_answered Memory a = absurd a
 
-          broken : (s : Status) → (IsAnswered s → ⊥) → LeadsFront n input old new → Converses n input old new left s
-          broken s cut front = record {
+          broken : (s : Status) → (IsAnswered s → ⊥) → LeadsFront n input old new → TellsBest n input old new s → Converses n input old new left s
+          broken s cut front told = record {
             answered = λ h. absurd (cut h);
             front = λ e. front;
             taken = λ e. absurd (cut (subst IsAnswered (sym e) tt));
             led = λ e. absurd (cut (subst IsAnswered (sym e) tt));
+            told = told;
           }
+
+          -- a fault cut it short
+          cut_short : (s : Status) → (IsAnswered s → ⊥) → ((x : Text) → Appends old new x → WritesTold input talked x old new s) → AppendsFront old new (talked_text talked) → Converses n input old new left s
+          cut_short s cut written front = broken s cut (some_front old new front) (told_here s (take front.0 (talked_text talked)) (front_of (talked_text talked) front.0) (written (take front.0 (talked_text talked)) front.2))
 
           -- an answer was refused
           refusing : (k code : ℕ) (s : Status) → RefusesAnswer input talked.end (answer_refusal input k code) → Appends old mid (talked_text talked) → WritesRefusal (line_refused (stop + k) code) mid new writes writes' s → Converses n input old new left s
@@ -268,25 +293,32 @@ module _ (n : ℕ) (input : Text) (f : File) (read : IsRead (file_text input) f)
               r = answer_refusal input k code
 
               by_status : (s : Status) → WritesRefusal (refusal_text r) mid new writes writes' s → Converses n input old new left s
-              by_status Refused w = whole Refused (talked_text talked ++ refusal_text r) (r, refuses, refl) (appends_more old mid new (talked_text talked) (refusal_text r) said w.0) (λ e. refused_is e)
-              by_status WriteFault w = broken WriteFault (λ h. h) (Refused, talked_text talked ++ refusal_text r, talk_answers Refused (talked_text talked ++ refusal_text r) (r, refuses, refl), front_behind old mid new (talked_text talked) (refusal_text r) said w.0)
+              by_status Refused w =
+                  let appends = appends_more old mid new (talked_text talked) (refusal_text r) said w.0 in
+                  whole Refused (talked_text talked ++ refusal_text r) (r, refuses, refl) appends (λ e. refused_is e) (told_here Refused (talked_text talked) (whole_front (talked_text talked)) (refl, (r, refuses, appends)))
+              by_status WriteFault w =
+                  let front = front_behind old mid new (talked_text talked) (refusal_text r) said w.0 in
+                  broken WriteFault (λ h. h) (Refused, talked_text talked ++ refusal_text r, talk_answers Refused (talked_text talked ++ refusal_text r) (r, refuses, refl), front)
+                  (told_here WriteFault (talked_text talked) (whole_front (talked_text talked)) (inr (refl, (r, refuses, front))))
               by_status Done w = absurd w
               by_status NoPlan w = absurd w
               by_status Words w = absurd w
               by_status ReadFault w = absurd w
               by_status Memory w = absurd w
 
-          pub comes_to : (ended : Result End TalkEnd) (s : Status) (kept : ReadAhead) → Led old mid (answers_coming (coming kept left)) ended talked → Concludes ended stop mid new writes writes' s → Converses n input old new left s
-          comes_to (Ok end) s kept led ends =
+          pub comes_to : (ended : Result End TalkEnd) (s : Status) (kept : ReadAhead) → length (ahead_of kept) ≤ 512 → Led old mid (answers_coming (coming kept left)) ended talked → Concludes ended stop mid new writes writes' s → Converses n input old new left s
+          comes_to (Ok end) s kept few led ends =
+              let is_over = subst IsOver (sym led.0) tt in
+              let appends = subst (λ m. Appends old m (talked_text talked)) (sym ends.1) led.1 in
               subst (λ t. Converses n input old new left t) (sym ends.0)
-              (whole Done (talked_text talked) (subst IsOver (sym led.0) tt, refl) (subst (λ m. Appends old m (talked_text talked)) (sym ends.1) led.1)
-              (λ e. (f, accepts, (t, best, (ahead_of kept, left_out kept talked.left led.2)))))
-          comes_to (Err (Misfit k)) s kept led ends = refusing k 320 s (subst (λ end. RefusesAnswer input end (answer_refusal input k 320)) (sym led.0) refl) led.1 ends
-          comes_to (Err (Silent k)) s kept led ends = refusing k 321 s (subst (λ end. RefusesAnswer input end (answer_refusal input k 321)) (sym led.0) refl) led.1 ends
-          comes_to (Err (Failed Send)) s kept led ends =
-              subst (λ t. Converses n input old new left t) (sym ends.0) (broken WriteFault (λ h. h) (some_front old new (subst (λ m. AppendsFront old m (talked_text talked)) (sym ends.1) led)))
-          comes_to (Err (Failed Receive)) s kept led ends =
-              subst (λ t. Converses n input old new left t) (sym ends.0) (broken ReadFault (λ h. h) (some_front old new (subst (λ m. AppendsFront old m (talked_text talked)) (sym ends.1) led)))
+              (whole Done (talked_text talked) (is_over, refl) appends (λ e. (f, accepts, (t, best, (ahead_of kept, few, left_out kept talked.left led.2))))
+              (told_here Done (talked_text talked) (whole_front (talked_text talked)) (refl, is_over, appends)))
+          comes_to (Err (Misfit k)) s kept few led ends = refusing k 320 s (subst (λ end. RefusesAnswer input end (answer_refusal input k 320)) (sym led.0) refl) led.1 ends
+          comes_to (Err (Silent k)) s kept few led ends = refusing k 321 s (subst (λ end. RefusesAnswer input end (answer_refusal input k 321)) (sym led.0) refl) led.1 ends
+          comes_to (Err (Failed Send)) s kept few led ends =
+              subst (λ t. Converses n input old new left t) (sym ends.0) (cut_short WriteFault (λ h. h) (λ x appends. inl appends) (subst (λ m. AppendsFront old m (talked_text talked)) (sym ends.1) led))
+          comes_to (Err (Failed Receive)) s kept few led ends =
+              subst (λ t. Converses n input old new left t) (sym ends.0) (cut_short ReadFault (λ h. h) (λ x appends. appends) (subst (λ m. AppendsFront old m (talked_text talked)) (sym ends.1) led))
 
 -- ---- causes
 

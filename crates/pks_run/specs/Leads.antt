@@ -4,18 +4,20 @@ use Rattle.std.specs.Io.KnownBytes.{Appends}
 use Rattle.pks_io.specs.Causes.{Rose}
 use Rattle.pks_io.specs.Writing.{AppendsFront}
 use Rattle.pks_terms.specs.Jobs.{Agent}
-use Rattle.pks_terms.specs.Answers.{File, IsAccepted}
-use Rattle.pks_terms.specs.Knowledge.{AtGoal, Good}
+use Rattle.pks_terms.specs.Answers.{File, IsAccepted, talk_in}
+use Rattle.pks_terms.specs.Knowledge.{AtGoal, Good, run_of}
 use Rattle.pks_terms.specs.Problems.{Problem, IsCompatible}
-use Rattle.pks_terms.specs.Talk.{talk, Over, world_answers}
+use Rattle.pks_terms.specs.Talk.{Talked, talk, Over, IsOver, RefusesAnswer, talked_text, answers_in, statements, run_statements, world_answers}
 use Rattle.pks_terms.specs.Trees.{Tree, IsBest}
 use Rattle.pks_terms.specs.Worlds.{World}
-use Rattle.pks_terms.specs.Printed.{Text, Names, refusal_text}
+use Rattle.pks_terms.specs.Printed.{Text, Names, Refusal, refusal_text}
 use Rattle.pks_exec.specs.declared.runs.End.{End}
 use Rattle.pks_agent.specs.declared.ends.TalkEnd.{TalkEnd}
 use Rattle.pks_agent.specs.declared.ends.TalkEnd.TheVariants.{Misfit, Silent, Failed}
 use Rattle.pks_agent.specs.declared.peers.PeerFault.TheVariants.{Send, Receive}
 use Rattle.pks_agent.specs.Along.{LeadsAlong}
+use Rattle.pks_agent.specs.Bounds.{StandFirst}
+use Rattle.pks_agent.specs.Fitting.{ComesOfFit}
 use Rattle.pks_reader.specs.Inputs.{Reads}
 use Rattle.pks_run.specs.Answer.{IsAnswered, IsReplyTo, LeadsFront, LeavesAnswers}
 use Rattle.pks_run.specs.declared.status.Status.{Status}
@@ -76,6 +78,31 @@ pub record IsWellLed (n : ℕ) (input : Text) : Type 0 where
   pub best : IsBest file.problem n (Some plan)
   pub leads : (w : World) → IsCompatible file.problem w → LeadsToGoal file.problem file.names plan w
 
+-- ---- what was told, however the call ends
+
+-- the text was written: whole where the dialogue came to its end; whole, and then the refusal of the next answer, where one is refused; and where the call was cut short as it is, or with a front of that refusal
+abbrev pub WritesTold : Text → Talked → Text → Option Text → Option Text → Status → Type 0
+WritesTold input talked text old new Done = (text ≡ talked_text talked) × IsOver talked.end × Appends old new text
+WritesTold input talked text old new Refused = (text ≡ talked_text talked) × ((r : Refusal) × RefusesAnswer input talked.end r × Appends old new (text ++ refusal_text r))
+WritesTold input talked text old new WriteFault = Appends old new text ⊎ ((text ≡ talked_text talked) × ((r : Refusal) × RefusesAnswer input talked.end r × AppendsFront old new (text ++ refusal_text r)))
+WritesTold input talked text old new ReadFault = Appends old new text
+WritesTold input talked text old new Memory = (text ≡ []) × Appends old new text
+WritesTold input talked text old new NoPlan = ⊥
+WritesTold input talked text old new Words = ⊥
+
+-- what was told of a plan comes of the answers that were read and fit, and that plan leads to its goal in each compatible world; where these answers are the first in it, what they make told begins the run in it
+pub record TellsWell (f : File) (t : Tree) (input : Text) (old new : Option Text) (status : Status) : Type 0 where
+  pub fit : List Text
+  pub text : Text
+  pub comes : ComesOfFit f.problem.signature f.names t (answers_in input) fit text
+  pub written : WritesTold input (talk_in f input t) text old new status
+  pub leads : (w : World) → IsCompatible f.problem w → LeadsToGoal f.problem f.names t w
+  pub begins : (w : World) → IsCompatible f.problem w → StandFirst fit (world_answers f.problem f.names t w) → StandFirst (statements (talk f.problem.signature f.names t fit)) (run_statements f.names (run_of f.problem t w))
+
+-- so of the best plan, where the input is accepted and has one
+abbrev pub TellsBest : ℕ → Text → Option Text → Option Text → Status → Type 0
+TellsBest n input old new status = (f : File) (t : Tree) → IsAccepted Reads (Agent n) input f → IsBest f.problem n (Some t) → TellsWell f t input old new status
+
 -- ---- the whole dialogue
 
 -- what is answered to an input whose file was read, and what is left of it
@@ -84,6 +111,7 @@ pub record Converses (n : ℕ) (input : Text) (old new left : Option Text) (stat
   pub front : (status ≡ WriteFault) ⊎ (status ≡ ReadFault) → LeadsFront n input old new
   pub taken : status ≡ Done → LeavesAnswers n input left
   pub led : status ≡ Done → IsWellLed n input
+  pub told : TellsBest n input old new status
 
 -- so whether its file was read or not, but for a front after a fault of reading
 pub record Leads (n : ℕ) (input : Text) (old new left : Option Text) (status : Status) : Type 0 where
@@ -91,3 +119,4 @@ pub record Leads (n : ℕ) (input : Text) (old new left : Option Text) (status :
   pub front : status ≡ WriteFault → LeadsFront n input old new
   pub taken : status ≡ Done → LeavesAnswers n input left
   pub led : status ≡ Done → IsWellLed n input
+  pub told : TellsBest n input old new status

@@ -165,6 +165,7 @@ fn lead_text<S: Source, K: Sink>(
 }
 
 // Reads the file up to its full stop, and leads the caller through its best plan to this depth.
+#[tactic(auto, using(crate::proofs::Sending::memory_led_any, crate::proofs::Sending::unread_led_any))]
 pub fn lead<S: Source, K: Sink>(alloc: Global, depth: u8, source: &mut S, sink: &mut K) -> Status
     requires { depth ≤ 16 }
     ensures told { IfSome (S.left source.old) (λ input. Leads depth input (K.written sink.old) (K.written sink.new) (S.left source.new) result) }

@@ -12,3 +12,5 @@ pub mod Starting
 pub mod Witnessed
 pub mod Straight
 pub mod Unmet
+pub mod Twinned
+pub mod Unasked

@@ -37,6 +37,7 @@ use Rattle.pks_search.specs.Near.{IsNear, AreNearAfter, is_far, is_tight}
 use Rattle.pks_search.specs.Straight.{IsStraight, last_alone, HasTreesWithin}
 use Rattle.pks_search.proofs.Witnessed.{far_one, left_near}
 use Rattle.pks_search.proofs.Limited.{price}
+use Rattle.pks_search.proofs.Unasked.{no_plain_twins}
 
 not_stopped : (h : History) → At h ≡ Stopped → ⊥
 not_stopped h e = cc
@@ -148,6 +149,7 @@ module _ (p : Problem) (j : AllJustified p) (s : IsTyped p) (v : IsValid p) wher
           moments = record { start = last_of_it p v h moments; steps = tt };
           short = omega arith;
           left = left;
+          twins = λ v v' m. absurd (no_plain_twins p h v v' plain m);
           trees = λ t deep cheap. (
             λ d. alike p plain t (tight_straight xs n limit h t k tight d deep cheap) h (last_alone h) refl d,
             λ d. alike p plain t (tight_straight xs n limit (last_alone h) t (left_near p h (last_alone h) xs left k) tight d deep cheap) (last_alone h) h refl d,

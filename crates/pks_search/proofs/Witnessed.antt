@@ -48,15 +48,15 @@ far_one P [] n k far = absurd (true≢false (sym far))
 far_one P (x ∷ xs) n k far = ⊎_elim (λ e. (x, k.0, e)) (λ e. far_one P xs n k.1 e) (or_cases (is_beyond x n) (is_far xs n) far)
 
 -- what comes of each
-come_each : (R : Witness → Witness → Type 0) (P Q : Witness → Type 0) → ((x y : Witness) → R x y → P x → Q y) → (xs ys : List Witness) → Each P xs → ComeFrom R xs ys → Each Q ys
+pub come_each : {A : Type 0} (R : A → A → Type 0) (P Q : A → Type 0) → ((x y : A) → R x y → P x → Q y) → (xs ys : List A) → Each P xs → ComeFrom R xs ys → Each Q ys
 come_each R P Q f xs [] k from = tt
 come_each R P Q f xs (y ∷ ys) k from = (f from.0.0 y from.0.2 (each_in P xs from.0.0 k from.0.1), come_each R P Q f xs ys k from.1)
 
 -- one more of those that come from some
-pub come_more : (R : Witness → Witness → Type 0) (xs ys : List Witness) (k : ℕ) (x y : Witness) → k < length xs → x ≡ get_or xs k x → R x y → ComeFrom R xs ys → ComeFrom R xs (ys ++ y ∷ [])
-come_more R xs ys k x y test e r from =
+pub come_more : {A : Type 0} (R : A → A → Type 0) (xs ys : List A) (k : ℕ) (x y : A) → k < length xs → x ≡ get_or xs k x → R x y → ComeFrom R xs ys → ComeFrom R xs (ys ++ y ∷ [])
+come_more {A = A} R xs ys k x y test e r from =
     let member : IsIn x xs = subst (λ z. IsIn z xs) (sym e) (in_list xs k x test) in
-    each_append (λ b. (a : Witness) × IsIn a xs × R a b) ys (y ∷ []) from ((x, member, r), tt)
+    each_append (λ b. (a : A) × IsIn a xs × R a b) ys (y ∷ []) from ((x, member, r), tt)
 
 -- the first alone, and the others
 pub each_first : (P : Witness → Type 0) (xs ys : List Witness) → ys ≡ take 1 xs → Each P xs → Each P ys
@@ -66,6 +66,16 @@ each_first P (x ∷ xs) ys e k = subst (Each P) (sym e) (k.0, tt)
 pub each_other : (P : Witness → Type 0) (xs ys : List Witness) → ys ≡ drop 1 xs → Each P xs → Each P ys
 each_other P [] ys e k = subst (Each P) (sym e) tt
 each_other P (x ∷ xs) ys e k = subst (Each P) (sym e) k.1
+
+-- a side that is so in a world by the test is so
+pub so_there : (w : World) (c : Choice) (side : Side) → is_so w c side ≡ true → IsSo w c side
+so_there w (BranchOn c) AsTrue k = k
+so_there w (BranchOn c) AsFalse k = not-true (all_true_in w c) k
+so_there w (BranchOn c) (Is d) k = absurd (true≢false (sym k))
+so_there w (CasesOn t) AsTrue k = absurd (true≢false (sym k))
+so_there w (CasesOn t) AsFalse k = absurd (true≢false (sym k))
+so_there w (CasesOn t) (Is d) k = eqb-true (value_of w t) d k
+so_there w (Act i) side k = absurd (true≢false (sym k))
 
 module _ (p : Problem) where
   -- ---- letting go of the past
@@ -99,15 +109,6 @@ module _ (p : Problem) where
     joined_near i xs ys zs all member k first from e g acts = subst (Each (IsNear p g)) (sym e) (each_append (IsNear p g) ys zs (first g acts) (acted_near i xs zs member k from g acts))
 
     -- ---- on a side
-
-    so_there : (w : World) (c : Choice) (side : Side) → is_so w c side ≡ true → IsSo w c side
-    so_there w (BranchOn c) AsTrue k = k
-    so_there w (BranchOn c) AsFalse k = not-true (all_true_in w c) k
-    so_there w (BranchOn c) (Is d) k = absurd (true≢false (sym k))
-    so_there w (CasesOn t) AsTrue k = absurd (true≢false (sym k))
-    so_there w (CasesOn t) AsFalse k = absurd (true≢false (sym k))
-    so_there w (CasesOn t) (Is d) k = eqb-true (value_of w t) d k
-    so_there w (Act i) side k = absurd (true≢false (sym k))
 
     taken_one : (c : Choice) (side : Side) (g : History) (x y : Witness) → IsMember (last_moment h) c → Takes p h c side (At g) → IsKept c side x y → IsNear p h x → IsNear p g y
     taken_one c side g x y member takes same k =

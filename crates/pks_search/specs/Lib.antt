@@ -1,6 +1,7 @@
 pub mod Limits
 pub mod Ready
 pub mod Near
+pub mod Twins
 pub mod Straight
 pub mod Spots
 pub mod Fewer

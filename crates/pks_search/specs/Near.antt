@@ -28,8 +28,8 @@ abbrev pub AreNearAfter : Problem → History → Instance → List Witness → 
 AreNearAfter p h i xs = (g : History) → Acts p h i (At g) → Each (IsNear p g) xs
 
 -- each of the latter comes from one of the former
-abbrev pub ComeFrom : (Witness → Witness → Type 0) → List Witness → List Witness → Type 0
-ComeFrom R xs ys = Each (λ y. (x : Witness) × IsIn x xs × R x y) ys
+abbrev pub ComeFrom : {A : Type 0} → (A → A → Type 0) → List A → List A → Type 0
+ComeFrom {A = A} R xs ys = Each (λ y. (x : A) × IsIn x xs × R x y) ys
 
 -- the second is what the first becomes by the action, and its bound holds
 pub record Becomes (p : Problem) (i : Instance) (x y : Witness) : Type 0 where

@@ -5,18 +5,22 @@ use Rattle.pks_terms.specs.Sets.{Each}
 use Rattle.pks_terms.specs.Problems.{Problem}
 use Rattle.pks_terms.specs.Views.{problem_of}
 use Rattle.pks_search_nogoods.specs.Failing.{AreRight}
+use Rattle.pks_search_nogoods.specs.Noted.{AreFound}
 use Rattle.pks_search.specs.Ready.{IsReady}
 use Rattle.pks_search_distance.specs.Remembered.{AreItsDeeds}
 use Rattle.pks_search.specs.Near.{IsNear}
+use Rattle.pks_search.specs.Twins.{AreTwins}
 use Rattle.pks_search.specs.declared.spots.Spot.{Spot}
 use Rattle.pks_search.specs.declared.spots.Notes.{Notes}
 
--- a search may go on from there by n actions, and each witness may be the present world
+-- a search may go on from there by n actions, each witness may be the present world, and so may both of each twins
 pub record MayGoOn (p : DProblem) (x : Spot) (n : ℕ) : Type 0 where
   pub ready : IsReady p x.history.now x.unread n
   pub near : Each (IsNear (problem_of p) x.history.now) x.near.now
+  pub twins : Each (AreTwins (problem_of p) x.history.now) x.twins.now
 
 -- what is taken along is so
 pub record AreSo (p : Problem) (x : Notes) : Type 0 where
   pub deeds : IfSome x.deeds (AreItsDeeds p)
   pub failures : AreRight p x.failures
+  pub finds : AreFound p x.finds

@@ -3,11 +3,13 @@
 
 mod copying;
 mod fewer;
+pub mod laws;
 mod nearing;
 mod parts;
 mod rising;
 pub mod searching;
 mod spots;
+mod twinning;
 mod within;
 
 pub use searching::{best, best_from};

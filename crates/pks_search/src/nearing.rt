@@ -194,20 +194,20 @@ pub(crate) fn is_tight(near: &[Witness], n: u32) -> bool
     n == 0 || is_beyond(near, n - 1)
 }
 
-/// Whether the side is so in the witness.
-fn is_so(x: &Witness, c: &Choice, side: Side) -> bool
-    ensures { result ≡ is_so (world_in x.now) (choice_of c.now) (side_of side) }
+/// Whether the side is so in the world.
+pub(crate) fn is_so(w: &World, c: &Choice, side: Side) -> bool
+    ensures { result ≡ is_so (world_of w.now) (choice_of c.now) (side_of side) }
 {
     match c {
         Choice::Act(_) => false,
         Choice::Branch(test) => match side {
-            Side::True => x.holds_all(test),
-            Side::False => !x.holds_all(test),
+            Side::True => w.holds_all(test),
+            Side::False => !w.holds_all(test),
             Side::Is(_) => false,
         },
         Choice::Cases(term) => match side {
             Side::True | Side::False => false,
-            Side::Is(d) => x.value(term).0 == d.0,
+            Side::Is(d) => w.value(term).0 == d.0,
         },
     }
 }
@@ -216,7 +216,7 @@ fn is_so(x: &Witness, c: &Choice, side: Side) -> bool
 pub(crate) fn is_first_on(near: &[Witness], c: &Choice, side: Side) -> bool {
     match near {
         [] => false,
-        [x, ..] => is_so(x, c, side),
+        [x, ..] => is_so(x.world(), c, side),
     }
 }
 
@@ -231,7 +231,7 @@ pub(crate) fn on_side(
 {
     let mut on = Vec::new(alloc);
     for x in near {
-        if is_so(x, c, side) {
+        if is_so(x.world(), c, side) {
             on.push(x.share()?)?;
         }
     }

@@ -22,6 +22,8 @@ use pks_plan::Tree;
 use pks_query::databases::Db;
 use pks_query_closing::closing::CloseEnd;
 use pks_search_nogoods::failures::Failures;
+use pks_search_nogoods::finds::Finds;
+use pks_search_witness::twins_of;
 use pks_terms::problem::Problem;
 use std::alloc::{AllocError, Global};
 
@@ -102,12 +104,19 @@ fn best_of_all(
     let h = History::start(alloc, start)?;
     let first = Start::of(alloc, p)?;
     let Start { near, deeds } = first;
+    let twins = twins_of(alloc, p)?;
     let failures = Failures::new(alloc, p)?;
-    let mut notes = Notes { deeds, failures };
+    let finds = Finds::new(alloc)?;
+    let mut notes = Notes {
+        deeds,
+        failures,
+        finds,
+    };
     let spot = Spot {
         history: &h,
         unread: 0,
         near: near.as_slice(),
+        twins: twins.as_slice(),
     };
     best_rising(alloc, p, &spot, 0, u32::from(depth), 16 * 9_999, &mut notes)
 }

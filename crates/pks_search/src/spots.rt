@@ -12,8 +12,9 @@ use pks_history::histories::History;
 use pks_history_forget::{are_now, cut};
 use pks_search_distance::Deeds;
 use pks_search_nogoods::failures::{Failures, Question};
+use pks_search_nogoods::finds::Finds;
 use pks_search_symmetry::Keyed;
-use pks_search_witness::Witness;
+use pks_search_witness::{Twins, Witness};
 use pks_terms::problem::Problem;
 use std::alloc::{AllocError, Global};
 
@@ -23,13 +24,16 @@ pub(crate) struct Spot<'s> {
     pub(crate) history: &'s History,
     pub(crate) unread: u32,
     pub(crate) near: &'s [Witness],
+    pub(crate) twins: &'s [Twins],
 }
 
-/// What a search takes along: the ground actions by which bounds are counted, or none, and the failures that it met.
+/// What a search takes along: the ground actions by which bounds are counted, or none, and the failures and the best trees
+/// that it met.
 #[derive(Drop)]
 pub(crate) struct Notes {
     pub(crate) deeds: Option<Deeds>,
     pub(crate) failures: Failures,
+    pub(crate) finds: Finds,
 }
 
 /// The last moment of the history alone.

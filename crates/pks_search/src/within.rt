@@ -13,11 +13,13 @@ ghost use Rattle.pks_plan.specs.TreeViews.{tree_of, chain_of};
 ghost use Rattle.pks_terms.specs.ChoiceViews.{choice_of, side_of};
 ghost use Rattle.pks_search.specs.Limits.{IsBestWithin, IsCheapBy, IsBestAfter, IsBestTaking, AreBestCheapCases};
 ghost use Rattle.pks_search.specs.Near.{AreNearAfter};
+ghost use Rattle.pks_search.specs.Twins.{AreTwinsAfter};
 ghost use Rattle.pks_search.specs.Spots.{MayGoOn, AreSo};
 
 use crate::nearing::{is_beyond, is_first_on, is_tight, joined, near_after, on_side, others_of};
 use crate::parts::{act, branch, cases};
 use crate::spots::{Notes, Spot, last_fails, left_of};
+use crate::twinning::{some_met, twins_after, twins_on};
 use pks_branch::assuming::assume;
 use pks_branch::leaving::left;
 use pks_branch::taking::Walk;
@@ -28,7 +30,7 @@ use pks_progress::progressing::progress;
 use pks_query::databases::Step;
 use pks_search_nogoods::failures::Question;
 use pks_search_symmetry::Keyed;
-use pks_search_witness::Witness;
+use pks_search_witness::{Twins, Witness};
 use pks_terms::choices::{Choice, Side};
 use pks_terms::ids::ObjId;
 use pks_terms::literal::Conj;
@@ -87,12 +89,13 @@ fn best_unmet(
         history: &rest,
         unread: spot.unread,
         near: spot.near,
+        twins: spot.twins,
     };
     best_of_rest(alloc, p, &shorter, n, limit, notes)
 }
 
-/// The same at what is left of a history: a failure in the table tells that there is none, and what is found to fail is
-/// noted. So histories that differ in what was let go of share their failures.
+/// The same at what is left of a history: a failure in the table tells that there is none, and a find what is the best.
+/// What is found, or found to fail, is noted. So histories that differ in what was let go of share their failures and finds.
 #[cycle(searching)]
 fn best_of_rest(
     alloc: Global,
@@ -121,8 +124,14 @@ fn best_of_rest(
     if notes.failures.tells(alloc, p, &asked) {
         return Ok(None);
     }
+    if let Some(told) = notes.finds.tells(alloc, &asked) {
+        return Ok(told);
+    }
     match best_of_choices(alloc, p, spot, n - 1, limit, notes)? {
-        Some(t) => Ok(Some(t)),
+        Some(t) => {
+            notes.finds.note(alloc, p, &asked, &t);
+            Ok(Some(t))
+        }
         None => {
             notes.failures.note(spot.history, key, n, limit);
             Ok(None)
@@ -184,7 +193,8 @@ fn best_by_choice(
     }
 }
 
-/// The best tree with the action at its root.
+/// The best tree with the action at its root. There is none where some twins become one world by it: both come to the same leaf,
+/// at which the aim that tells them apart isn't met.
 #[cycle(searching)]
 fn best_by_action(
     alloc: Global,
@@ -210,6 +220,10 @@ fn best_by_action(
     if is_beyond(first.as_slice(), room) {
         return Ok(None);
     }
+    let twins = twins_after(alloc, p, spot.twins, step)?;
+    if some_met(twins.as_slice()) {
+        return Ok(None);
+    }
     let tight = is_tight(first.as_slice(), room);
     let barren = last_fails(
         alloc,
@@ -223,11 +237,12 @@ fn best_by_action(
     if barren {
         return Ok(None);
     }
-    let next = best_after(alloc, p, spot, n, limit - own, step, first, notes)?;
+    let next = best_after(alloc, p, spot, n, limit - own, step, first, twins, notes)?;
     act(alloc, *step, next)
 }
 
-/// The best tree after the action, with what the first witness becomes by it: the others are asked before the search goes on.
+/// The best tree after the action, with what the first witness and the twins become by it: the other witnesses are asked before the
+/// search goes on.
 #[cycle(searching)]
 fn best_after(
     alloc: Global,
@@ -237,12 +252,14 @@ fn best_after(
     limit: u32,
     step: &Instance,
     first: Vec<Witness>,
+    twins: Vec<Twins>,
     notes: &mut Notes,
 ) -> Result<Option<Tree>, AllocError>
     requires spot { MayGoOn p.now spot.now (n + 1) }
     requires chosen { IsIn (instance_of step.now) (instances (problem_of p.now) (last_moment spot.now.history.now)) }
     requires notes { AreSo (problem_of p.now) notes.now }
     requires near { AreNearAfter (problem_of p.now) spot.now.history.now (instance_of step.now) first.items }
+    requires twins { AreTwinsAfter (problem_of p.now) spot.now.history.now (instance_of step.now) twins.items }
     ensures best { IfOk result (λ o. IsBestAfter (problem_of p.now) spot.now.history.now (instance_of step.now) n limit (option_map tree_of o)) }
     ensures notes { AreSo (problem_of p.now) notes.new }
 {
@@ -257,6 +274,7 @@ fn best_after(
                 history: &longer,
                 unread: spot.unread + 1,
                 near: after.as_slice(),
+                twins: twins.as_slice(),
             };
             best_within(alloc, p, &later, n, limit, notes)
         }
@@ -433,10 +451,12 @@ fn best_taking(
             Settled::Clash => Ok(Some(Tree::Impossible)),
             Settled::Whole(settled) => {
                 let on = on_side(alloc, spot.near, c, side)?;
+                let twins = twins_on(alloc, spot.twins, c, side)?;
                 let there = Spot {
                     history: &settled,
                     unread: 0,
                     near: on.as_slice(),
+                    twins: twins.as_slice(),
                 };
                 best_within(alloc, p, &there, n, limit, notes)
             }

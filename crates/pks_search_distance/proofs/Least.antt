@@ -5,7 +5,8 @@ use Rattle.pks_terms.specs.Worlds.{World}
 use Rattle.pks_terms.specs.Problems.{Problem}
 use Rattle.pks_search_distance.specs.Levels.{IsBound}
 use Rattle.pks_search_distance.specs.Unmet.{AreWanted, unmet, MeetsAtMost, fewest}
-use Rattle.pks_search_distance.proofs.Meeting.{fewest_bounds}
+use Rattle.pks_search_distance.specs.Landmarks.{unmet_marks, AreLandmarks, ReachAtMost}
+use Rattle.pks_search_distance.proofs.Meeting.{fewest_bounds, fewest_reached}
 
 pub fewest_none : (m n : ℕ) → n ≡ 0 → fewest m n ≡ Some 0
 fewest_none m n e = ap (fewest m) e
@@ -35,3 +36,7 @@ cut_bounds p w most None f k r = f k r
 pub least_bounds : (p : Problem) (w : World) (ls : List Literal) (m n most : ℕ) (o : Option ℕ) → AreWanted p ls → MeetsAtMost p ls m → n ≡ unmet w ls → o ≡ option_map (min most) (fewest m n) → IsBound p w o
 least_bounds p w ls m n most o wanted few e k =
     subst (IsBound p w) (sym (k ∙ ap (λ j. option_map (min most) (fewest m j)) e)) (cut_bounds p w most (fewest m (unmet w ls)) (fewest_bounds p ls m few wanted w))
+
+pub least_reached : (p : Problem) (w : World) (cs : List (List Literal)) (m n most : ℕ) (o : Option ℕ) → AreLandmarks p cs → ReachAtMost p cs m → n ≡ unmet_marks w cs → o ≡ option_map (min most) (fewest m n) → IsBound p w o
+least_reached p w cs m n most o are few e k =
+    subst (IsBound p w) (sym (k ∙ ap (λ j. option_map (min most) (fewest m j)) e)) (cut_bounds p w most (fewest m (unmet_marks w cs)) (fewest_reached p cs m few are w))

@@ -11,3 +11,5 @@ pub mod Running
 pub mod Stepping
 pub mod Bounding
 pub mod Meeting
+pub mod Marks
+pub mod Gathering

@@ -9,7 +9,7 @@ use Rattle.pks_search_distance.specs.Remembered.{AreRight, AreItsDeeds}
 
 -- the ground actions are what they are, whatever the table says
 pub beside : (p : Problem) (x : Deeds) (t : Counts) (w : World) → AreDeeds p x w → AreDeeds p (record x { counts = t }) w
-beside p x t w d = record { placed = d.placed; listed = d.listed }
+beside p x t w d = record { placed = d.placed; listed = d.listed; landmarks = d.landmarks; reached = d.reached }
 
 pub with_table : (p : Problem) (x : Deeds) (t : Counts) → AreItsDeeds p x → AreRight p t → AreItsDeeds p (record x { counts = t })
 with_table p x t d r = record { listed = λ w. beside p x t w (d.listed w); wanted = d.wanted; few = d.few; counted = r }

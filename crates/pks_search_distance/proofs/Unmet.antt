@@ -24,11 +24,11 @@ use Rattle.pks_search_distance.specs.Counted.{is_object, are_different, are_apar
 
 -- ---- counts as the program has them
 
-less_if : (b : Bool) (n : ℕ) → cond b 0 1 + n ≡ cond (not b) (1 + n) n
+pub less_if : (b : Bool) (n : ℕ) → cond b 0 1 + n ≡ cond (not b) (1 + n) n
 less_if true n = omega arith
 less_if false n = refl
 
-more_if : (b : Bool) (n : ℕ) → cond b 1 0 + n ≡ cond b (1 + n) n
+pub more_if : (b : Bool) (n : ℕ) → cond b 1 0 + n ≡ cond b (1 + n) n
 more_if true n = refl
 more_if false n = omega arith
 
@@ -158,7 +158,7 @@ module _ (v : World) where
         let q = or_parts (not (is_plain l.relation l.arguments)) (list_any (λ e. may_make e.target l) es) m in
         relation_stays l.relation l.arguments l.positive (not-false (is_plain l.relation l.arguments) q.0) q.1 h
 
-    count : (a b m : Bool) (x y z : ℕ) → (m ≡ false → a ≡ false → b ≡ false) → x ≤ y + z → cond a 0 1 + x ≤ (cond m 1 0 + y) + (cond b 0 1 + z)
+    pub count : (a b m : Bool) (x y z : ℕ) → (m ≡ false → a ≡ false → b ≡ false) → x ≤ y + z → cond a 0 1 + x ≤ (cond m 1 0 + y) + (cond b 0 1 + z)
     count true b m x y z f h = omega (arith, h)
     count false b true x y z f h = omega (arith, h)
     count false true false x y z f h = absurd (true≢false (f refl refl))

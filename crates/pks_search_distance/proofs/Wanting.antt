@@ -12,7 +12,7 @@ use Rattle.pks_search_distance.specs.Runs.{IsAim}
 use Rattle.pks_search_distance.specs.Counted.{AddsWanted}
 use Rattle.pks_search_distance.proofs.Lists.{first_and_others}
 
-each_push : {X : Type 0} (P : X → Type 0) (xs : List X) (x : X) → Each P xs → P x → Each P (xs ++ x ∷ [])
+pub each_push : {X : Type 0} (P : X → Type 0) (xs : List X) (x : X) → Each P xs → P x → Each P (xs ++ x ∷ [])
 each_push P [] x k h = (h, tt)
 each_push P (y ∷ xs) x k h = (k.0, each_push P xs x k.1 h)
 

@@ -19,6 +19,8 @@ use Rattle.pks_search_distance.specs.declared.news.New as news
 use Rattle.pks_search_distance.specs.declared.news.New.TheVariants as news_is
 use Rattle.pks_search_distance.specs.declared.deeds.Deed.{Deed as DDeed}
 use Rattle.pks_search_distance.specs.declared.deeds.Deeds.{Deeds}
+use Rattle.pks_search_distance.specs.Landmarks.{AreLandmarks, ReachAtMost}
+use Rattle.pks_search_distance.specs.Marked.{landmarks_of}
 use Rattle.pks_search_distance.specs.Relaxed.{New, NewTruth, NewValue, NewFalse, Deed, deed_of_instance, Leads}
 
 -- up to two
@@ -66,7 +68,9 @@ has_new w g (NewFalse p) = is_cleared g p
 abbrev pub deed_of : DDeed → Deed
 deed_of x = record { pre = literals_in x.pre.items; effects = map effect_of x.effects.items }
 
--- among the ground actions is each that does something and may be done in a world that others lead to
+-- among the ground actions is each that does something and may be done in a world that others lead to, and none of them meets more of the landmarks than is noted
 pub record AreDeeds (p : Problem) (x : Deeds) (w : World) : Type 0 where
   pub placed : Each (λ y. ArePlaced y.effects.items) x.deeds.items
   pub listed : (n : ℕ) (v : World) (i : Instance) → Leads p w n v → MayBeDone p v i → ((schema_of p i.action).effects ≡ []) ⊎ IsIn (deed_of_instance p i) (map deed_of x.deeds.items)
+  pub landmarks : AreLandmarks p (landmarks_of x.landmarks.items)
+  pub reached : ReachAtMost p (landmarks_of x.landmarks.items) x.reached

@@ -5,3 +5,5 @@ pub mod Remembered
 pub mod Runs
 pub mod Levels
 pub mod Unmet
+pub mod Landmarks
+pub mod Marked

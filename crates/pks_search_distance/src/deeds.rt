@@ -10,6 +10,8 @@ ghost use Rattle.pks_search_distance.specs.Gained.{deed_of};
 ghost use Rattle.pks_search_distance.specs.Remembered.{AreItsDeeds};
 
 use crate::counted::Counts;
+use crate::landmarks::{Landmark, most_reached};
+use crate::marking::landmarks_for;
 use crate::wanted::{add_all_wanted, most_met};
 use pks_terms::ids::{ActId, ObjId, TypeId};
 use pks_terms::literal::Literal;
@@ -29,13 +31,15 @@ pub(crate) struct Deed {
     pub(crate) effects: Vec<Effect>,
 }
 
-/// The ground actions of a problem, the literals that its goal asks for, the most of them that one action may make true, and the bounds
-/// that were counted.
+/// The ground actions of a problem, the literals that its goal asks for, the most of them that one action may make true, the same of
+/// landmarks, and the bounds that were counted.
 #[derive(Drop)]
 pub struct Deeds {
     pub(crate) deeds: Vec<Deed>,
     pub(crate) wanted: Vec<Literal>,
     pub(crate) met: usize,
+    pub(crate) landmarks: Vec<Landmark>,
+    pub(crate) reached: usize,
     pub(crate) counts: Counts,
 }
 
@@ -218,11 +222,15 @@ impl Deeds {
         let mut wanted = Vec::new(alloc);
         add_all_wanted(p.goal.as_slice(), &mut wanted)?;
         let met = most_met(deeds.as_slice(), wanted.as_slice());
+        let marks = landmarks_for(alloc, deeds.as_slice(), wanted.as_slice())?;
+        let reached = most_reached(deeds.as_slice(), marks.as_slice());
         let counts = Counts::new(alloc)?;
         Ok(Some(Deeds {
             deeds,
             wanted,
             met,
+            landmarks: marks,
+            reached,
             counts,
         }))
     }

@@ -15,6 +15,7 @@ ghost use Rattle.pks_terms.specs.Trees.{Tree, Branch, Cases, Chain, depth, chain
 ghost use Rattle.pks_terms.specs.Knowledge.{grounded, after_action};
 ghost use Rattle.pks_search_distance.specs.Runs.{MayBeDone, IsGoal, MayBeAt, Reaches};
 ghost use Rattle.pks_search_distance.specs.Levels.{Chances, Allows, IsNext, IsBound, IsAtMost, AreLevels};
+ghost use Rattle.pks_search_distance.specs.Landmarks.{unmet_marks, AreLandmarks, ReachAtMost};
 ghost use Rattle.pks_search_distance.specs.Unmet.{AreWanted, unmet, MeetsAtMost, fewest, greater};
 
 /// A compatible world may be the present one at the start.
@@ -82,6 +83,11 @@ pub fn runs_meet_what_is_unmet()
 /// So many actions are a bound; where none meets a literal and one is unmet, there is no run at all.
 pub fn unmet_literals_bound()
     ensures { (p : Problem) (w : World) (ls : List Literal) (m : ℕ) → AreWanted p ls → MeetsAtMost p ls m → IsBound p w (fewest m (unmet w ls)) }
+{}
+
+/// So is the number of unmet landmarks, divided by the most of them that one action meets, rounded up.
+pub fn unmet_landmarks_bound()
+    ensures { (p : Problem) (w : World) (cs : List (List Literal)) (m : ℕ) → AreLandmarks p cs → ReachAtMost p cs m → IsBound p w (fewest m (unmet_marks w cs)) }
 {}
 
 /// The greater of two bounds is one.

@@ -1,12 +1,14 @@
 //! A lower bound on the actions that a world is away from the goal: levels of a relaxed world, in which what may be true, what may be
-//! false and what values a place may have only grow. `docs/DECISIONS.md` says what it is for. Laws
-//! say what such a bound, counted in one world, says of plans.
+//! false and what values a place may have only grow, and the goal's literals and landmarks that are unmet. `docs/DECISIONS.md` says what
+//! it is for. Laws say what such a bound, counted in one world, says of plans.
 #![tactic(auto)]
 
 mod counted;
 pub mod deeds;
 mod gains;
+mod landmarks;
 pub mod laws;
+mod marking;
 mod may;
 mod needing;
 mod news;

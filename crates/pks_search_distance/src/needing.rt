@@ -2,6 +2,7 @@
 ghost use Rattle.std.specs.Prelude.{◌≡◌, false, map, min, option_map, IfOk, OnOk};
 ghost use Rattle.std.specs.List.{flat_map};
 ghost use Rattle.pks_terms.specs.Sets.{Each};
+ghost use Rattle.pks_terms.specs.Problems.{Problem as SProblem};
 ghost use Rattle.pks_terms.specs.Views.{problem_of};
 ghost use Rattle.pks_world.specs.Contents.{world_of};
 ghost use Rattle.pks_search_distance.specs.Levels.{Grows, IsBound};
@@ -14,6 +15,7 @@ ghost use Rattle.pks_search_distance.specs.Remembered.{AreItsDeeds};
 use crate::counted::Bound;
 use crate::deeds::Deeds;
 use crate::gains::Gains;
+use crate::landmarks::unmet_marks;
 use crate::wanted::unmet;
 use pks_terms::problem::Problem;
 use pks_world::World;
@@ -106,6 +108,22 @@ impl Deeds {
         Ok(Some(most))
     }
 
+    /// How many actions meet the goal's literals, and the landmarks, that are unmet, as far as `most`.
+    fn few(&self, w: &World, most: u32) -> Option<u32>
+        ensures { (p : SProblem) → AreItsDeeds p self.now → IsBound p (world_of w.now) result }
+    {
+        let goals = fewest(self.met, unmet(w, self.wanted.as_slice()), most);
+        if is_enough(goals, most) {
+            return goals;
+        }
+        let marks = fewest(
+            self.reached,
+            unmet_marks(w, self.landmarks.as_slice()),
+            most,
+        );
+        greater(goals, marks)
+    }
+
     /// A bound on the actions that the world is away from the goal: no run of fewer leads to it, and where there is no bound none leads to
     /// it at all. It is counted up to `most`, where it wasn't counted as far before. It asks for the ground actions of the problem. The
     /// error is want of memory.
@@ -122,16 +140,16 @@ impl Deeds {
         ensures deeds { AreItsDeeds (problem_of p.now) self.new }
     {
         let world: &World = w;
-        let few = fewest(self.met, unmet(world, self.wanted.as_slice()), most);
-        if is_enough(few, most) {
-            return Ok(few);
+        let counted = self.few(world, most);
+        if is_enough(counted, most) {
+            return Ok(counted);
         }
         let mark = world.mark();
         if let Some(known) = self.counts.tells(mark, world, most) {
             return Ok(known.needs);
         }
         let levels = self.needs(alloc, p, world, most)?;
-        let needs = greater(few, levels);
+        let needs = greater(counted, levels);
         self.counts.note(mark, w, Bound { needs, most });
         Ok(needs)
     }

@@ -69,7 +69,7 @@ fn is_place(t: &Term) -> bool
 }
 
 /// Whether the atom is a predicate at objects, or an equation of a place and an object.
-fn is_plain(a: &Atom) -> bool
+pub(crate) fn is_plain(a: &Atom) -> bool
     ensures { result ≡ is_plain (relation_of a.now) (sides_of a.now) }
 {
     match a {
@@ -180,7 +180,7 @@ fn some_make(effects: &[Effect], l: &Literal) -> bool
 }
 
 /// Whether the effects may make the literal true.
-fn may_meet(effects: &[Effect], l: &Literal) -> bool
+pub(crate) fn may_meet(effects: &[Effect], l: &Literal) -> bool
     ensures { result ≡ may_meet (map effect_of effects.now) (literal_of l.now) }
 {
     !is_plain(&l.atom) || some_make(effects, l)

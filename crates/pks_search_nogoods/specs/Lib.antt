@@ -1,1 +1,4 @@
 pub mod Failing
+pub mod Finds
+pub mod Noted
+pub mod Standing

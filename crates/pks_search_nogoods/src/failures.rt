@@ -1,5 +1,5 @@
 //! The tables of failed searches.
-ghost use Rattle.std.specs.Prelude.{IsTrue, IfOk, IfSome};
+ghost use Rattle.std.specs.Prelude.{◌≤◌, length, IsTrue, IfOk, IfSome};
 ghost use Rattle.pks_terms.specs.Moments.{AreMomentsOf};
 ghost use Rattle.pks_terms.specs.Problems.{Problem as SProblem};
 ghost use Rattle.pks_terms.specs.Valid.{IsValid};
@@ -7,6 +7,7 @@ ghost use Rattle.pks_terms.specs.Views.{problem_of};
 ghost use Rattle.pks_laws_forget.specs.Transparent.{AreSetsAlong};
 ghost use Rattle.pks_search_symmetry.specs.Keeping.{IsOfProblem};
 ghost use Rattle.pks_search_nogoods.specs.Failing.{HasNoTree, IsRight, AreRightIn, AreRight};
+ghost use Rattle.pks_search_nogoods.specs.Standing.{StandAlike, IsPut, KeepsOthers, LosesNone, AreEmpty, AreNoted, KeepsNoted};
 
 use lru::LruCache;
 use pks_history::histories::History;
@@ -14,6 +15,9 @@ use pks_search_symmetry::{Alike, HistoryKey, Keyed};
 use pks_terms::problem::Problem;
 use std::alloc::{AllocError, Global};
 use std::num::NonZeroUsize;
+
+/// How many failures the first table has, and how many finds are kept.
+pub(crate) const LAST_MET: usize = 4_096;
 
 /// A search that failed: no tree at the history, no deeper than `depth`, costs at most `limit`.
 #[derive(Drop)]
@@ -85,6 +89,7 @@ fn tells_in(
     ensures told { IsTrue result → IsValid (problem_of p.now) → IsOfProblem (problem_of p.now) alike.now → AreMomentsOf (problem_of p.now) asked.now.at.history.now
         → AreRightIn (problem_of p.now) table.old → HasNoTree (problem_of p.now) asked.now.at.history.now asked.now.n asked.now.limit }
     ensures right { (p : SProblem) → AreRightIn p table.old → AreRightIn p table.new }
+    ensures kept { StandAlike table.old table.new }
 {
     table.promote(&asked.at.key.mark);
     match table.peek(&asked.at.key.mark) {
@@ -93,11 +98,22 @@ fn tells_in(
     }
 }
 
+// A table has at most as many failures as there may be. It does nothing.
+fn within(table: &FailureTable)
+    ensures { length table.now.entries ≤ table.now.cap }
+{
+    table.len();
+}
+
 // Puts the failure in place of one with the same mark, if there is memory, and gives back what it put out.
 fn put_in(table: &mut FailureTable, mark: u64, failure: Failure) -> Option<(u64, Failure)>
     ensures right { (p : SProblem) → IsRight p failure → AreRightIn p table.old → AreRightIn p table.new }
     ensures fallen { (p : SProblem) → AreRightIn p table.old → IfSome result (λ e. IsRight p e.1) }
+    ensures puts { IsPut mark failure table.old table.new result }
+    ensures kept { KeepsOthers mark table.old table.new }
+    ensures lost { LosesNone table.old table.new result }
 {
+    within(table);
     match table.push(mark, failure) {
         Ok(fallen) => fallen,
         Err(_) => None,
@@ -107,9 +123,10 @@ fn put_in(table: &mut FailureTable, mark: u64, failure: Failure) -> Option<(u64,
 impl Failures {
     /// The empty tables for a problem. The error is want of memory.
     pub fn new(alloc: Global, p: &Problem<'_>) -> Result<Failures, AllocError>
-        ensures { IfOk result (AreRight (problem_of p.now)) }
+        ensures right { IfOk result (AreRight (problem_of p.now)) }
+        ensures empty { IfOk result AreEmpty }
     {
-        let last = LruCache::new(alloc, NonZeroUsize::new(4_096).unwrap())?;
+        let last = LruCache::new(alloc, NonZeroUsize::new(LAST_MET).unwrap())?;
         let fallen = LruCache::sparse(alloc, NonZeroUsize::new(65_536).unwrap())?;
         let alike = Alike::of(alloc, p)?;
         Ok(Failures {
@@ -130,6 +147,8 @@ impl Failures {
         ensures told { IsTrue result → IsValid (problem_of p.now) → AreMomentsOf (problem_of p.now) asked.now.at.history.now → AreRight (problem_of p.now) self.old
             → HasNoTree (problem_of p.now) asked.now.at.history.now asked.now.n asked.now.limit }
         ensures right { (p : SProblem) → AreRight p self.old → AreRight p self.new }
+        ensures last { StandAlike self.old.last self.new.last }
+        ensures fallen { StandAlike self.old.fallen self.new.fallen }
     {
         if tells_in(alloc, p, &self.alike, &mut self.last, asked) {
             return true;
@@ -141,9 +160,11 @@ impl Failures {
     /// the tables lose a failure or stay as they are. For a depth of 1 or less it notes nothing where the first table is full,
     /// since that is cheap to find again, and else would put out what is dear.
     pub fn note(&mut self, h: &History, key: HistoryKey, depth: u32, limit: u32)
-        ensures { (p : SProblem) → AreMomentsOf p h.now → HasNoTree p h.now depth limit → AreRight p self.old → AreRight p self.new }
+        ensures right { (p : SProblem) → AreMomentsOf p h.now → HasNoTree p h.now depth limit → AreRight p self.old → AreRight p self.new }
+        ensures noted { AreNoted key.mark (record { history = h.now; key = key; depth = depth; limit = limit }) self.old self.new }
+        ensures kept { KeepsNoted key.mark self.old self.new }
     {
-        if depth <= 1 && self.last.len() >= 4_096 {
+        if depth <= 1 && self.last.len() >= LAST_MET {
             return;
         }
         if let Ok(history) = h.share() {
@@ -153,7 +174,9 @@ impl Failures {
 
     // Puts the failure in place of one with the same mark, if there is memory. What falls out goes to the second table.
     fn put(&mut self, history: History, key: HistoryKey, depth: u32, limit: u32)
-        ensures { (p : SProblem) → AreMomentsOf p history → HasNoTree p history depth limit → AreRight p self.old → AreRight p self.new }
+        ensures right { (p : SProblem) → AreMomentsOf p history → HasNoTree p history depth limit → AreRight p self.old → AreRight p self.new }
+        ensures noted { AreNoted key.mark (record { history = history; key = key; depth = depth; limit = limit }) self.old self.new }
+        ensures kept { KeepsNoted key.mark self.old self.new }
     {
         let mark = key.mark;
         let failure = Failure {

@@ -2,3 +2,5 @@
 #![tactic(auto)]
 
 pub mod failures;
+pub mod finds;
+pub mod laws;

@@ -1,2 +1,3 @@
 pub mod Typed
 mod Idle
+mod Apart

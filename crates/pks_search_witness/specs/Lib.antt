@@ -1,3 +1,4 @@
 pub mod Typing
 pub mod Near
 pub mod Idle
+pub mod Apart

@@ -4,9 +4,13 @@
 
 mod idling;
 mod making;
+mod pairing;
 mod puttings;
+mod twins;
 mod typing;
 mod witness;
 
 pub use making::witnesses_of;
+pub use pairing::twins_of;
+pub use twins::Twins;
 pub use witness::Witness;

@@ -321,8 +321,14 @@ fn put_groups(p: &Problem<'_>, way: Making, w: &mut World) -> Result<(), AllocEr
     Ok(())
 }
 
-/// A world made from what is known at the start, the goal being false in it where it shuns it and that is easy.
-fn made(alloc: Global, p: &Problem<'_>, way: Making) -> Result<World, AllocError>
+/// A world made from what is known at the start, the goal being false in it where it shuns it and that is easy, and the literal true,
+/// where there is one.
+fn made(
+    alloc: Global,
+    p: &Problem<'_>,
+    way: Making,
+    also: &Option<Literal>,
+) -> Result<World, AllocError>
     requires { IsValidProblem p.now }
     ensures { IfOk result (IsWorldOf (signature_of p.now.signature)) }
 {
@@ -333,30 +339,44 @@ fn made(alloc: Global, p: &Problem<'_>, way: Making) -> Result<World, AllocError
         shun_goal(p, way, &mut w)?;
     }
     put_atoms(p, &mut w)?;
+    if let Some(l) = also {
+        put(p, l, &mut w)?;
+    }
     put_groups(p, way, &mut w)?;
     Ok(w)
 }
 
 /// Such a world, where the problem may begin in it.
-fn tested(alloc: Global, p: &Problem<'_>, way: Making) -> Result<Option<World>, AllocError>
+fn tested(
+    alloc: Global,
+    p: &Problem<'_>,
+    way: Making,
+    also: &Option<Literal>,
+) -> Result<Option<World>, AllocError>
     requires { IsValidProblem p.now }
     ensures { IfOk result (λ o. IfSome o (λ w. IsCompatible (problem_of p.now) (world_of w))) }
 {
-    let w = made(alloc, p, way)?;
+    let w = made(alloc, p, way, also)?;
     if compatible(p, &w).is_none() {
         return Ok(Some(w));
     }
     Ok(None)
 }
 
-/// The world of the turn in which the goal is false where that is easily so, or else one where it may be true, or none.
-fn found(alloc: Global, p: &Problem<'_>, turn: usize) -> Result<Option<World>, AllocError>
+/// The world of the turn in which the goal is false where that is easily so, or else one where it may be true, or none. The literal
+/// is made true, where there is one and that is easy.
+pub(crate) fn found_by(
+    alloc: Global,
+    p: &Problem<'_>,
+    turn: usize,
+    also: &Option<Literal>,
+) -> Result<Option<World>, AllocError>
     requires { IsValidProblem p.now }
     ensures { IfOk result (λ o. IfSome o (λ w. IsCompatible (problem_of p.now) (world_of w))) }
 {
-    match tested(alloc, p, Making { turn, shuns: true })? {
+    match tested(alloc, p, Making { turn, shuns: true }, also)? {
         Some(w) => Ok(Some(w)),
-        None => tested(alloc, p, Making { turn, shuns: false }),
+        None => tested(alloc, p, Making { turn, shuns: false }, also),
     }
 }
 
@@ -382,7 +402,7 @@ fn add_found(
     ensures compatible { OnOk result (Each (λ w. IsCompatible (problem_of p.now) (world_of w)) worlds.new.items) }
     ensures few { OnOk result (length worlds.new.items ≤ length worlds.old.items + 1) }
 {
-    let Some(w) = found(alloc, p, turn)? else {
+    let Some(w) = found_by(alloc, p, turn, &None)? else {
         return Ok(());
     };
     if is_among(worlds.as_slice(), &w) {
@@ -390,6 +410,17 @@ fn add_found(
     }
     worlds.push(w)?;
     Ok(())
+}
+
+/// Whether the problem isn't too large for worlds of it to be taken along.
+pub(crate) fn is_small(alloc: Global, p: &Problem<'_>) -> Result<bool, AllocError>
+    requires { length p.now.signature.objects ≤ 65536 }
+{
+    if p.init.len() > MOST_ITEMS || p.signature.objects.len() > MOST_OBJECTS {
+        return Ok(false);
+    }
+    let places = count_places(alloc, p)?;
+    Ok(places <= MOST_PLACES)
 }
 
 /// At most four worlds in which the problem may begin, as different as they are quickly made, or none where none was found quickly, or
@@ -400,10 +431,7 @@ pub fn witnesses_of(alloc: Global, p: &Problem<'_>) -> Result<Vec<World>, AllocE
     ensures few { IfOk result (λ ws. length ws.items ≤ 4) }
 {
     let mut worlds = Vec::new(alloc);
-    if p.init.len() > MOST_ITEMS || p.signature.objects.len() > MOST_OBJECTS || !asks_some(p) {
-        return Ok(worlds);
-    }
-    if count_places(alloc, p)? > MOST_PLACES {
+    if !asks_some(p) || !is_small(alloc, p)? {
         return Ok(worlds);
     }
     for turn in 0..MOST_WORLDS {

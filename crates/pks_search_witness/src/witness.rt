@@ -1,20 +1,16 @@
 //! A world that may be the present one, and a bound on the actions that it is away from the goal.
 ghost use Rattle.std.specs.Prelude.{◌≡◌, ◌<◌, IfOk, IsTrue};
-ghost use Rattle.pks_terms.specs.Worlds.{value_of, all_true_in};
 ghost use Rattle.pks_terms.specs.Knowledge.{grounded, after_action};
 ghost use Rattle.pks_terms.specs.Valid.{IsValid};
-ghost use Rattle.pks_terms.specs.Views.{term_of, conj_of, instance_of, problem_of};
+ghost use Rattle.pks_terms.specs.Views.{instance_of, problem_of};
 ghost use Rattle.pks_world.specs.Contents.{world_of};
 ghost use Rattle.pks_search_distance.specs.Remembered.{AreItsDeeds};
 ghost use Rattle.pks_search_witness.specs.Near.{world_in, is_beyond, IsCounted};
 
 use crate::idling::is_idle;
 use pks_search_distance::Deeds;
-use pks_terms::ids::ObjId;
-use pks_terms::literal::Conj;
 use pks_terms::problem::Problem;
 use pks_terms::schema::Instance;
-use pks_terms::term::Term;
 use pks_world::{World, grounded};
 use std::alloc::{AllocError, Global};
 use std::rc::Rc;
@@ -94,17 +90,10 @@ impl Witness {
         }
     }
 
-    /// Whether all literals of the conjunction are true.
-    pub fn holds_all(&self, test: &Conj) -> bool
-        ensures { result ≡ all_true_in (world_in self.now) (conj_of test.now) }
+    /// The world.
+    pub fn world(&self) -> &World
+        ensures { world_of result.now ≡ world_in self.now }
     {
-        self.world.holds_all(test)
-    }
-
-    /// The value of the term.
-    pub fn value(&self, t: &Term) -> ObjId
-        ensures { result.0 ≡ value_of (world_in self.now) (term_of t.now) }
-    {
-        self.world.value(t)
+        &self.world
     }
 }

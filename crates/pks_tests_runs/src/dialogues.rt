@@ -1,5 +1,5 @@
 //! Dialogues over files that are read, and sources that fail where they are read too early.
-use crate::files::{LAWN, SAFE};
+use crate::files::{BOXES, LAWN, SAFE};
 use crate::rows::all_so;
 use crate::runs::{Ails, Followed, NOTHING, joined, run_over, sink_of, words_of};
 use pks_io::MemSource;
@@ -65,6 +65,27 @@ const LED: &[Followed] = &[
         ".\n",
         Refused,
         "do (pour)\ndo (look)\ntest (alive)\nrefused 8:1 321\n",
+    ),
+    Followed(
+        "agent 4",
+        BOXES,
+        ".\nfalse\nfalse\n",
+        Done,
+        "do (peek b1)\ndo (peek b2)\ntest (in b1)\ntest (in b2)\ngoal\n",
+    ),
+    Followed(
+        "agent 4",
+        BOXES,
+        ".\nfalse\nmaybe\n",
+        Refused,
+        "do (peek b1)\ndo (peek b2)\ntest (in b1)\ntest (in b2)\nrefused 13:1 320\n",
+    ),
+    Followed(
+        "agent 4",
+        BOXES,
+        ".\nfalse\n",
+        Refused,
+        "do (peek b1)\ndo (peek b2)\ntest (in b1)\ntest (in b2)\nrefused 13:1 321\n",
     ),
     Followed(
         "agent 3",
@@ -152,6 +173,21 @@ fn first_without_harm(alloc: Global, text: &[u8]) -> Result<Option<u32>, AllocEr
         }
     }
     Ok(None)
+}
+
+/// What is written where the sink fails at this call.
+fn written_until(alloc: Global, write: u32) -> Result<(Status, Vec<u8>), AllocError> {
+    let input = joined(alloc, SAFE, ".\nc3\n")?;
+    let ails = Ails { write, ..NOTHING };
+    run_over(alloc, "agent 2", input.as_bytes(), ails)
+}
+
+#[test]
+fn a_sink_that_fails_at_call_9_has_what_was_told_before(rt: HostRuntime) -> Result<(), Fail> {
+    let (status, written) = written_until(rt.alloc(), 9)?;
+    assert!(rt; status == WriteFault);
+    assert!(rt; written.as_slice() == b"do (read)\nvalue (combo)\ndo (d".as_slice());
+    Ok(())
 }
 
 #[test]

@@ -103,6 +103,12 @@ const REGION_BY_EQUATIONS: &str = "(pks 1)
 (problem (init (kf (= (f) (h))) (kf (= (h) a)) (lcw (p (f)))) (goal (k (not (p (h))))))
 ";
 
+/// A region with the atom of a place, and another one denied, since the place is known to be another object.
+const REGION_AT_A_PLACE: &str = "(pks 1)
+(domain (types t) (objects (t a b c)) (predicates (p t)) (functions (f t)))
+(problem (init (kf (p (f))) (kf (not (= (f) b))) (lcw (p _))) (goal (k (not (p b)))))
+";
+
 /// A region to which an action brings an atom.
 const REGION_GROWS: &str = "(pks 1)
 (domain (types t) (objects (t a b c)) (predicates (p t) (q))
@@ -221,6 +227,14 @@ const BY_REGIONS: &[Reasoned] = &[
     Reasoned("explain 0", REGION, &["moment 0 (not (p b)) closed by"]),
     Reasoned(
         "explain 0",
+        REGION_AT_A_PLACE,
+        &[
+            "moment 0 (not (= (f) b)) given 2",
+            "moment 0 (not (p b)) closed by",
+        ],
+    ),
+    Reasoned(
+        "explain 0",
         REGION_BY_EQUATIONS,
         &[
             "moment 0 (= (f) a) swap by",
@@ -268,6 +282,26 @@ fn what_regions_tell_is_explained(rt: HostRuntime) -> Result<(), Fail> {
     all_so(rt.alloc(), BY_REGIONS)
 }
 
+/// An effect of two conditions of which one is known: where it didn't fire, the other is false, and where it did, true.
+const OPENED: &str = "(pks 1)
+(domain (predicates (alive) (poison) (open) (done))
+  (action pour (effects (when ((open) (poison)) (unset (alive)))))
+  (action look (senses (sense (alive))) (knows (kw (alive))))
+  (action drink (pre (k (not (poison)))) (effects (set (done))) (knows (kf (done))))
+  (action tell (pre (k (poison))) (effects (set (done))) (knows (kf (done)))))
+(problem (init (kf (alive)) (kf (open))) (goal (k (done))))
+";
+
+/// Two effects that kill, of which the first is known not to fire: so the second must have.
+const NO_FROST: &str = "(pks 1)
+(domain (predicates (alive) (poison) (frost) (done))
+  (action pour (effects (when ((frost)) (unset (alive))) (when ((poison)) (unset (alive)))))
+  (action look (senses (sense (alive))) (knows (kw (alive))))
+  (action drink (pre (k (not (poison)))) (effects (set (done))) (knows (kf (done))))
+  (action tell (pre (k (poison))) (effects (set (done))) (knows (kf (done)))))
+(problem (init (kf (alive)) (kf (not (frost)))) (goal (k (done))))
+";
+
 const BY_ACTIONS: &[Reasoned] = &[
     Reasoned(
         "explain 4",
@@ -303,6 +337,24 @@ const BY_ACTIONS: &[Reasoned] = &[
         &[
             "moment 0 (not (broken)) cannot by",
             "moment 0 (broken) must by",
+        ],
+    ),
+    Reasoned(
+        "explain 4",
+        OPENED,
+        &[
+            "moment 0 (open) given 2",
+            "moment 0 (not (poison)) cannot by",
+            "moment 0 (poison) must by",
+        ],
+    ),
+    Reasoned(
+        "explain 4",
+        NO_FROST,
+        &[
+            "moment 0 (not (frost)) given 2",
+            "moment 0 (not (poison)) cannot by",
+            "moment 0 (poison) must by",
         ],
     ),
 ];

@@ -335,11 +335,32 @@ const LIT_ONCE_PLAN: &str = "plan depth 3
 goal
 ";
 
+/// One of two lamps was lit: when both are put out before a look, nobody can tell which.
+const LAMPS_OUT: &str = "(pks 2)
+(domain (types lamp) (objects (lamp a b)) (predicates (lit lamp))
+  (action off (params (?l lamp)) (effects (unset (lit ?l))) (knows (kf (not (lit ?l)))))
+  (action look (params (?l lamp)) (senses (sense (lit ?l))) (knows (kw (lit ?l)))))
+(problem (init (kx (lit a) (lit b))) (goal (k (not (lit a))) (k (not (lit b))) (at-start (kw (lit b)))))
+";
+
+const LAMPS_OUT_PLAN: &str = "plan depth 3
+(look a)
+branch (lit a)
+true
+  (off a)
+  goal
+false
+  (off b)
+  goal
+";
+
 const OVER_TIME: &[Answered] = &[
     Answered("plan 3", ONCE_THERE, NoPlan, "none to depth 3\n"),
     Answered("plan 4", ONCE_THERE, Done, ONCE_THERE_PLAN),
     Answered("plan 2", LIT_AT_START, NoPlan, "none to depth 2\n"),
     Answered("plan 3", LIT_AT_START, Done, LIT_AT_START_PLAN),
+    Answered("plan 2", LAMPS_OUT, NoPlan, "none to depth 2\n"),
+    Answered("plan 3", LAMPS_OUT, Done, LAMPS_OUT_PLAN),
     Answered("plan 2", SHUT_AND_LOOK, NoPlan, "none to depth 2\n"),
     Answered("plan 3", SHUT_AND_LOOK, Done, SHUT_AND_LOOK_PLAN),
     Answered("plan 2", LIT_ONCE, NoPlan, "none to depth 2\n"),

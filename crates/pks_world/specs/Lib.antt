@@ -3,3 +3,4 @@ pub mod Few
 pub mod First
 pub mod Applied
 pub mod Observed
+pub mod Counts

@@ -1,5 +1,6 @@
 //! Up to three objects, and atoms at them.
-ghost use Rattle.std.specs.Prelude.{◌≡◌, ◌<◌, ◌+◌, [], ◌∷◌, ◌++◌};
+ghost use Rattle.std.specs.Prelude.{◌≡◌, ◌<◌, ◌≤◌, ◌+◌, [], ◌∷◌, ◌++◌};
+ghost use Rattle.pks_terms.specs.Counts.{AtomCounts};
 ghost use Rattle.pks_terms.specs.Views.{atom_of};
 ghost use Rattle.pks_world.specs.Contents.{ground};
 ghost use Rattle.pks_world.specs.Few.{few_of};
@@ -62,7 +63,8 @@ impl Few {
 
     /// The predicate at these objects.
     pub fn atom(&self, pred: PredId) -> PredAtom
-        ensures { atom_of result ≡ ground pred.0 (few_of self.now) }
+        ensures says { atom_of result ≡ ground pred.0 (few_of self.now) }
+        ensures counts { self.now.n ≤ 3 → AtomCounts result }
     {
         PredAtom {
             pred,

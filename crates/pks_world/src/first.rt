@@ -1,5 +1,6 @@
 //! The first world of a problem.
 ghost use Rattle.std.specs.Prelude.{◌≡◌, ◌≤◌, ◌^◌, [], ◌∷◌, map, true, IfOk, OnOk, length, Some, if◌then◌else◌};
+ghost use Rattle.pks_terms.specs.Counts.{TermCounts};
 ghost use Rattle.pks_terms.specs.Syntax.{place};
 ghost use Rattle.pks_terms.specs.Orders.{term_eq};
 ghost use Rattle.pks_terms.specs.Sets.{Each};
@@ -7,12 +8,13 @@ ghost use Rattle.pks_terms.specs.Signatures.{objects_of};
 ghost use Rattle.pks_terms.specs.Valid.{IsValidSignature};
 ghost use Rattle.pks_terms.specs.Views.{object_of, term_of, types_of, shape_of, signature_of};
 ghost use Rattle.pks_world.specs.Contents.{world_of};
+ghost use Rattle.pks_world.specs.Counts.{KeptCounts, WorldCounts};
 ghost use Rattle.pks_world.specs.First.{first_of, first_world, IsWorldOf, Writes, is_in_row, is_in_rows, argument_range, WritesOnly, WritesAll, AreLeast, AreFilled};
 
-use crate::worlds::World;
+use crate::worlds::{World, at_objects};
 use pks_terms::ids::{FnId, ObjId, TypeId};
 use pks_terms::problem::{Problem, Signature};
-use pks_terms::term::{Term, applied, front};
+use pks_terms::term::{Term, front};
 use std::alloc::{AllocError, Global};
 use std::collections::{BTreeMap, BTreeSet};
 
@@ -67,7 +69,8 @@ fn argument_range(
 /// Gives the place this value.
 #[tactic(auto, unfolding(pks_terms::specs::Orders::term_eq))]
 fn keep(values: &mut BTreeMap<Term, ObjId>, at: Term, d: ObjId) -> Result<(), AllocError>
-    ensures { OnOk result (Writes (term_eq (term_of at)) d.0 values.old.entries values.new.entries) }
+    ensures says { OnOk result (Writes (term_eq (term_of at)) d.0 values.old.entries values.new.entries) }
+    ensures counts { TermCounts at → KeptCounts values.old.entries → OnOk result (KeptCounts values.new.entries) }
 {
     values.insert(at, d)?;
     Ok(())
@@ -82,10 +85,11 @@ fn keep_row(
     seconds: &[ObjId],
     d: ObjId,
 ) -> Result<(), AllocError>
-    ensures { OnOk result (Writes (is_in_row fun.0 n first seconds.now) d.0 values.old.entries values.new.entries) }
+    ensures says { OnOk result (Writes (is_in_row fun.0 n first seconds.now) d.0 values.old.entries values.new.entries) }
+    ensures counts { n ≤ 2 → KeptCounts values.old.entries → OnOk result (KeptCounts values.new.entries) }
 {
     for second in seconds {
-        keep(values, applied(fun, n, &[first, *second]), d)?;
+        keep(values, at_objects(fun, n, &[first, *second]), d)?;
     }
     Ok(())
 }
@@ -99,7 +103,8 @@ fn keep_rows(
     seconds: &[ObjId],
     d: ObjId,
 ) -> Result<(), AllocError>
-    ensures { OnOk result (Writes (is_in_rows fun.0 n firsts.now seconds.now) d.0 values.old.entries values.new.entries) }
+    ensures says { OnOk result (Writes (is_in_rows fun.0 n firsts.now seconds.now) d.0 values.old.entries values.new.entries) }
+    ensures counts { n ≤ 2 → KeptCounts values.old.entries → OnOk result (KeptCounts values.new.entries) }
 {
     for first in firsts {
         keep_row(values, fun, n, *first, seconds, d)?;
@@ -119,6 +124,7 @@ fn fill(
     requires { length s.now.objects ≤ 65536 }
     ensures only { OnOk result (WritesOnly fun.0 d.0 values.old.entries values.new.entries) }
     ensures all { length types.now ≤ 2 → OnOk result (WritesAll (signature_of s.now) fun.0 (types_of types.now) d.0 values.new.entries) }
+    ensures counts { KeptCounts values.old.entries → OnOk result (KeptCounts values.new.entries) }
 {
     let firsts = argument_range(alloc, s, types, 0)?;
     let seconds = argument_range(alloc, s, types, 1)?;
@@ -132,6 +138,7 @@ fn all_values(alloc: Global, s: &Signature) -> Result<BTreeMap<Term, ObjId>, All
     requires functions { length s.now.functions ≤ 256 }
     ensures least { IfOk result (λ m. AreLeast (signature_of s.now) m.entries) }
     ensures filled { Each (λ x. length (shape_of x).arguments ≤ 2) s.now.functions → IfOk result (λ m. AreFilled (signature_of s.now) (length s.now.functions) m.entries) }
+    ensures counts { IfOk result (λ m. KeptCounts m.entries) }
 {
     let mut values = BTreeMap::new(alloc);
     for (f, shape) in s.functions.as_slice().iter().enumerate() {
@@ -150,6 +157,7 @@ impl World {
         requires functions { length p.now.signature.functions ≤ 256 }
         ensures world { IfOk result (λ w. world_of w ≡ first_world (signature_of p.now.signature)) }
         ensures of_signature { IsValidSignature (signature_of p.now.signature) → IfOk result (IsWorldOf (signature_of p.now.signature)) }
+        ensures counts { IfOk result WorldCounts }
     {
         let values = all_values(alloc, &p.signature)?;
         let others = least_values(alloc, &p.signature)?;

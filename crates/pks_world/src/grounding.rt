@@ -1,5 +1,6 @@
 //! Actions whose arguments are objects.
-ghost use Rattle.std.specs.Prelude.{◌≡◌};
+ghost use Rattle.std.specs.Prelude.{◌≡◌, ◌≤◌};
+ghost use Rattle.pks_terms.specs.Counts.{InstanceCounts};
 ghost use Rattle.pks_terms.specs.Worlds.{inner_value};
 ghost use Rattle.pks_terms.specs.Knowledge.{grounded};
 ghost use Rattle.pks_terms.specs.Views.{inner_of, instance_of};
@@ -19,7 +20,8 @@ pub fn argument_value(w: &World, t: &Inner) -> ObjId
 
 /// The action with the values that its arguments have in the world in their place. It takes no memory.
 pub fn grounded(w: &World, i: &Instance) -> Instance
-    ensures { instance_of result ≡ grounded (world_of w.now) (instance_of i.now) }
+    ensures says { instance_of result ≡ grounded (world_of w.now) (instance_of i.now) }
+    ensures counts { i.now.n ≤ 4 → InstanceCounts result }
 {
     Instance {
         act: i.act,

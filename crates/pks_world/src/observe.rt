@@ -1,5 +1,6 @@
 //! What is observed in a world after an action.
 ghost use Rattle.std.specs.Prelude.{◌≡◌, ◌≤◌, ℕ, List, [], ◌∷◌, ◌++◌, map, take, filter, length, IfOk, OnOk, option_map};
+ghost use Rattle.pks_terms.specs.Counts.{AtomCounts, InstanceCounts, PatternCounts, SenseCounts, ProblemCounts};
 ghost use Rattle.pks_terms.specs.Sets.{Each};
 ghost use Rattle.pks_terms.specs.Signatures.{predicate_shape};
 ghost use Rattle.pks_terms.specs.Actions.{instances_of, seen};
@@ -7,6 +8,7 @@ ghost use Rattle.pks_terms.specs.Problems.{schema_of};
 ghost use Rattle.pks_terms.specs.Knowledge.{observations};
 ghost use Rattle.pks_terms.specs.Views.{object_of, term_of, atom_of, pattern_of, sense_of, types_of, shape_of, signature_of, problem_of, instance_of};
 ghost use Rattle.pks_world.specs.Contents.{ground, world_of};
+ghost use Rattle.pks_world.specs.Counts.{SeenCounts};
 ghost use Rattle.pks_world.specs.Observed.{seen_of, AreGround, slot_range, true_at, row, plane, grid};
 
 use crate::worlds::World;
@@ -31,7 +33,8 @@ pub type Obs = Sequence<Seen>;
 
 /// The predicate at the first `n` of these objects.
 fn atom_at(pred: PredId, n: u8, d: ObjId, e: ObjId, f: ObjId) -> PredAtom
-    ensures { atom_of result ≡ ground pred.0 (take n (d.0 ∷ e.0 ∷ f.0 ∷ [])) }
+    ensures says { atom_of result ≡ ground pred.0 (take n (d.0 ∷ e.0 ∷ f.0 ∷ [])) }
+    ensures counts { n ≤ 3 → AtomCounts result }
 {
     PredAtom {
         pred,
@@ -90,7 +93,8 @@ impl World {
     /// Adds the atom where it is true.
     #[tactic(auto, unfolding(crate::specs::Contents::world_of))]
     fn add_true(&self, a: PredAtom, found: &mut Vec<PredAtom>) -> Result<(), AllocError>
-        ensures { (p : ℕ) (ds : List ℕ) → atom_of a ≡ ground p ds → OnOk result (map atom_of found.new.items ≡ map atom_of found.old.items ++ true_at (world_of self.now) p ds) }
+        ensures says { (p : ℕ) (ds : List ℕ) → atom_of a ≡ ground p ds → OnOk result (map atom_of found.new.items ≡ map atom_of found.old.items ++ true_at (world_of self.now) p ds) }
+        ensures counts { AtomCounts a → Each AtomCounts found.old.items → OnOk result (Each AtomCounts found.new.items) }
     {
         if self.atoms.contains(&a) {
             found.push(a)?;
@@ -108,7 +112,8 @@ impl World {
         others: &[ObjId],
         found: &mut Vec<PredAtom>,
     ) -> Result<(), AllocError>
-        ensures { OnOk result (map atom_of found.new.items ≡ map atom_of found.old.items ++ row (world_of self.now) pred.0 n d.0 e.0 (map object_of others.now)) }
+        ensures says { OnOk result (map atom_of found.new.items ≡ map atom_of found.old.items ++ row (world_of self.now) pred.0 n d.0 e.0 (map object_of others.now)) }
+        ensures counts { n ≤ 3 → Each AtomCounts found.old.items → OnOk result (Each AtomCounts found.new.items) }
     {
         for f in others {
             self.add_true(atom_at(pred, n, d, e, *f), found)?;
@@ -126,7 +131,8 @@ impl World {
         thirds: &[ObjId],
         found: &mut Vec<PredAtom>,
     ) -> Result<(), AllocError>
-        ensures { OnOk result (map atom_of found.new.items ≡ map atom_of found.old.items ++ plane (world_of self.now) pred.0 n d.0 (map object_of seconds.now) (map object_of thirds.now)) }
+        ensures says { OnOk result (map atom_of found.new.items ≡ map atom_of found.old.items ++ plane (world_of self.now) pred.0 n d.0 (map object_of seconds.now) (map object_of thirds.now)) }
+        ensures counts { n ≤ 3 → Each AtomCounts found.old.items → OnOk result (Each AtomCounts found.new.items) }
     {
         for e in seconds {
             self.add_row(pred, n, d, *e, thirds, found)?;
@@ -144,7 +150,8 @@ impl World {
         thirds: &[ObjId],
         found: &mut Vec<PredAtom>,
     ) -> Result<(), AllocError>
-        ensures { OnOk result (map atom_of found.new.items ≡ map atom_of found.old.items ++ grid (world_of self.now) pred.0 n (map object_of firsts.now) (map object_of seconds.now) (map object_of thirds.now)) }
+        ensures says { OnOk result (map atom_of found.new.items ≡ map atom_of found.old.items ++ grid (world_of self.now) pred.0 n (map object_of firsts.now) (map object_of seconds.now) (map object_of thirds.now)) }
+        ensures counts { n ≤ 3 → Each AtomCounts found.old.items → OnOk result (Each AtomCounts found.new.items) }
     {
         for d in firsts {
             self.add_plane(pred, n, *d, seconds, thirds, found)?;
@@ -160,7 +167,8 @@ impl World {
         x: &Pattern,
     ) -> Result<Vec<PredAtom>, AllocError>
         requires { length s.now.objects ≤ 65536 }
-        ensures { IfOk result (λ found. map atom_of found.items ≡ map (ground x.now.pred.0) (filter ((world_of self.now).truth x.now.pred.0) (instances_of (signature_of s.now) (world_of self.now) (predicate_shape (signature_of s.now) x.now.pred.0).arguments (pattern_of x.now).slots))) }
+        ensures says { IfOk result (λ found. map atom_of found.items ≡ map (ground x.now.pred.0) (filter ((world_of self.now).truth x.now.pred.0) (instances_of (signature_of s.now) (world_of self.now) (predicate_shape (signature_of s.now) x.now.pred.0).arguments (pattern_of x.now).slots))) }
+        ensures counts { IfOk result (λ found. Each AtomCounts found.items) }
     {
         let types = argument_types(s, x.pred);
         let slots = slots_in(&x.args, x.n);
@@ -187,6 +195,7 @@ impl World {
         requires { length s.now.objects ≤ 65536 }
         ensures seen { IfOk result (λ x. seen_of x ≡ seen (signature_of s.now) (world_of self.now) (sense_of sense.now)) }
         ensures ground { IfOk result AreGround }
+        ensures counts { SenseCounts sense.now → IfOk result SeenCounts }
     {
         match sense {
             Sense::Whether(c) => Ok(Seen::Whether(*c, self.holds_all(c))),
@@ -204,6 +213,7 @@ impl World {
         requires { length p.now.signature.objects ≤ 65536 }
         ensures seen { IfOk result (λ o. map seen_of o ≡ observations (problem_of p.now) (world_of self.now) (instance_of i.now)) }
         ensures ground { IfOk result (Each AreGround) }
+        ensures counts { ProblemCounts p.now → InstanceCounts i.now → IfOk result (Each SeenCounts) }
     {
         let mut all = Vec::new(alloc);
         for sense in senses_of(p, i.act) {
@@ -216,7 +226,8 @@ impl World {
 
 /// The senses of the action, none where it isn't declared.
 fn senses_of<'a>(p: &'a Problem<'_>, act: ActId) -> &'a [Sense]
-    ensures { map sense_of result.now ≡ (schema_of (problem_of p.now) act.0).senses }
+    ensures says { map sense_of result.now ≡ (schema_of (problem_of p.now) act.0).senses }
+    ensures counts { ProblemCounts p.now → Each SenseCounts result.now }
 {
     match p.schemas.as_slice().get(usize::from(act.0)) {
         Some(schema) => schema.senses.as_slice(),

@@ -1,5 +1,6 @@
 //! Worlds: which atoms are true, and the value at each place.
-ghost use Rattle.std.specs.Prelude.{◌≡◌, ℕ, [], map, take, true, IsTrue, OnOk, OnErr, option_map};
+ghost use Rattle.std.specs.Prelude.{◌≡◌, ◌≤◌, ℕ, [], map, take, true, IsTrue, OnOk, OnErr, option_map};
+ghost use Rattle.pks_terms.specs.Counts.{TermCounts, AtomCounts};
 ghost use Rattle.pks_terms.specs.Syntax.{object, place};
 ghost use Rattle.pks_terms.specs.Orders.{number_of, arguments_of};
 ghost use Rattle.pks_terms.specs.Signatures.{Signature};
@@ -8,6 +9,7 @@ ghost use Rattle.pks_terms.specs.Typed.{IsTypedTarget};
 ghost use Rattle.pks_terms.specs.Worlds.{inner_value, value_of, relates, true_in};
 ghost use Rattle.pks_terms.specs.Views.{object_of, inner_of, term_of, atom_of, relation_of, sides_of, literal_of};
 ghost use Rattle.pks_world.specs.Contents.{ground, world_of, places_of, has_place, kept_at, value_elsewhere, with_truth, with_value};
+ghost use Rattle.pks_world.specs.Counts.{WorldCounts};
 ghost use Rattle.pks_world.specs.First.{IsWorldOf};
 
 use pks_terms::ids::{FnId, ObjId};
@@ -40,6 +42,18 @@ fn elsewhere(others: &[ObjId], fun: FnId) -> ObjId
     match others.get(usize::from(fun.0)) {
         Some(d) => *d,
         None => ObjId(0),
+    }
+}
+
+/// The place of the function at objects, of which the first `n` are in use.
+pub(crate) fn at_objects(fun: FnId, n: u8, args: &[ObjId; 2]) -> Term
+    ensures says { term_of result ≡ place fun.0 (map object_of (take n args.now)) }
+    ensures counts { n ≤ 2 → TermCounts result }
+{
+    Term::App {
+        fun,
+        n,
+        args: [Inner::Obj(args[0]), Inner::Obj(args[1])],
     }
 }
 
@@ -87,7 +101,8 @@ impl World {
 
     /// The atom with the values of its arguments in their place.
     pub(crate) fn valued(&self, a: &PredAtom) -> PredAtom
-        ensures { atom_of result ≡ ground a.now.pred.0 (map (value_of (world_of self.now)) (map term_of (take a.now.n a.now.args))) }
+        ensures says { atom_of result ≡ ground a.now.pred.0 (map (value_of (world_of self.now)) (map term_of (take a.now.n a.now.args))) }
+        ensures counts { a.now.n ≤ 3 → AtomCounts result }
     {
         PredAtom {
             pred: a.pred,
@@ -127,6 +142,7 @@ impl World {
         ensures err { OnErr result (world_of self.new ≡ world_of self.old) }
         ensures places { places_of self.new ≡ places_of self.old }
         ensures of_signature { (s : Signature) → IsTypedTarget s [] (Set (atom_of a.now)) → IsWorldOf s self.old → IsWorldOf s self.new }
+        ensures counts { AtomCounts a.now → WorldCounts self.old → WorldCounts self.new }
     {
         self.atoms.insert(*a)?;
         Ok(())
@@ -139,6 +155,7 @@ impl World {
         ensures world { world_of self.new ≡ with_value (world_of self.old) (term_of place.now) d.0 }
         ensures places { places_of self.new ≡ places_of self.old }
         ensures of_signature { (s : Signature) → IsTypedTarget s [] (Assign (number_of (term_of place.now)) (arguments_of (term_of place.now)) (object d.0)) → IsWorldOf s self.old → IsWorldOf s self.new }
+        ensures counts { WorldCounts self.old → WorldCounts self.new }
     {
         match self.values.get_mut(place) {
             Some(kept) => *kept = d,

@@ -5,7 +5,7 @@ import random
 import re
 import tempfile
 from dataclasses import dataclass, field
-from typing import Dict, List, Optional, Tuple
+from typing import Callable, Dict, List, Optional, Tuple
 
 import pkslib
 from pkslib import Expression, expressions, written
@@ -128,9 +128,11 @@ def parts(tree: Tree) -> bool:
 class Comparison:
     """Compares files, and keeps those of which something differs in a folder of their own."""
 
-    def __init__(self, program: str, limits: Optional[Limits] = None) -> None:
+    def __init__(self, program: str, limits: Optional[Limits] = None,
+                 maker: Callable[[random.Random], Maker] = Maker) -> None:
         self.program = program
         self.limits = limits or Limits()
+        self.maker = maker
         self.counts = Counts()
         self.folder = ''
 
@@ -174,7 +176,7 @@ class Comparison:
 
     def attempt(self, number: int, attempt: int) -> 'Made':
         """One file of a number's."""
-        maker = Maker(random.Random(f'{number}/{attempt}'))
+        maker = self.maker(random.Random(f'{number}/{attempt}'))
         forms = maker.forms()
         bare = text_of(forms)
         derived = derive_text(read_problem(bare))

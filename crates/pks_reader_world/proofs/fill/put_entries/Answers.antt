@@ -19,4 +19,5 @@ loop-entry-preserved c =
       says = entries_next s fs i x c.loop-entry-test.true c.entry-item.is (world_of c.loop-entry.world) (world_of c.put_entry.new.world) (with_entries s (world_of c.args.world.now) (forms_view fs)) c.put_entry.ensures.says c.loop-entry.invariant.says;
       typed = holds_later (IsValue s) fs i x c.loop-entry-test.true c.entry-item.is c.loop-entry.invariant.typed;
       of_signature = c.put_entry.ensures.of_signature;
+      counts = λ each. c.put_entry.ensures.counts (c.loop-entry.invariant.counts each);
     }

@@ -19,4 +19,5 @@ loop-fact-preserved c =
       says = facts_next s fs i x c.loop-fact-test.true c.fact-item.is (world_of c.loop-fact.world) (world_of c.put_fact.new.world) (with_facts s (world_of c.args.world.now) (forms_view fs)) c.in_ok-put_fact.ensures.says c.loop-fact.invariant.says;
       typed = holds_later (IsAtom s) fs i x c.loop-fact-test.true c.fact-item.is c.loop-fact.invariant.typed;
       of_signature = c.put_fact.ensures.of_signature;
+      counts = λ each. c.put_fact.ensures.counts (c.loop-fact.invariant.counts each);
     }

@@ -10,6 +10,10 @@ use Rattle.pks_search.specs.Near.{IsNear}
 use Rattle.pks_search.proofs.Deepening.{limit_first}
 use Rattle.pks_search.proofs.Starting.{start_ready, start_best}
 use Rattle.pks_search.proofs.Witnessed.{first_near}
+use Rattle.pks_terms.proofs.ListLaws.{each_weaker}
+use Rattle.pks_search_witness.specs.Apart.{AreFirst}
+use Rattle.pks_search.specs.Twins.{AreTwins}
+use Rattle.pks_search.proofs.Twinned.{start_twins}
 use Rattle.pks_search.proofs.searching.best_of_all.Goals as goal
 
 pub best_rising-requires-clause-spot : goal.best_rising-requires-clause-spot
@@ -19,10 +23,11 @@ best_rising-requires-clause-spot c =
     record {
       ready = start_ready c.args.p.now (five_of c.args.start) c.in_ok-h.h c.from.result c.requires.valid c.requires.justified c.requires.start c.in_ok-h.ensures few;
       near = subst (Each (IsNear p c.in_ok-h.h)) (sym c.as_slice.ensures.value) (first_near p (five_of c.args.start) c.in_ok-h.h c.in_ok-first.first.near.items c.requires.start c.in_ok-h.ensures c.in_ok-first.ensures.near);
+      twins = subst (Each (AreTwins p c.in_ok-h.h)) (sym c.as_slice-2.ensures.value) (each_weaker (AreFirst p) (AreTwins p c.in_ok-h.h) (λ x k. subst (λ g. AreTwins p g x) (sym c.in_ok-h.ensures) (start_twins p (five_of c.args.start) x c.requires.start k)) c.in_ok-twins.twins.items c.in_ok-twins.ensures);
     }
 
 pub best_rising-requires-clause-notes : goal.best_rising-requires-clause-notes
-best_rising-requires-clause-notes c = record { deeds = c.in_ok-first.ensures.deeds; failures = c.in_ok-failures.ensures }
+best_rising-requires-clause-notes c = record { deeds = c.in_ok-first.ensures.deeds; failures = c.in_ok-failures.ensures.right; finds = c.in_ok-finds.ensures (problem_of c.args.p.now) }
 
 pub best_rising-requires-clause-limit : goal.best_rising-requires-clause-limit
 best_rising-requires-clause-limit c =

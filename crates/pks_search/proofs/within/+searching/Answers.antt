@@ -1,4 +1,4 @@
-use Rattle.std.proofs.Common.{◌≡◌, ◌<◌, ◌≤◌, ◌+◌, ◌-◌, ◌*◌, ◌++◌, [], ◌∷◌, ℕ, min, true, List, map, length, get_or, take, drop, Some, None, option_map, refl, sym, ap, ◌∙◌, subst, arith, append-nil}
+use Rattle.std.proofs.Common.{◌≡◌, ◌<◌, ◌≤◌, ◌+◌, ◌-◌, ◌*◌, ◌++◌, [], ◌∷◌, ℕ, min, true, List, map, length, get_or, take, drop, Some, None, IfSome, option_map, refl, sym, ap, ◌∙◌, subst, arith, append-nil}
 use Rattle.std.proofs.lemmas.List.{length-map}
 use Rattle.std.proofs.lemmas.Result.{IfOk-weaker}
 use Rattle.pks_terms.specs.Sets.{Each, IsIn, IsOrdered}
@@ -20,6 +20,7 @@ use Rattle.pks_terms.specs.ChoiceViews.{choice_of, side_of}
 use Rattle.pks_branch.specs.WalkViews.{left_in}
 use Rattle.pks_branch.specs.Walks.{IsNext}
 use Rattle.pks_search_nogoods.specs.Failing.{HasNoTree}
+use Rattle.pks_search_nogoods.specs.Finds.{IsAnswer, IsFound}
 use Rattle.pks_search.specs.Ready.{IsReady}
 use Rattle.pks_search.specs.Limits.{IsBestWithin, IsCheapBy, IsCheapAmong, IsBestAfter, IsBestTaking, AreBestCheapCases}
 use Rattle.pks_search_nogoods.proofs.Costs.{costs_at_most}
@@ -35,6 +36,10 @@ use Rattle.pks_search.specs.Straight.{HasTreesWithin, LastFails}
 use Rattle.pks_search.proofs.Straight.{none_straight}
 use Rattle.pks_laws.proofs.Validity.{valid_typed}
 use Rattle.pks_search.proofs.Witnessed.{each_first, each_other, near_counted, left_near, acted_near, joined_near, taken_near, none_near, none_branching, none_splitting, none_acting}
+use Rattle.pks_terms.proofs.ListLaws.{each_weaker}
+use Rattle.pks_search_witness.specs.Apart.{first_in, second_in}
+use Rattle.pks_search.specs.Twins.{AreTwins, SomeMet}
+use Rattle.pks_search.proofs.Twinned.{acted_each, taken_each, none_meeting}
 use Rattle.pks_search.proofs.within.+searching.Goals as goal
 use Rattle.pks_search.proofs.within.+searching.Goals.{best_within-then-n-eq0-via-then-n-eq0, best_within-then-n-eq0-via-else-n-eq0+then-limit-eq0}
 
@@ -60,7 +65,9 @@ best_after-best_within-requires t c =
     let near = all (pushed h i (five_of c.in-Next.d)) (record { outcome = Next (five_of c.in-Next.d); progress = progress; gives = refl }) in
     let ready = ready_acted c.args.p.now h c.args.spot.now.unread c.args.n i (five_of c.in-Next.d) c.requires.spot.ready c.requires.chosen progress in
     let same = sym c.in_ok-longer-in-Next.ensures in
-    (less, (record { ready = subst (λ g. IsReady c.args.p.now g (c.args.spot.now.unread + 1) c.args.n) same ready; near = subst (Each (IsNear p c.in_ok-longer-in-Next.longer)) (sym c.as_slice.ensures.value) (subst (λ g. Each (IsNear p g) c.in_ok-after-in-Next.after.items) same near) }, record { deeds = c.in_ok-others-in-Next.ensures.deeds; failures = c.requires.notes.failures }))
+    let twins = c.requires.twins (pushed h i (five_of c.in-Next.d)) (record { outcome = Next (five_of c.in-Next.d); progress = progress; gives = refl }) in
+    let both = subst (Each (AreTwins p c.in_ok-longer-in-Next.longer)) (sym c.as_slice-in-Next.ensures.value) (subst (λ g. Each (AreTwins p g) c.args.twins.items) same twins) in
+    (less, (record { ready = subst (λ g. IsReady c.args.p.now g (c.args.spot.now.unread + 1) c.args.n) same ready; near = subst (Each (IsNear p c.in_ok-longer-in-Next.longer)) (sym c.as_slice.ensures.value) (subst (λ g. Each (IsNear p g) c.in_ok-after-in-Next.after.items) same near); twins = both }, record { deeds = c.in_ok-others-in-Next.ensures.deeds; failures = c.requires.notes.failures; finds = c.requires.notes.finds }))
 
 pub best_after-near_after-requires-clause-counted : goal.best_after-near_after-requires-clause-counted
 best_after-near_after-requires-clause-counted t c =
@@ -325,7 +332,8 @@ best_taking-best_within-requires t c =
     let takes = takes p h (choice_of c.args.c.now) (side_of c.args.side) (five_of c.last.result.now) (five_of c.in-Next.d) (outcome_of c.in_ok-assume.field-0) (At c.in-Whole.settled) c.last.ensures (ap outcome_of c.in-Next.is) c.in_ok-assume.ensures.assumes settles in
     let near = taken_near p r.justified (valid_typed p r.valid.says) h (choice_of c.args.c.now) (side_of c.args.side) c.in-Whole.settled c.args.spot.now.near.now c.in_ok-on-in-Whole.on.items c.requires.member takes c.requires.spot.near c.in_ok-on-in-Whole.ensures in
     let ready = ready_taken c.args.p.now h c.in-Whole.settled c.args.spot.now.unread c.args.n (five_of c.in-Next.d) r settles moments read in
-    (less, (record { ready = ready; near = subst (Each (IsNear p c.in-Whole.settled)) (sym c.as_slice.ensures.value) near }, c.requires.notes))
+    let twins = taken_each p r.justified (valid_typed p r.valid.says) h (choice_of c.args.c.now) (side_of c.args.side) c.in-Whole.settled c.args.spot.now.twins.now c.in_ok-twins-in-Whole.twins.items c.requires.member takes c.requires.spot.twins c.in_ok-twins-in-Whole.ensures in
+    (less, (record { ready = ready; near = subst (Each (IsNear p c.in-Whole.settled)) (sym c.as_slice.ensures.value) near; twins = subst (Each (AreTwins p c.in-Whole.settled)) (sym c.as_slice-in-Whole.ensures.value) twins }, c.requires.notes))
 
 pub best_taking-returns-in-Clash-clause-best : goal.best_taking-returns-in-Clash-clause-best
 best_taking-returns-in-Clash-clause-best t c =
@@ -337,8 +345,8 @@ best_taking-returns-in-Clash-2-clause-best t c =
     taking_next p c.args.spot.now.history.now c.args.n c.args.limit (choice_of c.args.c.now) (side_of c.args.side) (five_of c.last.result.now) (five_of c.in-Next.d) (outcome_of c.in_ok-assume.field-0) (state_of c.in_ok-settle_after-in-Next.field-0) Stopped (Some Impossible)
     c.last.ensures (ap outcome_of c.in-Next.is) c.in_ok-assume.ensures.assumes c.in_ok-settle_after-in-Next.ensures.settles (ap state_of c.in-Clash-2.is) (cheap_stopped p c.args.n c.args.limit)
 
-pub best_taking-returns-in_ok-on-in-Whole-clause-best : goal.best_taking-returns-in_ok-on-in-Whole-clause-best
-best_taking-returns-in_ok-on-in-Whole-clause-best t c =
+pub best_taking-returns-in_ok-twins-in-Whole-clause-best : goal.best_taking-returns-in_ok-twins-in-Whole-clause-best
+best_taking-returns-in_ok-twins-in-Whole-clause-best t c =
     let p = problem_of c.args.p.now in
     let choice = choice_of c.args.c.now in
     let side = side_of c.args.side in
@@ -396,7 +404,7 @@ best_by_action-returns-then-barren-clause-best t c =
     let k = each_first (IsNear p h) c.args.spot.now.near.now c.front.result.now c.front.ensures c.requires.spot.near in
     let near : AreNearAfter p h i first = acted_near p r.justified s h i c.front.result.now first c.requires.chosen k c.in_ok-first.ensures.becomes in
     let fails : LastFails p h c.is_tight-tight.result (c.args.n + 1) c.args.limit = c.in_ok-barren.ensures.fails c.if-barren.true in
-    let tight : is_tight first (min c.args.n (c.args.limit - c.action_cost-own.result)) ≡ true = sym (c.is_tight-tight.ensures ∙ (ap (λ xs. is_tight xs c.min-room.result) c.as_slice-2.ensures.value ∙ ap (is_tight first) c.min-room.ensures)) ∙ fails.tight_is in
+    let tight : is_tight first (min c.args.n (c.args.limit - c.action_cost-own.result)) ≡ true = sym (c.is_tight-tight.ensures ∙ (ap (λ xs. is_tight xs c.min-room.result) c.as_slice-3.ensures.value ∙ ap (is_tight first) c.min-room.ensures)) ∙ fails.tight_is in
     none_straight p r.justified s r.valid.says fails.plain h i first c.args.n c.args.limit c.action_cost-own.result near tight fails.none c.action_cost-own.ensures c.if-limit-own.false
 
 pub best_by_action-best_after-requires : goal.best_by_action-best_after-requires
@@ -407,7 +415,15 @@ best_by_action-best_after-requires t c =
     let less : c.args.n * 32 + 3 < t = omega (arith, c.decreases) in
     let k = each_first (IsNear p h) c.args.spot.now.near.now c.front.result.now c.front.ensures c.requires.spot.near in
     let near = acted_near p r.justified (valid_typed p r.valid.says) h (instance_of c.args.step.now) c.front.result.now c.in_ok-first.first.items c.requires.chosen k c.in_ok-first.ensures.becomes in
-    (less, (c.requires.spot, (c.requires.chosen, (record { deeds = c.in_ok-first.ensures.deeds; failures = c.in_ok-barren.ensures.right }, near))))
+    let twins = acted_each p r.justified (valid_typed p r.valid.says) h (instance_of c.args.step.now) c.args.spot.now.twins.now c.in_ok-twins.twins.items c.requires.chosen c.requires.spot.twins c.in_ok-twins.ensures in
+    (less, (c.requires.spot, (c.requires.chosen, (record { deeds = c.in_ok-first.ensures.deeds; failures = c.in_ok-barren.ensures.right; finds = c.requires.notes.finds }, (near, twins)))))
+
+pub best_by_action-returns-then-some_met-clause-best : goal.best_by_action-returns-then-some_met-clause-best
+best_by_action-returns-then-some_met-clause-best t c =
+    let p = problem_of c.args.p.now in
+    let r = c.requires.spot.ready in
+    let some : SomeMet c.in_ok-twins.twins.items = subst SomeMet c.as_slice-2.ensures.value (c.some_met.ensures c.if-some_met.true) in
+    none_meeting p r.justified (valid_typed p r.valid.says) c.args.spot.now.history.now (instance_of c.args.step.now) c.args.spot.now.twins.now c.in_ok-twins.twins.items (c.args.n + 1) c.args.limit c.requires.chosen c.requires.spot.twins c.in_ok-twins.ensures some
 
 pub best_unmet-best_of_rest-requires : goal.best_unmet-best_of_rest-requires
 best_unmet-best_of_rest-requires t c =
@@ -418,7 +434,8 @@ best_unmet-best_of_rest-requires t c =
     let same : HasTreesWithin p h rest c.args.n c.args.limit = c.in_ok-rest.ensures in
     let ready = rest_ready c.args.p.now h rest c.args.spot.now.unread c.args.n c.args.limit same c.requires.spot.ready in
     let near = left_near p h rest c.args.spot.now.near.now same.left c.requires.spot.near in
-    (less, (record { ready = ready; near = near }, (rest_unmet p h rest c.args.n c.args.limit same c.requires.unmet, (c.requires.some, c.requires.notes))))
+    let twins = each_weaker (AreTwins p h) (AreTwins p rest) (λ x m. same.twins (first_in x) (second_in x) m) c.args.spot.now.twins.now c.requires.spot.twins in
+    (less, (record { ready = ready; near = near; twins = twins }, (rest_unmet p h rest c.args.n c.args.limit same c.requires.unmet, (c.requires.some, c.requires.notes))))
 
 pub best_unmet-returns-clause-best : goal.best_unmet-returns-clause-best
 best_unmet-returns-clause-best t c =
@@ -434,14 +451,14 @@ pub best_of_rest-returns-then-tells-clause-best : goal.best_of_rest-returns-then
 best_of_rest-returns-then-tells-clause-best t c = c.tells.ensures.told c.if-tells.true c.requires.spot.ready.valid.says c.requires.spot.ready.moments c.requires.notes.failures
 
 pub best_of_rest-returns-then-tells-clause-notes : goal.best_of_rest-returns-then-tells-clause-notes
-best_of_rest-returns-then-tells-clause-notes t c = record { deeds = c.requires.notes.deeds; failures = c.tells.ensures.right (problem_of c.args.p.now) c.requires.notes.failures }
+best_of_rest-returns-then-tells-clause-notes t c = record { deeds = c.requires.notes.deeds; failures = c.tells.ensures.right (problem_of c.args.p.now) c.requires.notes.failures; finds = c.requires.notes.finds }
 
 pub best_of_rest-best_of_choices-requires : goal.best_of_rest-best_of_choices-requires
 best_of_rest-best_of_choices-requires t c =
     let same : c.args.n ≡ c.args.n - 1 + 1 = omega (arith, c.requires.some) in
     let less : (c.args.n - 1) * 32 + 31 < t = omega (arith, c.decreases, c.requires.some) in
     let right = c.tells.ensures.right (problem_of c.args.p.now) c.requires.notes.failures in
-    (less, (subst (MayGoOn c.args.p.now c.args.spot.now) same c.requires.spot, (c.requires.unmet, record { deeds = c.requires.notes.deeds; failures = right })))
+    (less, (subst (MayGoOn c.args.p.now c.args.spot.now) same c.requires.spot, (c.requires.unmet, record { deeds = c.requires.notes.deeds; failures = right; finds = c.tells-2.ensures.found (problem_of c.args.p.now) c.requires.notes.finds })))
 
 pub best_of_rest-returns-in-None-clause-notes : goal.best_of_rest-returns-in-None-clause-notes
 best_of_rest-returns-in-None-clause-notes t c =
@@ -449,4 +466,26 @@ best_of_rest-returns-in-None-clause-notes t c =
     let h = c.args.spot.now.history.now in
     let same : c.args.n - 1 + 1 ≡ c.args.n = omega (arith, c.requires.some) in
     let none : IsBestWithin p (At h) (c.args.n - 1 + 1) c.args.limit None = subst (λ o. IsBestWithin p (At h) (c.args.n - 1 + 1) c.args.limit (option_map tree_of o)) c.in-None.is c.in_ok-t.ensures.best in
-    record { deeds = c.in_ok-t.ensures.notes.deeds; failures = c.note.ensures p c.requires.spot.ready.moments (subst (λ k. HasNoTree p h k c.args.limit) same none) c.in_ok-t.ensures.notes.failures }
+    record { deeds = c.in_ok-t.ensures.notes.deeds; failures = c.note-in-None.ensures.right p c.requires.spot.ready.moments (subst (λ k. HasNoTree p h k c.args.limit) same none) c.in_ok-t.ensures.notes.failures; finds = c.in_ok-t.ensures.notes.finds }
+
+-- ---- what the table of finds tells, and what is noted there
+
+pub best_of_rest-returns-in-Some-clause-best : goal.best_of_rest-returns-in-Some-clause-best
+best_of_rest-returns-in-Some-clause-best t c =
+    let p = problem_of c.args.p.now in
+    subst (λ o. IfSome o (λ told. IsAnswer p c.args.spot.now.history.now c.args.n c.args.limit (option_map tree_of told))) c.in-Some.is (c.tells-2.ensures.told p c.requires.spot.ready.valid.says c.requires.notes.finds)
+
+pub best_of_rest-returns-in-Some-clause-notes : goal.best_of_rest-returns-in-Some-clause-notes
+best_of_rest-returns-in-Some-clause-notes t c =
+    let p = problem_of c.args.p.now in
+    record { deeds = c.requires.notes.deeds; failures = c.tells.ensures.right p c.requires.notes.failures; finds = c.tells-2.ensures.found p c.requires.notes.finds }
+
+pub best_of_rest-returns-in-Some-2-clause-notes : goal.best_of_rest-returns-in-Some-2-clause-notes
+best_of_rest-returns-in-Some-2-clause-notes t c =
+    let p = problem_of c.args.p.now in
+    let h = c.args.spot.now.history.now in
+    let found = c.in-Some-2.t in
+    let same : c.args.n - 1 + 1 ≡ c.args.n = omega (arith, c.requires.some) in
+    let best : IsBestWithin p (At h) (c.args.n - 1 + 1) c.args.limit (Some (tree_of found)) = subst (λ o. IsBestWithin p (At h) (c.args.n - 1 + 1) c.args.limit (option_map tree_of o)) c.in-Some-2.is c.in_ok-t.ensures.best in
+    let is : IsFound p h c.args.n c.args.limit (tree_of found) = subst (λ k. IsFound p h k c.args.limit (tree_of found)) same best in
+    record { deeds = c.in_ok-t.ensures.notes.deeds; failures = c.in_ok-t.ensures.notes.failures; finds = c.note.ensures is c.in_ok-t.ensures.notes.finds }

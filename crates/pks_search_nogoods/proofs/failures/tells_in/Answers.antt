@@ -1,6 +1,10 @@
-use Rattle.std.proofs.Common.{nat_eq, Contains, ap, subst, sym, ◌∙◌}
+use Rattle.std.proofs.Common.{ℕ, nat_eq, Contains, ap, subst, sym, ◌∙◌}
 use Rattle.lru.proofs.CallerLemmas.{Contains-promoted, Contains-lookup}
 use Rattle.std.specs.Option.{option_copied}
+use Rattle.lru.specs.LruCache.{LruCache}
+use Rattle.pks_search_nogoods.specs.Standing.{at_mark}
+use Rattle.pks_search_nogoods.specs.declared.failures.Failure.{Failure}
+use Rattle.pks_search_nogoods.proofs.Standing.{promoted_alike}
 use Rattle.pks_search_nogoods.proofs.failures.tells_in.Goals as goal
 
 pub returns-in-Some-clause-told : goal.returns-in-Some-clause-told
@@ -17,3 +21,11 @@ returns-in-Some-clause-right c = λ p right mark x there.
 pub returns-in-None-clause-right : goal.returns-in-None-clause-right
 returns-in-None-clause-right c = λ p right mark x there.
     right mark x (Contains-promoted (nat_eq c.args.asked.now.at.key.now.mark) c.args.table.now.entries (mark, x) (subst (λ y. Contains y.entries (mark, x)) c.promote.ensures.entries there))
+
+pub returns-in-Some-clause-kept : goal.returns-in-Some-clause-kept
+returns-in-Some-clause-kept c = λ m.
+    ap (λ (t : LruCache ℕ Failure). at_mark t m) c.promote.ensures.entries ∙ promoted_alike c.args.asked.now.at.key.now.mark c.args.table.now.entries m
+
+pub returns-in-None-clause-kept : goal.returns-in-None-clause-kept
+returns-in-None-clause-kept c = λ m.
+    ap (λ (t : LruCache ℕ Failure). at_mark t m) c.promote.ensures.entries ∙ promoted_alike c.args.asked.now.at.key.now.mark c.args.table.now.entries m

@@ -26,6 +26,7 @@ loop-f-preserved c =
       least = least_more s c.loop-f.f v c.loop-f.values.entries c.fill.new.values.entries (c.least_of-least.ensures ∙ sym (ap (λ o. option_map_or (λ (y : Shape). first_of (objects_of s y.result)) o 0) declared)) c.in_ok-fill.ensures.only c.loop-f.invariant.least;
       filled = λ few. filled_more s c.loop-f.f v (shape_of x) c.loop-f.values.entries c.fill.new.values.entries declared c.in_ok-fill.ensures.only
           (subst (λ (ts : List TypeId). WritesAll s c.loop-f.f (types_of ts) v c.fill.new.values.entries) c.front-types.ensures (c.in_ok-fill.ensures.all (narrow few))) (c.loop-f.invariant.filled few);
+      counts = c.in_ok-fill.ensures.counts c.loop-f.invariant.counts;
     }
 
 pub returns-clause-filled : goal.returns-clause-filled

@@ -1,13 +1,10 @@
-use Rattle.std.proofs.Common.{List, ap, ◌∙◌, sym, subst}
+use Rattle.std.proofs.Common.{sym, subst}
 use Rattle.std.specs.Option.{IfSome}
-use Rattle.pks_terms.specs.declared.literal.Literal.{Literal}
-use Rattle.pks_terms.specs.Views.{literals_in, problem_of}
+use Rattle.pks_terms.specs.Views.{problem_of}
 use Rattle.pks_world.specs.Contents.{world_of}
 use Rattle.pks_world.specs.declared.worlds.World.{World}
 use Rattle.pks_search_distance.specs.Levels.{IsBound}
-use Rattle.pks_search_distance.specs.Unmet.{unmet}
 use Rattle.pks_search_distance.proofs.Meeting.{greater_bounds}
-use Rattle.pks_search_distance.proofs.Least.{least_bounds}
 use Rattle.pks_search_distance.proofs.Remembering.{beside, with_table}
 use Rattle.pks_search_distance.proofs.deeds.Deeds.bound.Goals as goal
 
@@ -19,10 +16,7 @@ needs-requires c =
 pub returns-then-is_enough-clause-bound : goal.returns-then-is_enough-clause-bound
 returns-then-is_enough-clause-bound c =
     let p = problem_of c.args.p.now in
-    let x = c.args.self.now in
-    let counted = c.unmet.ensures ∙ ap (λ (ls : List Literal). unmet (world_of c.deref-world.result.now) (literals_in ls)) c.as_slice.ensures.value in
-    subst (λ (w : World). IsBound p (world_of w) c.fewest-few.result) c.deref-world.ensures
-    (least_bounds p (world_of c.deref-world.result.now) (literals_in x.wanted.items) x.met c.unmet.result c.args.most c.fewest-few.result c.requires.wanted c.requires.few counted c.fewest-few.ensures)
+    subst (λ (w : World). IsBound p (world_of w) c.few-counted.result) c.deref-world.ensures (c.few-counted.ensures p c.requires)
 
 pub returns-in-Some-clause-bound : goal.returns-in-Some-clause-bound
 returns-in-Some-clause-bound c =
@@ -38,21 +32,15 @@ returns-in-Some-clause-deeds c =
 pub returns-clause-bound : goal.returns-clause-bound
 returns-clause-bound c =
     let p = problem_of c.args.p.now in
-    let x = c.args.self.now in
     let w = world_of c.deref-world.result.now in
-    let counted = c.unmet.ensures ∙ ap (λ (ls : List Literal). unmet w (literals_in ls)) c.as_slice.ensures.value in
-    let few = least_bounds p w (literals_in x.wanted.items) x.met c.unmet.result c.args.most c.fewest-few.result c.requires.wanted c.requires.few counted c.fewest-few.ensures in
-    let both = subst (IsBound p w) (sym c.greater-needs.ensures) (greater_bounds p w c.fewest-few.result c.in_ok-levels.levels few c.in_ok-levels.ensures) in
+    let both = subst (IsBound p w) (sym c.greater-needs.ensures) (greater_bounds p w c.few-counted.result c.in_ok-levels.levels (c.few-counted.ensures p c.requires) c.in_ok-levels.ensures) in
     subst (λ (w : World). IsBound p (world_of w) c.greater-needs.result) c.deref-world.ensures both
 
 pub returns-clause-deeds : goal.returns-clause-deeds
 returns-clause-deeds c =
     let p = problem_of c.args.p.now in
-    let x = c.args.self.now in
     let w = world_of c.deref-world.result.now in
-    let counted = c.unmet.ensures ∙ ap (λ (ls : List Literal). unmet w (literals_in ls)) c.as_slice.ensures.value in
-    let few = least_bounds p w (literals_in x.wanted.items) x.met c.unmet.result c.args.most c.fewest-few.result c.requires.wanted c.requires.few counted c.fewest-few.ensures in
-    let both = subst (IsBound p w) (sym c.greater-needs.ensures) (greater_bounds p w c.fewest-few.result c.in_ok-levels.levels few c.in_ok-levels.ensures) in
+    let both = subst (IsBound p w) (sym c.greater-needs.ensures) (greater_bounds p w c.few-counted.result c.in_ok-levels.levels (c.few-counted.ensures p c.requires) c.in_ok-levels.ensures) in
     let holds = subst (λ (w : World). IsBound p (world_of w) c.greater-needs.result) c.deref-world.ensures both in
     with_table p c.args.self.now c.note.new.self c.requires (c.note.ensures p holds (c.tells.ensures.right p c.requires.counted))
 

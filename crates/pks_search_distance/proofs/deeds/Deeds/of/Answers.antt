@@ -8,12 +8,15 @@ use Rattle.pks_terms.specs.Actions.{Instance}
 use Rattle.pks_terms.specs.Problems as problems
 use Rattle.pks_terms.specs.Views.{schema_of, problem_of, aim_of, literals_in}
 use Rattle.pks_search_distance.specs.Runs.{MayBeDone, IsAim}
-use Rattle.pks_search_distance.specs.Unmet.{MeetsAtMost}
+use Rattle.pks_search_distance.specs.Unmet.{AreWanted, MeetsAtMost}
+use Rattle.pks_search_distance.specs.Landmarks.{AddsMarks, ReachAtMost, most_reached}
+use Rattle.pks_search_distance.specs.Marked.{landmarks_of}
 use Rattle.pks_search_distance.specs.Relaxed.{all_deeds, deed_of_instance}
 use Rattle.pks_search_distance.specs.Gained.{deed_of}
 use Rattle.pks_search_distance.specs.Counted.{most_met}
 use Rattle.pks_search_distance.proofs.Grounding.{done_in, few_parameters}
 use Rattle.pks_search_distance.proofs.Unmet.{deeds_meet}
+use Rattle.pks_search_distance.proofs.Marks.{deeds_reach}
 use Rattle.pks_search_distance.proofs.deeds.Deeds.of.Goals as goal
 
 pub add_all_deeds-requires-clause-few : goal.add_all_deeds-requires-clause-few
@@ -27,13 +30,19 @@ returns c =
     let all : deeds ≡ flat_map (all_deeds p.signature) p.schemas = c.in_ok-add_all_deeds.ensures.says ∙ (λ i. map deed_of (c.new-deeds.ensures.items i) ++ flat_map (all_deeds p.signature) (map schema_of (c.as_slice.ensures i))) in
     let listed : (v : World) (i : Instance) → MayBeDone p v i → ((problems.schema_of p i.action).effects ≡ []) ⊎ IsIn (deed_of_instance p i) deeds = λ v i m. ⊎_elim (λ e. inl e) (λ k. inr (subst (IsIn (deed_of_instance p i)) (sym all) k)) (done_in p v i m) in
     let most : c.most_met-met.result ≡ most_met deeds wanted = c.most_met-met.ensures ∙ (λ i. most_met (map deed_of (c.as_slice-3.ensures.value i)) (literals_in (c.as_slice-4.ensures.value i))) in
+    let are : AreWanted p wanted = λ w g. c.in_ok-add_all_wanted.ensures w (subst (λ (aims : List Aim). Each (IsAim w) (map aim_of aims)) (sym c.as_slice-2.ensures) g)
+    (subst (λ (ls : List Literal). Each (λ l. true_in w l ≡ true) (literals_in ls)) (sym c.new-wanted.ensures.items) tt) in
+    let marks = landmarks_of c.in_ok-marks.marks.items in
+    let added : AddsMarks wanted [] marks = subst (λ (ls : List Literal). AddsMarks (literals_in ls) [] marks) c.as_slice-6.ensures.value c.in_ok-marks.ensures in
+    let reached : c.most_reached-reached.result ≡ most_reached deeds marks = c.most_reached-reached.ensures ∙ (λ i. most_reached (map deed_of (c.as_slice-7.ensures.value i)) (landmarks_of (c.as_slice-8.ensures.value i))) in
     record {
       listed = λ w. record {
         placed = c.in_ok-add_all_deeds.ensures.placed;
         listed = λ n v i l m. listed v i m;
+        landmarks = λ v g. added v (are v g) tt;
+        reached = subst (ReachAtMost p marks) (sym reached) (deeds_reach p deeds marks listed);
       };
-      wanted = λ w g. c.in_ok-add_all_wanted.ensures w (subst (λ (aims : List Aim). Each (IsAim w) (map aim_of aims)) (sym c.as_slice-2.ensures) g)
-          (subst (λ (ls : List Literal). Each (λ l. true_in w l ≡ true) (literals_in ls)) (sym c.new-wanted.ensures.items) tt);
+      wanted = are;
       few = subst (MeetsAtMost p wanted) (sym most) (deeds_meet p deeds wanted listed);
       counted = c.in_ok-counts.ensures p;
     }

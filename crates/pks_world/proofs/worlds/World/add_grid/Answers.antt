@@ -8,9 +8,15 @@ use Rattle.pks_world.proofs.worlds.World.add_grid.Goals as goal
 pub loop-d-preserved : goal.loop-d-preserved
 loop-d-preserved c =
     let g = λ (d : ℕ). plane (world_of c.args.self.now) c.args.pred.0 c.args.n d (map object_of c.args.seconds.now) (map object_of c.args.thirds.now) in
-    added_more g c.args.firsts.now (map atom_of c.args.found.now.items) c.loop-d.d-index _ (map atom_of c.loop-d.found.items) (map atom_of c.add_plane.new.found.items) c.loop-d-test.true c.in_ok-add_plane.ensures c.loop-d.invariant
+    record {
+      says = added_more g c.args.firsts.now (map atom_of c.args.found.now.items) c.loop-d.d-index _ (map atom_of c.loop-d.found.items) (map atom_of c.add_plane.new.found.items) c.loop-d-test.true c.in_ok-add_plane.ensures.says c.loop-d.invariant.says;
+      counts = λ n each. c.in_ok-add_plane.ensures.counts n (c.loop-d.invariant.counts n each);
+    }
 
-pub returns : goal.returns
-returns c =
+pub returns-clause-says : goal.returns-clause-says
+returns-clause-says c =
     let g = λ (d : ℕ). plane (world_of c.args.self.now) c.args.pred.0 c.args.n d (map object_of c.args.seconds.now) (map object_of c.args.thirds.now) in
-    added_all g c.args.firsts.now (map atom_of c.args.found.now.items) c.loop-d.d-index (map atom_of c.loop-d.found.items) c.loop-d-test.false c.loop-d.invariant
+    added_all g c.args.firsts.now (map atom_of c.args.found.now.items) c.loop-d.d-index (map atom_of c.loop-d.found.items) c.loop-d-test.false c.loop-d.invariant.says
+
+pub returns-clause-counts : goal.returns-clause-counts
+returns-clause-counts c = λ n each. c.loop-d.invariant.counts n each

@@ -8,10 +8,15 @@ use Rattle.pks_world.proofs.worlds.World.add_row.Goals as goal
 pub loop-f-preserved : goal.loop-f-preserved
 loop-f-preserved c =
     let g = λ (f : ℕ). true_at (world_of c.args.self.now) c.args.pred.0 (take c.args.n (c.args.d.0 ∷ c.args.e.0 ∷ f ∷ [])) in
-    added_more g c.args.others.now (map atom_of c.args.found.now.items) c.loop-f.f-index _ (map atom_of c.loop-f.found.items) (map atom_of c.add_true.new.found.items) c.loop-f-test.true
-    (c.in_ok-add_true.ensures c.args.pred.0 _ c.atom_at.ensures) c.loop-f.invariant
+    record {
+      says = added_more g c.args.others.now (map atom_of c.args.found.now.items) c.loop-f.f-index _ (map atom_of c.loop-f.found.items) (map atom_of c.add_true.new.found.items) c.loop-f-test.true (c.in_ok-add_true.ensures.says c.args.pred.0 _ c.atom_at.ensures.says) c.loop-f.invariant.says;
+      counts = λ n each. c.in_ok-add_true.ensures.counts (c.atom_at.ensures.counts n) (c.loop-f.invariant.counts n each);
+    }
 
-pub returns : goal.returns
-returns c =
+pub returns-clause-says : goal.returns-clause-says
+returns-clause-says c =
     let g = λ (f : ℕ). true_at (world_of c.args.self.now) c.args.pred.0 (take c.args.n (c.args.d.0 ∷ c.args.e.0 ∷ f ∷ [])) in
-    added_all g c.args.others.now (map atom_of c.args.found.now.items) c.loop-f.f-index (map atom_of c.loop-f.found.items) c.loop-f-test.false c.loop-f.invariant
+    added_all g c.args.others.now (map atom_of c.args.found.now.items) c.loop-f.f-index (map atom_of c.loop-f.found.items) c.loop-f-test.false c.loop-f.invariant.says
+
+pub returns-clause-counts : goal.returns-clause-counts
+returns-clause-counts c = λ n each. c.loop-f.invariant.counts n each

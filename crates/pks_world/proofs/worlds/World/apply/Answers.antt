@@ -13,10 +13,10 @@ pub returns-clause-world : goal.returns-clause-world
 returns-clause-world c = λ v.
     let p = problem_of c.args.p.now in
     let w = world_of c.args.self.now in
-    let es = c.written_effects.result.now in
-    c.in_ok-write_all.ensures.world (valid_numbered p c.args.i.now.act.0 es v c.written_effects.ensures.says)
+    let es = c.effects_of.result.now in
+    c.in_ok-write_all.ensures.world (valid_numbered p c.args.i.now.act.0 es v c.effects_of.ensures.says)
     ∙ ap (λ (x : World). written_by w (map (effect_at (given_of c.args.i.now)) (map effect_of es)) x) c.in_ok-next.ensures.world
-    ∙ applied_is p w (instance_of c.args.i.now) es c.written_effects.ensures.says
+    ∙ applied_is p w (instance_of c.args.i.now) es c.effects_of.ensures.says
 
 pub returns-clause-of_signature : goal.returns-clause-of_signature
 returns-clause-of_signature c = λ v a i.
