@@ -49,7 +49,10 @@ def read_meant(text: str) -> Tree:
     lines = _Lines(text)
     tree = _body(lines, 0)
     if lines.at < len(lines.lines):
-        raise lines.fault(f'the plan has ended, and here is `{lines.lines[lines.at][1]}`')
+        line, before = lines.lines[lines.at][1], lines.lines[lines.at - 1][1] if lines.at else ''
+        side = {'branch': '`true` or `false`', 'cases': '`case VALUE`'}.get(before.split()[0] if before else '')
+        raise lines.fault(f'behind `{before}` stands {side}, and here is `{line}`' if side
+                          else f'the plan has ended, and here is `{line}`')
     return tree
 
 
@@ -88,7 +91,8 @@ def _end(lines: _Lines, least: int) -> Tree:
         lines.at += 1
         return _cases(lines, terms[0], own)
     if line and line not in ('true', 'false') and not line.startswith('case '):
-        raise lines.fault(f'no line of a plan: `{line}`')
+        raise lines.fault(f'no line of a plan: `{line}`. A line is an action in parentheses, `branch LITERAL` with `true` '
+                          'and `false`, `cases TERM` with `case VALUE`, `goal` or `impossible`')
     return Stop()  # type: ignore[return-value]
 
 

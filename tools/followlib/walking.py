@@ -128,7 +128,8 @@ class Walk:
         if own is None:
             return f'the file has no action `{act.name}`'
         if len(act.arguments) != len(own.parameters):
-            return f'`{act.name}` has {len(own.parameters)} parameters'
+            form = written((act.name, *own.parameters))
+            return f'`{act.name}` has {len(own.parameters)} parameters, and not {len(act.arguments)}: `{form}`'
         for term, (name, kind) in zip(act.arguments, own.parameters.items()):
             fault = self.fault_of_argument(term, name, kind)
             if fault:

@@ -2,7 +2,7 @@
 
 import enum
 import itertools
-from dataclasses import dataclass
+from dataclasses import dataclass, replace
 from typing import Dict, Iterator, List, Optional, Sequence, Set, Tuple
 
 import pkslib
@@ -15,13 +15,14 @@ class Rank(enum.IntEnum):
 
     ADD_NEVER_COUNTS = 10
     ALWAYS_AT_START = 11
-    LOOK_WITHOUT_BRANCH = 12
-    LAST_OF_GROUP = 13
-    WHETHER_FOR_KNOWN = 14
-    TYPE_TOO_NARROW = 15
-    CASES_APART = 16
-    NESTED = 17
-    SPOILED = 18
+    NOT_SO_AT_START = 12
+    LOOK_WITHOUT_BRANCH = 13
+    LAST_OF_GROUP = 14
+    WHETHER_FOR_KNOWN = 15
+    TYPE_TOO_NARROW = 16
+    CASES_APART = 17
+    NESTED = 18
+    SPOILED = 19
     DEPTH = 20
     TOLD = 21
     TOLD_TOGETHER = 22
@@ -31,6 +32,7 @@ class Rank(enum.IntEnum):
     FEWER_VALUES = 26
     SIGN = 27
     OTHER_WAY = 28
+    FIND_OUT = 29
     START = 30
     START_MORE = 31
     QUERY_GUARD = 32
@@ -68,8 +70,9 @@ def missing_adds(file: File) -> Dict[str, List_]:
         action = file.action(name)
         if action is not None:
             own = {same(add) for add in action.knows}
-            found[name] = tuple(add for add in expressions(' '.join(lines))
-                                if same(add) not in own and not is_valued(action, add))
+            adds = expressions(' '.join(lines))
+            found[name] = tuple(add for add in adds
+                                if same(add) not in own and not is_valued((*action.knows, *adds), add))
     return {name: adds for name, adds in found.items() if adds}
 
 
@@ -81,10 +84,9 @@ def same(expression: Expression) -> Expression:
     return (parts[0], *tuple(sorted(parts[1:], key=written))) if parts[:1] == ('=',) else parts
 
 
-def is_valued(action: Action, add: Expression) -> bool:
-    """Whether an add tells that a value is known which the action tells itself."""
-    return add[0] == 'kv' and any(item_of(own)[0] == 'kf' and item_of(own)[1][0] == '=' and add[1] in item_of(own)[1]
-                                  for own in action.knows)
+def is_valued(adds: Sequence[Expression], add: Expression) -> bool:
+    """Whether an add tells that a value is known which another one of these tells itself."""
+    return add[0] == 'kv' and any(own[0] == 'kf' and own[1][0] == '=' and add[1] in own[1] for own in adds)
 
 
 def with_adds(file: File, name: str, adds: List_) -> File:
@@ -258,6 +260,46 @@ def replaced(expression: Expression, words: Dict[str, Expression]) -> Expression
     if isinstance(expression, str):
         return words.get(expression, expression)
     return (expression[0], *(replaced(part, words) for part in expression[1:]))
+
+
+# Senses
+
+def found_out(file: File) -> Iterator[Change]:
+    """Of each fact and value that is asked for, that no action changes and that none finds out: an action that does."""
+    told = {word for action in file.actions for add in action.knows if item_of(add)[0] in ('kw', 'kv')
+            for word in words_of(item_of(add))}
+    for head in dict.fromkeys(asked_heads(file)):
+        if head not in told | changed_heads(file) and not is_settled(file, head):
+            look, what = finder(file, head), 'its value' if head in file.results else 'whether it is so'
+            yield Change(Rank.FIND_OUT, replace(file, actions=(*file.actions, look)),
+                         'add an action that finds it out, such as', (written(look.expression()),),
+                         f'`{head}` is asked for, no action changes it, and none finds out {what}.')
+
+
+def asked_heads(file: File) -> Iterator[str]:
+    """The predicates and functions of which preconditions and the goal ask what is known."""
+    for literal in needed(file):
+        yield from (word for word in words_of(literal) if word in file.arguments)
+
+
+def is_settled(file: File, head: str) -> bool:
+    """Whether the start says of each place of a predicate or a function what it is."""
+    if any(item[0] == 'lcw' and item[1][0] == head for item in file.init):
+        return True
+    known = {item[1] for item in file.init if item[0] == 'kf'}
+    known |= {side for literal in known if literal[0] == '=' for side in literal[1:]}
+    places = instances(file, (head, *(f'?{kind}' for kind in file.arguments[head])))
+    return all({place, ('not', place)} & known for place in places)
+
+
+def finder(file: File, head: str) -> Action:
+    """An action that finds out a fact or a value, and does nothing else."""
+    names = {action.name for action in file.actions}
+    name = next(name for name in (f'look-at-{head}', *(f'look{n}' for n in range(len(names) + 1))) if name not in names)
+    params = tuple((f'?x{n}', kind) for n, kind in enumerate(file.arguments[head], 1))
+    place = (head, *(variable for variable, _ in params))
+    sense, add = ('sense-value', 'kv') if head in file.results else ('sense', 'kw')
+    return Action(name, params=params, senses=((sense, place),), knows=((add, place),))
 
 
 # The start

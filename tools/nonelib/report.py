@@ -3,6 +3,8 @@
 import textwrap
 from typing import List, Sequence, Tuple
 
+from pkslib import limits
+
 from . import goals
 from .changes import Change, Rank
 from .questions import Outcome
@@ -39,8 +41,19 @@ def indented(text: str) -> List[str]:
 def begun(found: Found, depth: int) -> str:
     """The first line: what is known of the file as it is."""
     if found.base.is_none:
-        return f'There is no plan to depth {depth}.'
+        return f'There is no plan to depth {depth}{deeper(found)}.'
     return f'Whether there is a plan to depth {depth} isn\'t known: the search didn\'t end in its time.'
+
+
+def deeper(found: Found) -> str:
+    """What is known of deeper plans, where no likelier cause was found."""
+    asked = [outcome for change, outcome in found.outcomes.items() if change.rank == Rank.DEPTH]
+    if not asked or any(outcome.depth is not None for outcome in asked) \
+            or any(change.rank < Rank.DEPTH for change in found.cures()):
+        return ''
+    if any(outcome.is_none for outcome in asked):
+        return f', nor to depth {limits.DEPTH}, the greatest'
+    return '; whether there is a deeper one isn\'t known, the search didn\'t end in its time'
 
 
 MOST_SHOWN, MOST_ALIKE = 6, 2
@@ -67,10 +80,13 @@ def told(found: Found, depth: int) -> List[List[str]]:
 def place(change: Change, outcome: Outcome) -> Tuple[int, int, int]:
     """By which changes are sorted: rank, then those with a plan, then the depth.
 
-    An add of which it isn't known whether there is a plan with it comes behind all that are likelier than the rest.
+    An add of which it isn't known whether there is a plan with it comes behind all that are likelier than the rest. Of
+    what is taken for granted at the start the least comes first: that from which the way to the goal is longest.
     """
     rank = change.rank if outcome.depth is not None or change.always else max(change.rank, Rank.SIGN)
-    return rank, int(outcome.depth is not None and rank == Rank.SIGN), outcome.depth or 0
+    rank = Rank.START if rank == Rank.START_MORE else rank
+    depth = outcome.depth or 0
+    return rank, int(outcome.depth is not None and rank == Rank.SIGN), -depth if rank >= Rank.START else depth
 
 
 def said_of(change: Change, outcome: Outcome, depth: int, is_said: bool) -> List[str]:

@@ -66,6 +66,7 @@ class Search:
         yield from changes.sensed_apart(self.file)
         yield from changes.guards(self.file)
         yield from changes.signs(self.file)
+        yield from changes.found_out(self.file)
         yield from changes.starts(self.file)
         yield from changes.queries_out(self.file)
 
@@ -88,6 +89,7 @@ class Search:
         if found.base.depth is not None:
             return None
         self.ask_deeper(found)
+        self.ask_cures_deeper(found)
         self.ask_goals(found)
         return found
 
@@ -102,6 +104,17 @@ class Search:
                 and not any(outcome.ended for outcome in asked):
             seconds = max(seconds_for(Rank.DEPTH, 0, self.asking.seconds), LONGER * found.base.seconds)
             found.outcomes[self.greater_depth()] = self.asking.ask(self.file, limits.DEPTH, seconds)
+
+    def ask_cures_deeper(self, found: Found) -> None:
+        """Asks deeper what the text of the actions lacks, where that alone made no plan and nothing likelier did."""
+        if any(change.rank < Rank.START for change in found.cures()):
+            return
+        seconds = seconds_for(Rank.DEPTH, 0, self.asking.seconds)
+        for change, outcome in list(found.outcomes.items()):
+            if change.rank in (Rank.TOLD_TOGETHER, Rank.FIND_OUT) and outcome.is_none and self.asking.left() > seconds:
+                again = self.asking.ask(change.file, limits.DEPTH, seconds)
+                if again.depth is not None:
+                    found.outcomes[change] = again
 
     def greater_depth(self) -> Change:
         """The file itself to the greatest depth."""

@@ -14,8 +14,8 @@ from .changes import Change, Rank, changed_heads, item_of, target, texts
 
 def traps(file: File) -> Iterator[Change]:
     """All traps that stand in a file."""
-    for trap in (add_never_counts, always_at_start, look_without_branch, last_of_group, whether_for_known,
-                 type_too_narrow, cases_apart, fewer_values, nested_value, may_be_spoiled):
+    for trap in (add_never_counts, always_at_start, not_so_at_start, look_without_branch, last_of_group,
+                 whether_for_known, type_too_narrow, cases_apart, fewer_values, nested_value, may_be_spoiled):
         yield from trap(file)
 
 
@@ -52,6 +52,17 @@ def always_at_start(file: File) -> Iterator[Change]:
             item = ('kf', query[1])
             yield Change(Rank.ALWAYS_AT_START, file.with_init(item), 'in `init` add', (written(item),),
                          f'{written(aim)} asks for every moment, and at the first one it isn\'t known.')
+
+
+def not_so_at_start(file: File) -> Iterator[Change]:
+    """`at-start` of what the start says the contrary of: the goal with what the start says, asked of the end."""
+    for at, aim, query in aims(file, 'at-start'):
+        if query[0] == 'k' and ('kf', negated(query[1])) in file.init:
+            found = ('k', negated(query[1]))
+            yield Change(Rank.NOT_SO_AT_START, with_aim(file, at, found),
+                         'for its being at the end as it was found, ask for', (written(found),),
+                         f'{written(aim)} asks what was so at the start, and `init` says the contrary: no plan changes '
+                         'that.', True)
 
 
 def look_without_branch(file: File) -> Iterator[Change]:

@@ -170,6 +170,8 @@ def fact_cures(names: Names, action: Form, add: Form, given: Sequence[Form],
     """Changes for a `kf`."""
     item = add.parts[-1] if add.head() == 'if' else add
     literal = item.rest()[0]
+    if stays(literal, given, found) and add.parent is not None and len(add.parent.rest()) > 1:
+        yield Change(add, '')
     plain = literal.rest()[0] if literal.head() == 'not' else literal
     for sense in names.section(action, 'senses'):
         if sense.head() == 'sense' and len(sense.rest()) == 1 and sense.rest()[0].text() in (literal.text(), plain.text()):
@@ -197,6 +199,9 @@ def whether_cures(names: Names, action: Form, add: Form, given: Sequence[Form],
             yield Change(item, '(kw ' + ' '.join(l.text() for l in sense.rest()) + ')')
         if sense.head() == 'sense-value' and len(literals) == 1 and literals[0].head() == '=':
             yield Change(item, f'(kv {sense.rest()[0].text()})')
+    for sense in names.section(action, 'senses'):
+        if sense.head() == 'sense' and not is_told(names, action, sense):
+            yield Change(item, f'(kw {" ".join(l.text() for l in sense.rest())})')
     if len(literals) == 1:
         atom = literals[0].rest()[0] if literals[0].head() == 'not' else literals[0]
         for effect in found:
@@ -209,6 +214,12 @@ def whether_cures(names: Names, action: Form, add: Form, given: Sequence[Form],
                 yield Change(item, f'(kf {atom.text() if effect.verb == "set" else f"(not {atom.text()})"})')
     if not any(e.target[0].head() in {l.head() for l in literals} for e in found):
         yield Change(add, f'(sense {" ".join(texts)})', 'senses')
+
+
+def is_told(names: Names, action: Form, sense: Form) -> bool:
+    """Whether an action tells what a sense finds out."""
+    literals = [l.text() for l in sense.rest()]
+    return any([l.text() for l in add.rest()] == literals for add in names.section(action, 'knows') if add.head() == 'kw')
 
 
 def value_cures(names: Names, action: Form, add: Form, given: Sequence[Form],
@@ -228,6 +239,42 @@ def is_toggle(found: Sequence[Effect], literal: Form) -> bool:
     atom = literal.rest()[0] if literal.head() == 'not' else literal
     own = [e for e in found if e.verb in ('set', 'unset') and e.target[0].text() == atom.text() and e.conditions]
     return {e.verb for e in own} == {'set', 'unset'}
+
+
+def contrary(literal: Form) -> str:
+    """The literal with the other sign."""
+    return literal.rest()[0].text() if literal.head() == 'not' else f'(not {literal.text()})'
+
+
+def stays(literal: Form, given: Sequence[Form], found: Sequence[Effect]) -> Optional[str]:
+    """Why a fact that an add tells stays as it was: no effect on it has a condition that may hold there; or None."""
+    plain = literal.rest()[0] if literal.head() == 'not' else literal
+    own = [e for e in found if e.subject() == plain.head()]
+    off = [next((c for c in e.conditions if is_given_not(c, given)), None) for e in own]
+    if not own or None in off or any(makes(e, literal) for e in own):
+        return None
+    return f'where `{contrary(off[0])}` is known its effect on `{plain.head()}` doesn\'t come about'
+
+
+def is_given_not(literal: Form, given: Sequence[Form]) -> bool:
+    """Whether a given query asks that a literal is known to be false."""
+    return any(q.head() == 'k' and negates(q.rest()[0], literal) for q in given)
+
+
+def law(names: Names, action: Form, item: Form) -> List[str]:
+    """What is said of an add that tells one fact where another one, which is sensed, is known to be so."""
+    add, told = item.parent, item.rest()[0]
+    queries = add.parts[1].parts if add is not None and add.head() == 'if' else []
+    sensed = {part.text() for s in names.section(action, 'senses') if s.head() == 'sense' for part in s.rest()}
+    for query in queries:
+        literal = query.rest()[0] if query.head() == 'k' and query.rest() else None
+        if literal is not None and {literal.text(), contrary(literal)} & sensed and told.head() != '=':
+            each = ' for each choice of objects' if '?' in literal.text() + told.text() else ''
+            return ['An action tells of its own effects and senses alone, and not that one fact goes with another. Sense '
+                    f'`{told.text()}` itself in place of `{literal.text()}`; or, where the one is so at the start just '
+                    f'where the other is, write{each} in `init` that exactly one of these is true: `(kx '
+                    f'{contrary(literal)} {told.text()})`.']
+    return []
 
 
 def toggled(names: Names, action: Form, literal: Form) -> List[str]:
@@ -263,11 +310,21 @@ def fact(names: Names, action: Form, item: Form, given: Sequence[Form], found: S
     senses = names.section(action, 'senses')
     if any(s.head() == 'sense' and literal.text() in [l.text() for l in s.rest()] for s in senses):
         return [f'What is sensed may come out either way, so it is told by `kw`, not by `kf`: `(kw {literal.text()})`.']
+    why = stays(literal, given, found)
+    if why:
+        return [f'What stays as it was needn\'t be told: {why}, so what was known before is still known. Leave the add out.']
+    rule = law(names, action, item)
+    if rule:
+        return rule
     case = 'J2' if literal.head() == '=' else 'J1'
     said = [f'A `kf` wants an effect that makes it so ({case}): `{wanted(literal)}`. The action\'s '
             f'effects: {", ".join("`" + e.form.text() + "`" for e in found) or "none"}.']
     if any(s.head() == 'sense' for s in senses):
         said.append('What is sensed may come out either way, so it is told by `kw`, not by `kf`.')
+    plain = literal.rest()[0] if literal.head() == 'not' else literal
+    if plain.head() != '=' and not any(e.subject() == plain.head() for e in found):
+        said.append(f'The action doesn\'t change `{plain.head()}`, and what isn\'t changed stays known as it was: that '
+                    'needn\'t be told.')
     return said
 
 
@@ -308,6 +365,8 @@ def whether(names: Names, action: Form, item: Form, given: Sequence[Form], found
         if s.head() == 'sense' and any(t.text() == l.text() for t in s.rest() for l in literals):
             said.append(f'Nearest: `{s.text()}` finds whether all of its literals are true '
                         'together: tell just that, or sense this one alone.')
+        elif s.head() == 'sense' and not is_told(names, action, s):
+            said.append(f'What it finds out isn\'t told: `(kw {" ".join(l.text() for l in s.rest())})`.')
     return said
 
 

@@ -175,6 +175,9 @@ class Patient:
         if letter == '.':
             yield Cure([(found.start(), found.end(), '-')
                         for found in re.finditer(r'(?<=[A-Za-z0-9_-])\.(?=[A-Za-z0-9_-])', self.text.code())])
+        if letter in '#/':
+            yield Cure([(found.start(1), found.end(1), ';')
+                        for found in re.finditer(rf'(?m)(?:^|[ \t])({re.escape(letter)}+)(?=[ \t]|$)', self.text.code())])
         yield Cure([(found.start(), found.end(), ' ') for found in re.finditer(re.escape(letter), self.text.code())])
 
     def beginning(self) -> Iterator[Cure]:
@@ -230,6 +233,9 @@ class Patient:
             yield self.in_order(parent, order)
         if head in LEFT_OUT:
             yield self.without(form)
+        if head in ('problem', 'world') and parent.head() in ('domain', 'problem') and form is parent.parts[-1] and parent.end:
+            before = parent.parts[-2].end or form.start
+            yield Cure([(before, before, ')'), (parent.end - 1, parent.end, '')])
         heads = {'senses': grammar.SENSES, 'effects': grammar.TARGETS + ['when'], 'pre': grammar.QUERIES + ['not-derived'],
                  'knows': grammar.ITEMS + ['if']}
         for section, own in heads.items():
@@ -285,6 +291,9 @@ class Patient:
             if other:
                 yield self.everywhere(form.word, other)
                 yield self.instead(form, other)
+        outside = grammar.turned_out(form.parent)
+        if outside and form.parent.parent is not None:
+            yield self.instead(form.parent.parent, outside)
         if form.word in grammar.QUERIES + grammar.ITEMS and len(form.parent.rest()) == 1:
             yield self.instead(form.parent, form.parent.rest()[0].text())
         section = form.parent

@@ -157,6 +157,16 @@ def version_hint(form: Form, version: int) -> Optional[str]:
     return None
 
 
+def turned_out(form: Form) -> Optional[str]:
+    """Of `(k (at-start (p)))`, whose inner list is given, `(at-start (k (p)))`; None where nothing is to be turned."""
+    query, inner = form.parent, form.rest()
+    if query is None or query.head() not in QUERIES or len(inner) != 1:
+        return None
+    if form.head() not in (AIMS if role(query) == 'aim' else ['not-derived'] if role(query) == 'query' else []):
+        return None
+    return f'({form.head()} ({query.head()} {inner[0].text()}))'
+
+
 def is_var(form: Form) -> bool:
     """Whether a form is a parameter."""
     return bool(form.word and VARIABLE.match(form.word))

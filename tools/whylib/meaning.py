@@ -87,6 +87,8 @@ def fact_form(place: Form) -> List[str]:
     verb = place.parent.head() if place.parent is not None else None
     if verb == 'kv':
         return [f'`kv` is of values; that it will be known whether a fact is so is `(kw {place.text()})`.']
+    if verb == 'assign':
+        return [f'A fact becomes true by `(set {place.text()})`, and false by `(unset {place.text()})`.']
     return [f'A fact is sensed by `(sense {place.text()})`.'] if verb == 'sense-value' else []
 
 
@@ -113,6 +115,12 @@ def undeclared(names: Names, form: Form) -> List[str]:
         inner = form.parent.rest()[0].text() if form.parent.rest() else '..'
         said.append(f'Here stands a literal alone, which is about the world and not about what is '
                     f'known: write `{inner}`.')
+    outside = grammar.turned_out(form.parent)
+    if outside:
+        said.append(f'`{word}` stands around a query, and not within one: write `{outside}`.')
+    if kind == 'a type' and grammar.role(form.parent) in ('predicates', 'functions'):
+        said.append(f'Behind the name `{form.parent.head()}` stand the types of its arguments'
+                    + (', and last that of its value.' if grammar.role(form.parent) == 'functions' else '.'))
     return said
 
 

@@ -138,6 +138,8 @@ def specific(form: Form) -> Optional[List[str]]:
         return [f'Capital letters count: write `{head.lower()}`.']
     if head and head.lower() in FOREIGN:
         return [FOREIGN[head.lower()]]
+    if kind == 'section' and (form.parent.head(), head) in (('problem', 'world'), ('domain', 'problem')):
+        return [f'`({head} ..)` stands behind `({form.parent.head()} ..)`, and not within it.']
     if kind == 'section' and head in WHERE:
         return belongs(head, [])
     heads = grammar.allowed(kind)

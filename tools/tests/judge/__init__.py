@@ -11,6 +11,6 @@ program, nor any of the ways in which that saves work. A module stands for a rul
     settling, search            RULES 13, 15; what `recall` prints
     worlds                      RULES 3 and 16, by trying all worlds
     generator, templates        the problems, by chance and around one rule each
-    alike                       problems of which objects are alike
-    comparison                  what is compared
+    alike, past                 problems of which objects are alike, or whose past stays open
+    comparison, programs        what is compared, and with what
 """

@@ -11,15 +11,14 @@ from typing import Callable, Dict, Iterator, List, Sequence, Tuple
 
 from pkslib import Expression, written
 
-from .generator import Declared, Maker, Parameters
-from .templates import Actions, action, flag, opposite, when
+from .generator import OVER_TIME, Declared, Maker, Parameters
+from .templates import Actions, action, flag, named_apart, opposite, when
 
 Thing = Sequence[Tuple[str, str]]
 """Parameters of a template's action."""
 
 ONE: Thing = [('?x', 't')]
 TWO: Thing = [('?x', 't'), ('?y', 't')]
-OVER_TIME = ('at-start', 'always', 'once')
 MOST_AIMS = 6
 MOST_ITEMS = 24
 
@@ -128,10 +127,6 @@ class AlikeMaker(Maker):
             self.chance.shuffle(items)
         return tuple(items)
 
-    def atoms(self, name: str) -> List[Expression]:
-        """All ground atoms of a predicate."""
-        return sorted(self.declared.instances({name: self.declared.predicates[name]}))
-
     def known_of(self, name: str) -> List[Expression]:
         """What the start knows of a predicate."""
         atoms = self.atoms(name)[:MOST_ITEMS]
@@ -152,13 +147,6 @@ class AlikeMaker(Maker):
         if kind == 'some':
             return [('kf', self.true_one(atom)) for atom in atoms if self.may(0.5)]
         return []
-
-    def one_of(self, atoms: Sequence[Expression]) -> None:
-        """Lets one of the atoms be true."""
-        true = self.chance.choice(list(atoms))
-        for atom in atoms:
-            self.declared.true.discard(atom)
-        self.declared.true.add(true)
 
     def region_of(self, name: str) -> List[Expression]:
         """What is true of a predicate, and that it is all; of some places of it, or everywhere."""
@@ -249,19 +237,6 @@ class AlikeMaker(Maker):
             found += self.chance.choice(TEMPLATES)(self)
         found += [self.action(n) for n in range(self.chance.choice([0, 0, 1, 1, 2]))]
         return named_apart(self.priced(found))
-
-    def priced(self, actions: Actions) -> Actions:
-        """The actions, in version 2 some at a cost."""
-        if self.version != 2 or self.may(0.5):
-            return actions
-        return [(*one[:2], ('cost', str(self.chance.choice([1, 2, 3]))), *one[2:])
-                if one[2:] and one[2][0] != 'cost' else one for one in actions]
-
-
-def named_apart(actions: Actions) -> Actions:
-    """The actions, each of a name of its own."""
-    return [('action', f'{one[1]}-{n}', *one[2:]) for n, one in enumerate(actions)]
-
 
 # ---- templates: each adds what it needs to what a maker has declared, and says some aims
 

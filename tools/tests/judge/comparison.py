@@ -129,8 +129,9 @@ class Comparison:
     """Compares files, and keeps those of which something differs in a folder of their own."""
 
     def __init__(self, program: str, limits: Optional[Limits] = None,
-                 maker: Callable[[random.Random], Maker] = Maker) -> None:
+                 maker: Callable[[random.Random], Maker] = Maker, tool: str = 'plan-generated') -> None:
         self.program = program
+        self.tool = tool
         self.limits = limits or Limits()
         self.maker = maker
         self.counts = Counts()
@@ -150,11 +151,15 @@ class Comparison:
 
     def fault(self, name: str, text: str, what: str) -> None:
         """Notes a fault, and keeps the file."""
-        self.folder = self.folder or tempfile.mkdtemp(prefix='pks-plan-generated-')
+        self.counts.faults.append(f'{self.kept(name, text)}: {what}')
+
+    def kept(self, name: str, text: str) -> str:
+        """The path of a file that is kept."""
+        self.folder = self.folder or tempfile.mkdtemp(prefix=f'pks-{self.tool}-')
         path = os.path.join(self.folder, f'{name}.pks')
         with open(path, 'w', encoding='ascii') as file:
             file.write(text)
-        self.counts.faults.append(f'{path}: {what}')
+        return path
 
     def file(self, number: int) -> None:
         """Makes the file of a number, and compares all that is printed of it."""
@@ -185,7 +190,7 @@ class Comparison:
         return Made(bare, derived, text, maker.depth, problem, Planner(problem, self.limits.states))
 
     def adds(self, maker: Maker, forms: List[Expression], derived: str) -> Dict[str, List[Expression]]:
-        """The adds of each action: those that are derived of it, and sometimes others."""
+        """The adds of each action: those that are derived of it, and sometimes others, or what the maker leaves of them."""
         found: Dict[str, List[Expression]] = {}
         name = ''
         for line in derived.splitlines():
@@ -197,7 +202,7 @@ class Comparison:
         for part in forms[1]:
             if part[0] == 'action' and maker.may(0.5):
                 found[str(part[1])] += maker.other_adds(part)
-        return found
+        return {name: maker.own_adds(adds) for name, adds in found.items()}
 
     def is_clash(self, name: str, text: str) -> None:
         """Notes a fault where a file whose start clashes isn't refused."""

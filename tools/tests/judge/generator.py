@@ -6,10 +6,12 @@ from typing import Dict, Iterator, List, Optional, Sequence, Tuple
 from pkslib import Expression, written
 
 from . import templates
-from .templates import opposite
+from .templates import Actions, opposite
 
 Parameters = Sequence[Tuple[str, str]]
 """The parameters of an action, each with its type."""
+
+OVER_TIME = ('at-start', 'always', 'once')
 
 
 class Declared:
@@ -59,7 +61,9 @@ class Declared:
 
     def with_subtype(self) -> str:
         """A further type below the first, and things of its own at each place that is new by that; gives its name."""
-        self.parents['v'], self.objects['v'] = 't', ['h', 'i'][:self.chance.choice([1, 2])]
+        others = {thing for kind, things in self.objects.items() if kind != 'v' for thing in things}
+        own = [name for name in ('h', 'i', 'n') if name not in others][:self.chance.choice([1, 2])]
+        self.parents['v'], self.objects['v'] = 't', max(own, self.objects.get('v', []), key=len)
         for place in self.instances({name: kinds for name, (kinds, _) in self.functions.items()}):
             if place not in self.values:
                 self.values[place] = self.chance.choice(self.objects_of(self.functions[place[0]][1]))
@@ -389,6 +393,17 @@ class Maker:
 
     # ---- the start and the aims
 
+    def atoms(self, name: str) -> List[Expression]:
+        """All ground atoms of a predicate."""
+        return sorted(self.declared.instances({name: self.declared.predicates[name]}))
+
+    def one_of(self, atoms: Sequence[Expression]) -> None:
+        """Lets one of the atoms be true."""
+        true = self.chance.choice(list(atoms))
+        for atom in atoms:
+            self.declared.true.discard(atom)
+        self.declared.true.add(true)
+
     def region(self) -> List[Expression]:
         """A pattern of which the start lists all that is true."""
         found = self.pattern([])
@@ -431,7 +446,7 @@ class Maker:
         found += [('kw', literal) for literal in self.asked]
         aim = self.chance.choice(found) if found and self.may(0.9) else ('k', self.literal([]))
         if self.version == 2 and self.may(0.2):
-            return (self.chance.choice(['at-start', 'always', 'once']), aim)
+            return (self.chance.choice(OVER_TIME), aim)
         return aim
 
     # ---- the whole
@@ -458,6 +473,19 @@ class Maker:
             found = self.chance.choice([self.reading, self.chain, self.sweeping, self.knowing, self.holding])()
             return found + [self.action(0)] * self.may(0.4)
         return [self.action(n) for n in range(self.chance.choice([1, 2, 2, 3]))]
+
+    def priced(self, actions: Actions) -> Actions:
+        """The actions, in version 2 some at a cost."""
+        if self.version != 2 or self.may(0.5):
+            return actions
+        return [(*one[:2], ('cost', str(self.chance.choice([1, 2, 3]))), *one[2:])
+                if one[2:] and one[2][0] != 'cost' else one for one in actions]
+
+    # ---- adds
+
+    def own_adds(self, adds: List[Expression]) -> List[Expression]:
+        """What an action tells of these adds: all of them."""
+        return adds
 
     def other_adds(self, action: Expression) -> Iterator[Expression]:
         """Adds that don't follow from the text as it stands, some of which have a case."""

@@ -58,6 +58,11 @@ def when(m: 'Maker', share: float, condition: Expression, effect: Expression) ->
     return ('when', (condition,), effect) if m.may(share) else effect
 
 
+def named_apart(actions: Actions) -> Actions:
+    """The actions, each of a name of its own."""
+    return [('action', f'{one[1]}-{n}', *one[2:]) for n, one in enumerate(actions)]
+
+
 # ---- the kinds
 
 def foreign(m: 'Maker') -> Actions:
