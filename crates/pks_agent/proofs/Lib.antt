@@ -10,5 +10,6 @@ pub mod Sizes
 pub mod Longest
 pub mod Serving
 pub mod Widths
+pub mod SmallTests
 pub mod Lines
 pub mod Streams

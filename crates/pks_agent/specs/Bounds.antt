@@ -1,6 +1,8 @@
 -- How much a dialogue asks, how many lines it has, and how long they are.
 use Rattle.std.specs.Prelude.{ℕ, true, ◌≡◌, ◌≤◌, ◌+◌, List, [], ◌∷◌, ◌++◌, length}
 use Rattle.pks_terms.specs.Sets.{Each}
+use Rattle.pks_terms.specs.Actions.{Item, ItemKf, ItemKw, ItemKv, ItemLcw}
+use Rattle.pks_terms.specs.Problems.{Start, StartKf, StartKw, StartKv, StartKx, StartLcw, Problem}
 use Rattle.pks_terms.specs.Trees.{Tree, Goal, Impossible, Do, Branch, Cases, Chain, End, More}
 use Rattle.pks_terms.specs.Printed.{Text, Names}
 use Rattle.pks_terms.specs.Talk.{Said, Question, Statement, Talked, said_text, is_short}
@@ -45,6 +47,26 @@ abbrev mutual
   pub CasesHaveSmallTests : Chain → Type 0
   CasesHaveSmallTests End = Unit {0}
   CasesHaveSmallTests (More o t k) = HasSmallTests t × CasesHaveSmallTests k
+
+-- an initial formula has at most four literals
+abbrev pub IsSmallStart : Start → Type 0
+IsSmallStart (StartKw c) = length c ≤ 4
+IsSmallStart (StartKf l) = Unit {0}
+IsSmallStart (StartKv t) = Unit {0}
+IsSmallStart (StartKx g) = Unit {0}
+IsSmallStart (StartLcw x) = Unit {0}
+
+-- so has a formula that an add gives
+abbrev pub IsSmallItem : Item → Type 0
+IsSmallItem (ItemKw c) = length c ≤ 4
+IsSmallItem (ItemKf l) = Unit {0}
+IsSmallItem (ItemKv t) = Unit {0}
+IsSmallItem (ItemLcw x) = Unit {0}
+
+-- each formula whose truth is known at the start, or by an add of an action, has at most four literals
+pub record HasSmallFormulas (p : Problem) : Type 0 where
+  pub init : Each IsSmallStart p.init
+  pub adds : Each (λ sc. Each (λ a. IsSmallItem a.item) sc.adds) p.schemas
 
 -- ---- beginnings
 

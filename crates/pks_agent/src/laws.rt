@@ -19,7 +19,7 @@ ghost use Rattle.pks_agent.specs.declared.memory.MemPeer.{MemPeer};
 ghost use Rattle.pks_agent.specs.declared.peers.PeerFault.{PeerFault};
 ghost use Rattle.pks_agent.specs.declared.ends.TalkEnd.{TalkEnd};
 ghost use Rattle.pks_agent.specs.Along.{AreShort, LeadsAlong};
-ghost use Rattle.pks_agent.specs.Bounds.{IsWithin, IsShortTalk, HasShortNames, HasSmallTests, Begins, StandFirst};
+ghost use Rattle.pks_agent.specs.Bounds.{IsWithin, IsShortTalk, HasShortNames, HasSmallTests, HasSmallFormulas, Begins, StandFirst};
 ghost use Rattle.pks_agent.specs.Fitting.{IsFront, ComesOfFit};
 
 /// Where the answers are what is so in a world, the actions that are told and the end are those of the run in it.
@@ -42,6 +42,11 @@ pub fn dialogues_of_plans_have_few_lines()
 /// And each of its lines has at most 8,192 bytes, where no name has more than 64 and no formula that is asked for more than four literals.
 pub fn dialogues_of_plans_have_short_lines()
     ensures { (p : Problem) (names : Names) (t : Tree) (answers : List Text) → IsValid p → HasShortNames names → IsPlan p t → HasSmallTests t → depth t ≤ 16 → IsShortTalk (talk p.signature names t answers) }
+{}
+
+/// No formula that a plan asks for has more than four literals, where none has of those whose truth the problem says is known.
+pub fn plans_of_small_formulas_have_small_tests()
+    ensures { (p : Problem) (t : Tree) → HasSmallFormulas p → IsPlan p t → HasSmallTests t }
 {}
 
 /// A dialogue that is given more answers tells the same lines first.

@@ -2,6 +2,7 @@
 ghost use Rattle.std.specs.Prelude.{◌≡◌, Some, None, map, option_map, slice_get, IfOk, IfErr, IfSome};
 ghost use Rattle.pks_terms.specs.Views.{signature_of};
 ghost use Rattle.pks_text.specs.FormViews.{form_view};
+ghost use Rattle.pks_world.specs.Counts.{WorldCounts};
 ghost use Rattle.pks_world.specs.First.{IsWorldOf};
 ghost use Rattle.pks_reader.specs.Views.{file_of, stated_as, IsWhole, IsBadWorld};
 
@@ -26,6 +27,7 @@ pub fn stated_world(alloc: Global, f: &InputFile<'_>) -> Result<Option<World>, T
     requires { IsWhole f.now }
     ensures says { IfOk result (λ w. (file_of f.now).world ≡ stated_as w) }
     ensures of_signature { IfOk result (λ w. IfSome w (IsWorldOf (signature_of f.now.problem.signature))) }
+    ensures counts { IfOk result (λ w. IfSome w WorldCounts) }
     ensures refused { IfErr result (IsBadWorld f.now) }
 {
     match world_form(&f.forms) {

@@ -1,7 +1,8 @@
 //! Chains, in which each known literal follows from the one before it. The time of a test is enough for them only where closing
 //! goes on from what is new.
 use crate::rows::{Check, all_so};
-use crate::runs::is_said;
+use crate::runs::{NOTHING, is_said, run_over};
+use pks_run::Status::Done;
 use std::alloc::{AllocError, Global};
 use std::test::Fail;
 
@@ -34,9 +35,67 @@ fn put_link(alloc: Global, text: &mut String, chain: &Chain, k: u16) -> Result<(
     Ok(())
 }
 
+/// The names of the objects and of the functions.
+const LETTERS: [&str; 20] = [
+    "a", "b", "c", "d", "e", "f", "g", "h", "i", "j", "k", "l", "m", "n", "o", "p", "q", "r", "s",
+    "t",
+];
+
+/// The letter of this number, from the front again behind the last.
+fn letter(k: u16) -> &'static str {
+    match LETTERS.get(usize::from(k % 20)) {
+        Some(name) => name,
+        None => "",
+    }
+}
+
+/// The atom of the triple of letters of this number: the first is a function at the other two.
+fn triple(alloc: Global, k: u16) -> Result<String, AllocError> {
+    let (first, second, third) = (letter(k / 400), letter(k / 20), letter(k));
+    format!(in alloc; "(p ({first} {second} {third}))")
+}
+
+/// What stands before the groups.
+const OF_TRIPLES: &str = "(pks 1)
+(domain (types num two)
+  (objects (num a b c d e f g h i j k l m n o p q r s t) (two y z))
+  (predicates (p two))
+  (functions (a num num two) (b num num two) (c num num two) (d num num two)
+    (e num num two) (f num num two) (g num num two) (h num num two)
+    (i num num two) (j num num two) (k num num two) (l num num two)
+    (m num num two) (n num num two) (o num num two) (p num num two)
+    (q num num two) (r num num two) (s num num two) (t num num two)))
+(problem (init (kw (p (t t t)))
+";
+
+const OF_TRIPLES_PLAN: &str = "plan depth 1
+branch (p (t t t))
+true
+  goal
+false
+  goal
+";
+
+/// A file of 8,000 triples, of which each but the last is in a group with the next: both sides of the one branch go through them all.
+fn triples_text(alloc: Global) -> Result<String, AllocError> {
+    let mut text = String::from_str(alloc, OF_TRIPLES)?;
+    for k in 0..7_999_u16 {
+        text.push_str("(kx ")?;
+        text.push_str(&triple(alloc, k)?)?;
+        text.push_str(" ")?;
+        text.push_str(&triple(alloc, k.saturating_add(1))?)?;
+        text.push_str(")\n")?;
+    }
+    text.push_str(") (goal (kw (p (a a a)))))\n")?;
+    Ok(text)
+}
+
 /// The file of the chain.
 fn text_of(alloc: Global, chain: &Chain) -> Result<String, AllocError> {
-    let mut text = String::from_str(alloc, "(pks 2) (domain (types t v) (objects (v y z) (t")?;
+    let mut text = String::from_str(
+        alloc,
+        "(pks 2) (domain (types t v w) (objects (v y z) (w l m n) (t",
+    )?;
     for k in 0..64_u16 {
         text.push_str(&format!(in alloc; " c{k}")?)?;
     }
@@ -96,6 +155,111 @@ const BY_REGIONS: Chain = Chain {
     end: ") y))",
 };
 
+// The region shuts its atom out from the start, and then the group's other members come to be known.
+const BY_SHUT_OUT_MEMBERS: Chain = Chain {
+    declared: "(functions (f t t v))",
+    first: "(kf (p c0 c0))",
+    links: 1_200,
+    link: &[
+        (" (kf (= (f ", 0),
+        (") y)) (lcw (q ", 0),
+        (" (f ", 0),
+        ("))) (kx (q ", 0),
+        (" y) (not (p ", 0),
+        (")) (p ", 1),
+    ],
+    end: "))",
+};
+
+// Of three objects one is denied from the start.
+const BY_RANGES_OF_THREE: Chain = Chain {
+    declared: "(functions (f t t w))",
+    first: "(kf (not (= (f c0 c0) l)))",
+    links: 3_000,
+    link: &[
+        (" (kf (not (= (f ", 0),
+        (") m))) (kx (= (f ", 0),
+        (") n) (= (f ", 1),
+    ],
+    end: ") l))",
+};
+
+// What becomes known has a place whose value was known before.
+const BY_OWN_VALUES: Chain = Chain {
+    declared: "(functions (f t t v))",
+    first: "(kf (p c0 c0))",
+    links: 2_500,
+    link: &[
+        (" (kf (= (f ", 0),
+        (") y)) (kx (p ", 0),
+        (") (q ", 0),
+        (" (f ", 0),
+        ("))) (kx (q ", 0),
+        (" y) (p ", 1),
+    ],
+    end: "))",
+};
+
+// What a value makes of a group's member was known before.
+const BY_VALUES_IN_GROUPS: Chain = Chain {
+    declared: "(functions (f t t v))",
+    first: "(kf (= (f c0 c0) y))",
+    links: 3_000,
+    link: &[
+        (" (kf (not (q ", 0),
+        (" y))) (kx (q ", 0),
+        (" (f ", 0),
+        (")) (= (f ", 1),
+    ],
+    end: ") y))",
+};
+
+// What becomes known is what a value makes of a group's member: one that was known from the start, or came to be known.
+const BY_FORMS_IN_GROUPS: &[Chain] = &[
+    Chain {
+        declared: "(functions (f t t v))",
+        first: "(kf (p c0 c0))",
+        links: 2_500,
+        link: &[
+            (" (kf (= (f ", 0),
+            (") y)) (kx (p ", 0),
+            (") (q ", 0),
+            (" y)) (kx (q ", 0),
+            (" (f ", 0),
+            (")) (p ", 1),
+        ],
+        end: "))",
+    },
+    Chain {
+        declared: "(functions (f t t v))",
+        first: "(kf (= (f c0 c0) y))",
+        links: 2_000,
+        link: &[
+            (" (kx (= (f ", 0),
+            (") y) (p ", 0),
+            (")) (kx (not (p ", 0),
+            (")) (q ", 0),
+            (" y)) (kx (q ", 0),
+            (" (f ", 0),
+            (")) (= (f ", 1),
+        ],
+        end: ") y))",
+    },
+];
+
+// A place comes to have twelve values at once, and stands four times in each of the other literals.
+const OF_MANY_VALUES: Chain = Chain {
+    declared: "(functions (g t) (f t t t) (h t t v))",
+    first: "(kf (p c0 c0))
+(kx (p c0 c0) (not (= (g) c1))) (kx (p c0 c0) (not (= (g) c2))) (kx (p c0 c0) (not (= (g) c3)))
+(kx (p c0 c0) (not (= (g) c4))) (kx (p c0 c0) (not (= (g) c5))) (kx (p c0 c0) (not (= (g) c6)))
+(kx (p c0 c0) (not (= (g) c7))) (kx (p c0 c0) (not (= (g) c8))) (kx (p c0 c0) (not (= (g) c9)))
+(kx (p c0 c0) (not (= (g) c10))) (kx (p c0 c0) (not (= (g) c11))) (kx (p c0 c0) (not (= (g) c12)))",
+    links: 3_000,
+    link: &[(" (kf (q (f (g) (g)) (f ", 0)],
+    end: ") (h (g) (g))))",
+};
+
 #[test]
 fn chains_are_closed_from_what_is_new(rt: HostRuntime) -> Result<(), Fail> {
     all_so(rt.alloc(), CHAINS)
@@ -110,5 +274,51 @@ fn a_chain_by_ranges_is_closed_from_what_is_new(rt: HostRuntime) -> Result<(), F
 #[test]
 fn a_chain_by_regions_is_closed_from_what_is_new(rt: HostRuntime) -> Result<(), Fail> {
     assert!(rt; BY_REGIONS.is_so(rt.alloc())?);
+    Ok(())
+}
+
+#[test]
+fn a_chain_by_shut_out_members_is_closed_from_what_is_new(rt: HostRuntime) -> Result<(), Fail> {
+    assert!(rt; BY_SHUT_OUT_MEMBERS.is_so(rt.alloc())?);
+    Ok(())
+}
+
+#[test]
+fn a_chain_by_ranges_of_three_is_closed_from_what_is_new(rt: HostRuntime) -> Result<(), Fail> {
+    assert!(rt; BY_RANGES_OF_THREE.is_so(rt.alloc())?);
+    Ok(())
+}
+
+#[test]
+fn a_chain_by_values_known_before_is_closed_from_what_is_new(rt: HostRuntime) -> Result<(), Fail> {
+    assert!(rt; BY_OWN_VALUES.is_so(rt.alloc())?);
+    Ok(())
+}
+
+#[test]
+fn a_chain_by_values_in_groups_is_closed_from_what_is_new(rt: HostRuntime) -> Result<(), Fail> {
+    assert!(rt; BY_VALUES_IN_GROUPS.is_so(rt.alloc())?);
+    Ok(())
+}
+
+#[test]
+fn chains_by_forms_in_groups_are_closed_from_what_is_new(rt: HostRuntime) -> Result<(), Fail> {
+    all_so(rt.alloc(), BY_FORMS_IN_GROUPS)
+}
+
+#[test]
+fn a_place_of_two_values_ends_closing_at_once(rt: HostRuntime) -> Result<(), Fail> {
+    let text = text_of(rt.alloc(), &OF_MANY_VALUES)?;
+    assert!(rt; is_said(rt.alloc(), &text, "refused 1:388 270\n")?);
+    Ok(())
+}
+
+/// Under a second of a processor; by whole rounds each side looks at 64 million groups.
+#[test]
+fn both_sides_go_through_a_chain_of_triples(rt: HostRuntime) -> Result<(), Fail> {
+    let alloc = rt.alloc();
+    let text = triples_text(alloc)?;
+    let (status, written) = run_over(alloc, "plan 1", text.as_bytes(), NOTHING)?;
+    assert!(rt; status == Done && written.as_slice() == OF_TRIPLES_PLAN.as_bytes());
     Ok(())
 }

@@ -109,6 +109,19 @@ const REGION_AT_A_PLACE: &str = "(pks 1)
 (problem (init (kf (p (f))) (kf (not (= (f) b))) (lcw (p _))) (goal (k (not (p b)))))
 ";
 
+/// A region with the atom of a place, of which a group tells what it isn't: so an object is shut out of the region, and by that of a
+/// further group.
+const SHUT_OUT_BY_A_GROUP: &str = "(pks 1)
+(domain (types t) (objects (t a b c)) (predicates (p t) (q) (r)) (functions (f t)))
+(problem (init (kf (p (f))) (lcw (p _)) (kx (p c) (r)) (kx (= (f) c) (q)) (kf (q))) (goal (k (r))))
+";
+
+/// An empty region of atoms of three arguments, and one with a place at the second and at the third.
+const REGION_AT_THE_THIRD: &str = "(pks 1)
+(domain (types t) (objects (t a b)) (predicates (p t t t)) (functions (f t)))
+(problem (init (kf (= (f) a)) (lcw (p b _ a))) (goal (k (not (p b (f) (f))))))
+";
+
 /// A region to which an action brings an atom.
 const REGION_GROWS: &str = "(pks 1)
 (domain (types t) (objects (t a b c)) (predicates (p t) (q))
@@ -235,6 +248,19 @@ const BY_REGIONS: &[Reasoned] = &[
     ),
     Reasoned(
         "explain 0",
+        SHUT_OUT_BY_A_GROUP,
+        &["moment 0 (not (p c)) closed by", "moment 0 (r) only by"],
+    ),
+    Reasoned(
+        "explain 0",
+        REGION_AT_THE_THIRD,
+        &[
+            "moment 0 (not (p b (f) a)) closed by",
+            "moment 0 (not (p b (f) (f))) swap by",
+        ],
+    ),
+    Reasoned(
+        "explain 0",
         REGION_BY_EQUATIONS,
         &[
             "moment 0 (= (f) a) swap by",
@@ -302,7 +328,20 @@ const NO_FROST: &str = "(pks 1)
 (problem (init (kf (alive)) (kf (not (frost)))) (goal (k (done))))
 ";
 
+/// One action assigns a place twice, the second time under a condition that nobody knows: what was assigned first may be undone.
+const ASSIGNED_TWICE: &str = "(pks 1)
+(domain (types t) (objects (t a b c)) (predicates (w) (q t) (done)) (functions (f t))
+  (action turn (effects (assign (f) a) (when ((w)) (assign (f) b)) (set (done))) (knows (kf (done))))
+  (action read (senses (sense-value (f))) (knows (kv (f)))))
+(problem (init (kf (q a)) (kf (q b)) (kf (q c))) (goal (k (done)) (k (q (f)))))
+";
+
 const BY_ACTIONS: &[Reasoned] = &[
+    Reasoned(
+        "explain 3",
+        ASSIGNED_TWICE,
+        &["moment 2 (= (f) b) side 1", "moment 2 (q (f)) swap by"],
+    ),
     Reasoned(
         "explain 4",
         POURED,

@@ -389,7 +389,23 @@ fn aims_over_time_keep_little_past(rt: HostRuntime) -> Result<(), Fail> {
     all_so(rt.alloc(), SHUT_FOR_GOOD)
 }
 
-const FAILED: &[Answered] = &[Answered("plan 11", ELEVEN, NoPlan, "none to depth 11\n")];
+/// The same formulas, and a literal that no action makes true: here the bound tells that there is no plan.
+const ELEVEN_AND_A_LITERAL: &str = "(pks 1)
+(domain (predicates (p1) (p2) (p3) (p4) (p5) (p6) (p7) (p8) (p9) (p10) (p11)
+  (g)))
+(problem (init (kw (p1)) (kw (p2)) (kw (p3)) (kw (p4)) (kw (p5)) (kw (p6))
+  (kw (p7)) (kw (p8)) (kw (p9)) (kw (p10)) (kw (p11))) (goal (k (g))))
+";
+
+const FAILED: &[Answered] = &[
+    Answered("plan 11", ELEVEN, NoPlan, "none to depth 11\n"),
+    Answered(
+        "plan 11",
+        ELEVEN_AND_A_LITERAL,
+        NoPlan,
+        "none to depth 11\n",
+    ),
+];
 
 /// A second and a half of a processor; where the tables tell nothing, more than a minute.
 #[test]
