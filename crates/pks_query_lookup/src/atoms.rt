@@ -29,7 +29,7 @@ pub fn normal_atom(by: &Normals, a: &PredAtom) -> PredAtom
 }
 
 /// Whether each of the terms is an object.
-fn are_objects(ts: &[Term]) -> bool
+pub(crate) fn are_objects(ts: &[Term]) -> bool
     ensures { result ≡ are_objects (terms_of ts.now) }
 {
     match ts {

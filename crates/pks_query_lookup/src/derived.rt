@@ -16,7 +16,7 @@ ghost use Rattle.pks_query_lookup.specs.Forms.{HasItsForms};
 
 use crate::five::Five;
 use crate::forms::forms_of;
-use crate::literals::gives_value;
+use crate::literals::{gives_value, is_of_objects};
 use crate::normals::Normals;
 use pks_kf::Kf;
 use pks_lcw::{AtomSet, Entry};
@@ -196,6 +196,9 @@ impl Derived {
     pub fn is_known(&self, l: &Literal) -> bool
         ensures { result ≡ is_known (literals_of self.now.kf) (literal_of l.now) }
     {
+        if is_of_objects(l) {
+            return self.forms.has(l);
+        }
         self.forms.has(&self.normals.normal_literal(l))
     }
 
@@ -339,9 +342,11 @@ impl Derived {
     pub fn some_denied(&self, s: &Signature, ls: &[Literal]) -> bool
         ensures { result ≡ list_any (λ l. holds (signature_of s.now) (five_of self.now) (negated l)) (literals_in ls.now) }
     {
-        match ls {
-            [] => false,
-            [l, ls @ ..] => self.denies(s, l) || self.some_denied(s, ls),
+        for l in ls {
+            if self.denies(s, l) {
+                return true;
+            }
         }
+        false
     }
 }

@@ -4,17 +4,18 @@ ghost use Rattle.pks_terms.specs.Views.{literal_of};
 ghost use Rattle.pks_kf.specs.Known.{literals_of};
 ghost use Rattle.pks_query_lookup.specs.Forms.{is_normal, other_forms, AreForms};
 
+use crate::literals::is_of_objects;
 use crate::normals::Normals;
 use pks_kf::Kf;
 use pks_terms::literal::Literal;
 use std::alloc::{AllocError, Global};
 
 /// Whether the literal is its own normal form.
-#[tactic(auto, unfolding(pks_terms::specs::Orders::literal_eq))]
+#[tactic(auto, unfolding(pks_terms::specs::Orders::literal_eq), using(crate::proofs::OwnForms::own_is_normal))]
 fn is_normal(normals: &Normals, l: &Literal) -> bool
     ensures { result ≡ is_normal (literals_of normals.now.kf) (literal_of l.now) }
 {
-    normals.normal_literal(l) == *l
+    is_of_objects(l) || normals.normal_literal(l) == *l
 }
 
 /// The normal forms of the known literals that are not their own.
