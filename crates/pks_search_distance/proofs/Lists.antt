@@ -1,12 +1,12 @@
 -- Lists that code appends to.
-use Rattle.std.proofs.Common.{◌≡◌, ◌<◌, ◌≤◌, ◌+◌, ◌-◌, ◌++◌, ◌&&◌, ℕ, zero, suc, Bool, true, List, [], ◌∷◌, map, take, drop, get_or, length, flat_map, refl, sym, ap, ◌∙◌, subst, arith, append_assoc, append-nil}
-use Rattle.std.specs.List.{list_all}
+use Rattle.std.proofs.Common.{◌≡◌, ◌<◌, ◌≤◌, ◌+◌, ◌-◌, ◌++◌, ◌&&◌, ◌||◌, ℕ, zero, suc, Bool, true, false, List, [], ◌∷◌, map, take, drop, get_or, length, flat_map, refl, sym, ap, ◌∙◌, subst, arith, append_assoc, append-nil}
+use Rattle.std.specs.List.{list_any, list_all}
 use Rattle.std.proofs.Math.Seq.{drop-cons}
-use Rattle.std.proofs.lemmas.List.{map_push, take_all, drop_all}
+use Rattle.std.proofs.lemmas.List.{map_push, take_all, take_more, drop_all}
 use Rattle.std.proofs.lemmas.List.Folds.{list_any-append}
 use Rattle.std.proofs.lemmas.Bool.{and_parts, and_from}
 use Rattle.pks_terms.specs.Sets.{Each, IsIn}
-use Rattle.pks_terms.proofs.ListLaws.{each_in, each_of}
+use Rattle.pks_terms.proofs.ListLaws.{each_in, each_of, or_false}
 use Rattle.pks_laws.proofs.Least.{in_flat}
 
 pub ruleset pushing = (map_push, append_assoc, append-nil)
@@ -47,6 +47,17 @@ each_more P f (x ∷ xs) zero d h a q = (q, tt)
 each_more P f (x ∷ xs) (suc k) d h a q =
     let next : suc (k + 1) ≡ suc k + 1 = omega arith in
     subst (λ n. Each P (map f (take n (x ∷ xs)))) next (a.0, each_more P f xs k d (omega arith) a.1 q)
+
+-- a flag that tells whether one was found so far, where what is asked of is as at first as long as none was
+pub found_more : {X Y S : Type 0} (p : S → Y → Bool) (f : X → Y) (xs : List X) (k : ℕ) (d : X) (old now : S) (b c : Bool) → k < length xs → b ≡ list_any (p old) (map f (take k xs)) → (b ≡ false → now ≡ old) → c ≡ p now (f (get_or xs k d)) → (b || c) ≡ list_any (p old) (map f (take (k + 1) xs))
+found_more p f xs k d old now b c h e same g =
+    let y = f (get_or xs k d) in
+    go b c (list_any (p old) (map f (take k xs))) (p old y) e (λ none. g ∙ ap (λ s. p s y) (same none))
+    ∙ sym (ap (λ ys. list_any (p old) (map f ys)) (take_more xs k d h) ∙ ap (list_any (p old)) (map_push f (take k xs) (get_or xs k d)) ∙ list_any-append (p old) (map f (take k xs)) (y ∷ []) ∙ ap (λ a. list_any (p old) (map f (take k xs)) || a) (or_false (p old y)))
+  where
+    go : (b c x y : Bool) → b ≡ x → (b ≡ false → c ≡ y) → (b || c) ≡ (x || y)
+    go true c x y e g = ap (λ z. z || y) e
+    go false c x y e g = g refl ∙ ap (λ z. z || y) e
 
 -- the first and the others
 pub first_and_others : {X Y : Type 0} (f : X → Y) (xs : List X) (d : X) → 1 ≤ length xs → map f xs ≡ f (get_or xs 0 d) ∷ map f (take (length xs - 1) (drop 1 xs))

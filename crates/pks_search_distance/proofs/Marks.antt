@@ -1,7 +1,7 @@
 -- Landmarks, and what ground actions make of them.
-use Rattle.std.proofs.Common.{◌≡◌, ◌+◌, ◌≤◌, ◌⊎◌, ◌&&◌, ◌||◌, ◌++◌, ℕ, Bool, true, false, cond, not, List, [], ◌∷◌, map, max, Option, Some, None, refl, sym, ap, ◌∙◌, subst, inl, inr, ⊎_elim, true≢false, arith}
+use Rattle.std.proofs.Common.{◌≡◌, ◌+◌, ◌≤◌, ◌⊎◌, ◌&&◌, ◌++◌, Bool, true, false, not, List, [], ◌∷◌, map, max, Option, Some, None, refl, sym, ◌∙◌, subst, inl, inr, ⊎_elim, true≢false, arith}
 use Rattle.std.specs.Prelude.{count_by}
-use Rattle.std.specs.List.{list_any, flat_map}
+use Rattle.std.specs.List.{list_any}
 use Rattle.std.specs.Option.{IfSome, option_to_list}
 use Rattle.std.proofs.lemmas.List.Recursion.{is_count_by}
 use Rattle.std.proofs.lemmas.Bool.{or_cases, or_left, or_right, or_parts, or_from}
@@ -40,7 +40,7 @@ module _ (v : World) where
       let b = or_parts (true_in v l) (is_met v c) h in
       or_from (true_in (applied_to v es) l) (is_met (applied_to v es) c) (stays_unmet v es l a.0 b.0) (none_met es c a.1 b.1)
 
-  one_met : (c : List Literal) (l : Literal) → true_in v l ≡ true → is_of_mark l c ≡ true → is_met v c ≡ true
+  pub one_met : (c : List Literal) (l : Literal) → true_in v l ≡ true → is_of_mark l c ≡ true → is_met v c ≡ true
   one_met [] l t h = absurd (true≢false (sym h))
   one_met (k ∷ c) l t h =
       ⊎_elim (λ e. or_left (true_in v k) (is_met v c) (subst (λ m. true_in v m ≡ true) (sym (same_literal k l e)) t)) (λ e. or_right (true_in v k) (is_met v c) (one_met c l t e))

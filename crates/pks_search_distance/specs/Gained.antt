@@ -64,6 +64,10 @@ has_new w g (NewTruth b a) = may_be w g b a
 has_new w g (NewValue t d) = list_any (λ e. e == d) (values_at w g t)
 has_new w g (NewFalse p) = is_cleared g p
 
+-- one of them isn't so yet
+abbrev pub some_new : World → Gains → List New → Bool
+some_new w g xs = list_any (λ x. not (has_new w g x)) xs
+
 -- a ground action
 abbrev pub deed_of : DDeed → Deed
 deed_of x = record { pre = literals_in x.pre.items; effects = map effect_of x.effects.items }

@@ -1,6 +1,7 @@
 -- Disjunctive landmarks: literals of which one is true wherever the goal is met.
-use Rattle.std.specs.Prelude.{ℕ, Bool, true, not, ◌&&◌, ◌≡◌, ◌≤◌, ◌+◌, max, List, [], ◌∷◌, map, if◌then◌else◌}
-use Rattle.std.specs.List.{list_any}
+use Rattle.std.specs.Prelude.{ℕ, Bool, true, false, not, ◌&&◌, ◌||◌, nat_lt, ◌≡◌, ◌≤◌, ◌+◌, max, List, [], ◌∷◌, slice_get, if◌then◌else◌}
+use Rattle.std.specs.List.{list_any, list_all}
+use Rattle.std.specs.Option.{option_map_or}
 use Rattle.pks_terms.specs.Sets.{Each}
 use Rattle.pks_terms.specs.Syntax.{Literal}
 use Rattle.pks_terms.specs.Orders.{literal_eq}
@@ -10,7 +11,7 @@ use Rattle.pks_terms.specs.Problems.{Problem}
 use Rattle.pks_terms.specs.Knowledge.{after_action}
 use Rattle.pks_search_distance.specs.Runs.{MayBeDone, IsGoal}
 use Rattle.pks_search_distance.specs.Relaxed.{Deed}
-use Rattle.pks_search_distance.specs.Counted.{may_meet}
+use Rattle.pks_search_distance.specs.Counted.{is_plain, may_meet}
 
 -- one of the literals is true in the world
 abbrev pub is_met : World → List Literal → Bool
@@ -33,9 +34,13 @@ ReachAtMost p cs m = (w : World) (i : Instance) → MayBeDone p w i → unmet_ma
 abbrev pub is_of_mark : Literal → List Literal → Bool
 is_of_mark l c = list_any (λ k. literal_eq k l) c
 
+-- the ground action asks for one of the literals
+abbrev pub asks : Deed → List Literal → Bool
+asks x c = list_any (λ l. is_of_mark l c) x.pre
+
 -- the ground action may meet a landmark that is unmet: it asks for none of the literals, and may make one of them true
 abbrev pub may_reach : Deed → List Literal → Bool
-may_reach x c = not (list_any (λ l. is_of_mark l c) x.pre) && list_any (may_meet x.effects) c
+may_reach x c = not (asks x c) && list_any (may_meet x.effects) c
 
 -- how many of the landmarks the ground action may meet
 abbrev pub reaches : Deed → List (List Literal) → ℕ
@@ -47,13 +52,29 @@ abbrev pub most_reached : List Deed → List (List Literal) → ℕ
 most_reached [] cs = 0
 most_reached (x ∷ xs) cs = max (reaches x cs) (most_reached xs cs)
 
+-- one of the ground actions may meet the landmark, and none that may meets m of the others
+abbrev pub is_light : List Deed → List (List Literal) → List Literal → ℕ → Bool
+is_light xs cs c m = list_any (λ x. may_reach x c) xs && list_all (λ x. not (may_reach x c) || nat_lt (reaches x cs) m) xs
+
 -- where the literals are true and the first landmarks are met, the second ones are
 abbrev pub AddsMarks : List Literal → List (List Literal) → List (List Literal) → Type 0
 AddsMarks ls old new = (w : World) → Each (λ l. true_in w l ≡ true) ls → Each (λ c. is_met w c ≡ true) old → Each (λ c. is_met w c ≡ true) new
 
--- where the first landmark is met, the second one is
+-- each literal of the first landmark is one of the second
 abbrev pub IsWider : List Literal → List Literal → Type 0
-IsWider c d = (w : World) → is_met w c ≡ true → is_met w d ≡ true
+IsWider c d = (l : Literal) → is_of_mark l c ≡ true → is_of_mark l d ≡ true
+
+-- each of the ground actions that may meet the first landmark asks for a literal of the second, and so may not meet that
+abbrev pub AreAsking : List Deed → List Literal → List Literal → Type 0
+AreAsking xs c d = Each (λ x. may_reach x c ≡ true → asks x d ≡ true) xs
+
+-- the ground action has a plain precondition at the place
+abbrev pub has_plain : Deed → ℕ → Bool
+has_plain x k = option_map_or (λ l. is_plain l.relation l.arguments) (slice_get x.pre k) false
+
+-- one of the ground actions that may meet the landmark has no plain precondition at the place
+abbrev pub some_lacks : List Deed → List Literal → ℕ → Bool
+some_lacks xs c k = list_any (λ x. may_reach x c && not (has_plain x k)) xs
 
 -- where the landmark and the first ones are met, the second ones are
 abbrev pub AddsBehind : List Literal → List (List Literal) → List (List Literal) → Type 0

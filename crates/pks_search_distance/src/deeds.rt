@@ -48,11 +48,10 @@ pub struct Deeds {
 fn add_asked(pre: &[Query], i: &Instance, to: &mut Vec<Literal>) -> Result<(), AllocError>
     ensures { OnOk result (literals_in to.new.items ≡ literals_in to.old.items ++ asked_at (given_of i.now) (map query_of pre.now)) }
 {
-    if let [q, rest @ ..] = pre {
+    for q in pre {
         if let Query::K(l) = q {
             to.push(l.at(i))?;
         }
-        add_asked(rest, i, to)?;
     }
     Ok(())
 }
@@ -175,10 +174,9 @@ fn add_all_deeds(
     ensures says { OnOk result (map deed_of to.new.items ≡ map deed_of to.old.items ++ flat_map (all_deeds (signature_of s.now)) (map schema_of schemas.now)) }
     ensures placed { OnOk result (Each (λ x. ArePlaced x.effects.items) to.new.items) }
 {
-    if let [schema, rest @ ..] = schemas {
-        let bare = without_arguments();
+    let bare = without_arguments();
+    for schema in schemas {
         add_deeds(alloc, s, schema, schema.params.as_slice(), &bare, to)?;
-        add_all_deeds(alloc, s, rest, to)?;
     }
     Ok(())
 }

@@ -34,10 +34,12 @@ pub(crate) struct Gains {
 fn is_among(preds: &[PredId], pred: PredId) -> bool
     ensures { result ≡ list_any (λ q. q == pred.0) (map (λ q. q.0) preds.now) }
 {
-    match preds {
-        [] => false,
-        [q, rest @ ..] => q.0 == pred.0 || is_among(rest, pred),
+    for q in preds {
+        if q.0 == pred.0 {
+            return true;
+        }
     }
+    false
 }
 
 /// Adds the value, where it is one of the place.

@@ -25,10 +25,12 @@ pub(crate) struct Landmark {
 fn is_met(w: &World, literals: &[Literal]) -> bool
     ensures { result ≡ is_met (world_of w.now) (literals_in literals.now) }
 {
-    match literals {
-        [] => false,
-        [l, rest @ ..] => w.holds(l) || is_met(w, rest),
+    for l in literals {
+        if w.holds(l) {
+            return true;
+        }
     }
+    false
 }
 
 /// Whether the landmark is unmet in the world.
@@ -51,30 +53,36 @@ pub(crate) fn unmet_marks(w: &World, marks: &[Landmark]) -> usize
 pub(crate) fn is_one_of(literals: &[Literal], l: &Literal) -> bool
     ensures { result ≡ is_of_mark (literal_of l.now) (literals_in literals.now) }
 {
-    match literals {
-        [] => false,
-        [k, rest @ ..] => *k == *l || is_one_of(rest, l),
+    for k in literals {
+        if *k == *l {
+            return true;
+        }
     }
+    false
 }
 
 /// Whether one of the first literals is one of the second.
 fn asks_one(pre: &[Literal], literals: &[Literal]) -> bool
     ensures { result ≡ list_any (λ l. is_of_mark l (literals_in literals.now)) (literals_in pre.now) }
 {
-    match pre {
-        [] => false,
-        [l, rest @ ..] => is_one_of(literals, l) || asks_one(rest, literals),
+    for l in pre {
+        if is_one_of(literals, l) {
+            return true;
+        }
     }
+    false
 }
 
 /// Whether the effects may make one of the literals true.
 fn some_met(effects: &[Effect], literals: &[Literal]) -> bool
     ensures { result ≡ list_any (may_meet (map effect_of effects.now)) (literals_in literals.now) }
 {
-    match literals {
-        [] => false,
-        [l, rest @ ..] => may_meet(effects, l) || some_met(effects, rest),
+    for l in literals {
+        if may_meet(effects, l) {
+            return true;
+        }
     }
+    false
 }
 
 /// Whether the ground action may meet the landmark where it is unmet.

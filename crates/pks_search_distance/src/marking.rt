@@ -1,8 +1,10 @@
 //! Which landmarks are counted: each goal literal alone, and from there back over preconditions that the actions which meet one ask for.
-ghost use Rattle.std.specs.Prelude.{◌≡◌, [], ◌∷◌, IfOk, OnOk, IfSome};
+ghost use Rattle.std.specs.Prelude.{◌≡◌, ◌≤◌, ◌⊎◌, [], ◌∷◌, map, length, true, false, IfOk, OnOk, IfSome};
 ghost use Rattle.pks_terms.specs.Views.{literal_of, literals_in};
-ghost use Rattle.pks_search_distance.specs.Landmarks.{AddsMarks, AddsBehind, IsWider};
+ghost use Rattle.pks_search_distance.specs.Gained.{deed_of};
+ghost use Rattle.pks_search_distance.specs.Landmarks.{asks, is_of_mark, has_plain, some_lacks, is_light, AddsMarks, AddsBehind, AreAsking, IsWider};
 ghost use Rattle.pks_search_distance.specs.Marked.{landmark_of, landmarks_of};
+ghost use Rattle.pks_search_distance.specs.declared.marking.TheConstants.{MOST_LITERALS};
 
 use crate::deeds::Deed;
 use crate::landmarks::{Landmark, is_one_of, may_reach, most_reached, reaches};
@@ -31,9 +33,10 @@ fn alone(alloc: Global, l: &Literal) -> Result<Landmark, AllocError>
 }
 
 /// Adds the literal, where it isn't there yet.
-#[tactic(auto, using(crate::proofs::Gathering::wider_itself, crate::proofs::Gathering::wider_push))]
+#[tactic(auto, using(crate::proofs::Gathering::wider_itself, crate::proofs::Gathering::wider_push, crate::proofs::Gathering::added_push))]
 fn add_once(l: &Literal, to: &mut Vec<Literal>) -> Result<(), AllocError>
-    ensures { OnOk result (IsWider (literals_in to.old.items) (literals_in to.new.items)) }
+    ensures wider { OnOk result (IsWider (literals_in to.old.items) (literals_in to.new.items)) }
+    ensures added { OnOk result (is_of_mark (literal_of l.now) (literals_in to.new.items) ≡ true) }
 {
     if !is_one_of(to.as_slice(), l) {
         to.push(*l)?;
@@ -41,10 +44,12 @@ fn add_once(l: &Literal, to: &mut Vec<Literal>) -> Result<(), AllocError>
     Ok(())
 }
 
-/// Adds the precondition at the place, if there is a plain one; answers whether there is.
+/// Adds the precondition at the place, if there is a plain one and room for it; answers whether there is.
 #[tactic(auto, using(crate::proofs::Gathering::wider_itself))]
 fn add_pre(x: &Deed, place: usize, to: &mut Vec<Literal>) -> Result<bool, AllocError>
-    ensures { OnOk result (IsWider (literals_in to.old.items) (literals_in to.new.items)) }
+    ensures wider { OnOk result (IsWider (literals_in to.old.items) (literals_in to.new.items)) }
+    ensures asked { IfOk result (λ b. b ≡ true → asks (deed_of x.now) (literals_in to.new.items) ≡ true) }
+    ensures lacking { IfOk result (λ b. b ≡ false → (has_plain (deed_of x.now) place ≡ false) ⊎ (MOST_LITERALS ≤ length to.new.items)) }
 {
     let Some(l) = x.pre.as_slice().get(place) else {
         return Ok(false);
@@ -56,7 +61,7 @@ fn add_pre(x: &Deed, place: usize, to: &mut Vec<Literal>) -> Result<bool, AllocE
     Ok(true)
 }
 
-/// Adds the precondition at the place of each ground action that may meet the landmark; answers whether each has one.
+/// Adds the precondition at the place of each ground action that may meet the landmark; answers whether each has one and there is room.
 #[tactic(auto, using(crate::proofs::Gathering::wider_itself, crate::proofs::Gathering::wider_on))]
 fn add_pres(
     deeds: &[Deed],
@@ -64,7 +69,9 @@ fn add_pres(
     place: usize,
     to: &mut Vec<Literal>,
 ) -> Result<bool, AllocError>
-    ensures { OnOk result (IsWider (literals_in to.old.items) (literals_in to.new.items)) }
+    ensures wider { OnOk result (IsWider (literals_in to.old.items) (literals_in to.new.items)) }
+    ensures asked { IfOk result (λ b. b ≡ true → AreAsking (map deed_of deeds.now) (literals_in literals.now) (literals_in to.new.items)) }
+    ensures lacking { IfOk result (λ b. b ≡ false → (some_lacks (map deed_of deeds.now) (literals_in literals.now) place ≡ true) ⊎ (MOST_LITERALS ≤ length to.new.items)) }
 {
     let [x, rest @ ..] = deeds else {
         return Ok(true);
@@ -86,7 +93,8 @@ fn widened(
     c: &Landmark,
     place: usize,
 ) -> Result<Option<Landmark>, AllocError>
-    ensures { IfOk result (λ o. IfSome o (λ d. IsWider (landmark_of c.now) (landmark_of d))) }
+    ensures wider { IfOk result (λ o. IfSome o (λ d. IsWider (landmark_of c.now) (landmark_of d))) }
+    ensures asked { IfOk result (λ o. IfSome o (λ d. AreAsking (map deed_of deeds.now) (landmark_of c.now) (landmark_of d))) }
 {
     let old = c.literals.as_slice();
     let mut literals = old.to_vec(alloc)?;
@@ -98,7 +106,9 @@ fn widened(
 }
 
 /// Whether some ground action may meet the landmark, and none that may do so may meet so many of the others.
-fn is_light(deeds: &[Deed], marks: &[Landmark], c: &Landmark, most: usize) -> bool {
+fn is_light(deeds: &[Deed], marks: &[Landmark], c: &Landmark, most: usize) -> bool
+    ensures { result ≡ is_light (map deed_of deeds.now) (landmarks_of marks.now) (landmark_of c.now) most }
+{
     let mut is_reached = false;
     for x in deeds {
         if may_reach(x, c.literals.as_slice()) {
@@ -119,7 +129,9 @@ fn wider(
     c: &Landmark,
     most: usize,
 ) -> Result<Option<Landmark>, AllocError>
-    ensures { IfOk result (λ o. IfSome o (λ d. IsWider (landmark_of c.now) (landmark_of d))) }
+    ensures wider { IfOk result (λ o. IfSome o (λ d. IsWider (landmark_of c.now) (landmark_of d))) }
+    ensures asked { IfOk result (λ o. IfSome o (λ d. AreAsking (map deed_of deeds.now) (landmark_of c.now) (landmark_of d))) }
+    ensures light { IfOk result (λ o. IfSome o (λ d. is_light (map deed_of deeds.now) (landmarks_of marks.now) (landmark_of d) most ≡ true)) }
 {
     for place in 0..MOST_TRIES {
         if let Some(d) = widened(alloc, deeds, c, place)? {

@@ -120,14 +120,12 @@ impl Gains {
     ) -> Result<bool, AllocError>
         ensures { IfOk result (λ b. b ≡ list_all (may (chances_of (world_of w.now) self.now)) (literals_in literals.now)) }
     {
-        let [l, rest @ ..] = literals else {
-            return Ok(true);
-        };
-        if !self.may(alloc, w, l)? {
-            return Ok(false);
+        for l in literals {
+            if !self.may(alloc, w, l)? {
+                return Ok(false);
+            }
         }
-        let others = self.all_may(alloc, w, rest)?;
-        Ok(others)
+        Ok(true)
     }
 
     /// Whether what the aim asks for at the end may be so.
@@ -152,13 +150,11 @@ impl Gains {
     ) -> Result<bool, AllocError>
         ensures { IfOk result (λ b. b ≡ list_all (aim_may (chances_of (world_of w.now) self.now)) (map aim_of aims.now)) }
     {
-        let [a, rest @ ..] = aims else {
-            return Ok(true);
-        };
-        if !self.aim_may(alloc, w, a)? {
-            return Ok(false);
+        for a in aims {
+            if !self.aim_may(alloc, w, a)? {
+                return Ok(false);
+            }
         }
-        let others = self.goal_may(alloc, w, rest)?;
-        Ok(others)
+        Ok(true)
     }
 }

@@ -9,7 +9,7 @@ ghost use Rattle.pks_search_distance.specs.Levels.{Grows, IsBound};
 ghost use Rattle.pks_search_distance.specs.Unmet.{fewest, greater};
 ghost use Rattle.pks_search_distance.specs.Relaxed.{deed_news, IsNewIn};
 ghost use Rattle.pks_terms.specs.ValidProblems.{ArePlaced};
-ghost use Rattle.pks_search_distance.specs.Gained.{chances_of, deed_of, AreDeeds};
+ghost use Rattle.pks_search_distance.specs.Gained.{chances_of, some_new, deed_of, AreDeeds};
 ghost use Rattle.pks_search_distance.specs.Remembered.{AreItsDeeds};
 
 use crate::counted::Bound;
@@ -70,7 +70,8 @@ impl Deeds {
         requires { Each (λ x. ArePlaced x.effects.items) self.now.deeds.items }
         ensures grows { OnOk result (Grows (chances_of (world_of w.now) gains.old) (chances_of (world_of w.now) gains.new)) }
         ensures has { OnOk result (Each (IsNewIn (chances_of (world_of w.now) gains.new)) (flat_map (deed_news (chances_of (world_of w.now) gains.old)) (map deed_of self.now.deeds.items))) }
-        ensures same { IfOk result (λ b. b ≡ false → chances_of (world_of w.now) gains.new ≡ chances_of (world_of w.now) gains.old) }
+        ensures told { IfOk result (λ b. b ≡ some_new (world_of w.now) gains.old (flat_map (deed_news (chances_of (world_of w.now) gains.old)) (map deed_of self.now.deeds.items))) }
+        ensures same { IfOk result (λ b. b ≡ false → gains.new ≡ gains.old) }
     {
         let found = gains.news(alloc, w, self.deeds.as_slice())?;
         let grew = gains.take_all(w, found.as_slice())?;

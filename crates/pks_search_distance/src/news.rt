@@ -175,9 +175,8 @@ impl Gains {
         requires { Each (λ e. AssignsToPlace e.target) effects.now }
         ensures { OnOk result (map new_of to.new.items ≡ map new_of to.old.items ++ flat_map (effect_news (chances_of (world_of w.now) self.now)) (map effect_of effects.now)) }
     {
-        if let [effect, rest @ ..] = effects {
+        for effect in effects {
             self.add_effect_news(alloc, w, effect, to)?;
-            self.add_effects_news(alloc, w, rest, to)?;
         }
         Ok(())
     }

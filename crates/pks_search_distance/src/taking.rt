@@ -1,5 +1,5 @@
 //! A level after another one: what actions may make so is taken in.
-ghost use Rattle.std.specs.Prelude.{◌≡◌, ◌==◌, ◌||◌, map, false, true, IfOk, OnOk};
+ghost use Rattle.std.specs.Prelude.{◌≡◌, ◌==◌, ◌||◌, map, not, false, true, IfOk, OnOk};
 ghost use Rattle.std.specs.List.{list_any, flat_map};
 ghost use Rattle.pks_terms.specs.Sets.{Each};
 ghost use Rattle.pks_terms.specs.Worlds.{World as SWorld};
@@ -7,7 +7,7 @@ ghost use Rattle.pks_terms.specs.Views.{term_of, atom_of};
 ghost use Rattle.pks_world.specs.Contents.{world_of};
 ghost use Rattle.pks_search_distance.specs.Levels.{Grows};
 ghost use Rattle.pks_search_distance.specs.Relaxed.{NewTruth, NewValue, NewFalse, IsNewIn};
-ghost use Rattle.pks_search_distance.specs.Gained.{given_of, given_to, chances_of, values_at, has_new, new_of};
+ghost use Rattle.pks_search_distance.specs.Gained.{given_of, given_to, chances_of, values_at, has_new, some_new, new_of};
 
 use crate::gains::{Gains, Given};
 use crate::news::New;
@@ -141,7 +141,8 @@ impl Gains {
     fn take(&mut self, w: &World, x: &New) -> Result<bool, AllocError>
         ensures grows { OnOk result (Grows (chances_of (world_of w.now) self.old) (chances_of (world_of w.now) self.new)) }
         ensures has { OnOk result (IsNewIn (chances_of (world_of w.now) self.new) (new_of x.now)) }
-        ensures same { IfOk result (λ b. b ≡ false → chances_of (world_of w.now) self.new ≡ chances_of (world_of w.now) self.old) }
+        ensures told { IfOk result (λ b. b ≡ not (has_new (world_of w.now) self.old (new_of x.now))) }
+        ensures same { IfOk result (λ b. b ≡ false → self.new ≡ self.old) }
     {
         if self.has(w, x) {
             return Ok(false);
@@ -154,7 +155,8 @@ impl Gains {
     pub(crate) fn take_all(&mut self, w: &World, found: &[New]) -> Result<bool, AllocError>
         ensures grows { OnOk result (Grows (chances_of (world_of w.now) self.old) (chances_of (world_of w.now) self.new)) }
         ensures has { OnOk result (Each (IsNewIn (chances_of (world_of w.now) self.new)) (map new_of found.now)) }
-        ensures same { IfOk result (λ b. b ≡ false → chances_of (world_of w.now) self.new ≡ chances_of (world_of w.now) self.old) }
+        ensures told { IfOk result (λ b. b ≡ some_new (world_of w.now) self.old (map new_of found.now)) }
+        ensures same { IfOk result (λ b. b ≡ false → self.new ≡ self.old) }
     {
         let mut grew = false;
         for x in found {

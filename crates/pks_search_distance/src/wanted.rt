@@ -32,10 +32,12 @@ fn is_object(t: &Term) -> bool
 fn are_objects(ts: &[Term]) -> bool
     ensures { result ≡ list_all is_object (terms_of ts.now) }
 {
-    match ts {
-        [] => true,
-        [t, rest @ ..] => is_object(t) && are_objects(rest),
+    for t in ts {
+        if !is_object(t) {
+            return false;
+        }
     }
+    true
 }
 
 /// Whether the argument is an object.
@@ -52,10 +54,12 @@ fn is_inner_object(t: &Inner) -> bool
 fn are_inner_objects(ts: &[Inner]) -> bool
     ensures { result ≡ list_all is_object (map inner_of ts.now) }
 {
-    match ts {
-        [] => true,
-        [t, rest @ ..] => is_inner_object(t) && are_inner_objects(rest),
+    for t in ts {
+        if !is_inner_object(t) {
+            return false;
+        }
     }
+    true
 }
 
 /// Whether the term is a function at objects.
@@ -173,10 +177,12 @@ fn may_make(target: &Target, l: &Literal) -> bool
 fn some_make(effects: &[Effect], l: &Literal) -> bool
     ensures { result ≡ list_any (λ e. may_make e.target (literal_of l.now)) (map effect_of effects.now) }
 {
-    match effects {
-        [] => false,
-        [effect, rest @ ..] => may_make(&effect.target, l) || some_make(rest, l),
+    for effect in effects {
+        if may_make(&effect.target, l) {
+            return true;
+        }
     }
+    false
 }
 
 /// Whether the effects may make the literal true.

@@ -4,7 +4,7 @@ use Rattle.pks_world.specs.Contents.{world_of}
 use Rattle.pks_search_distance.specs.declared.news.New as news
 use Rattle.pks_search_distance.specs.declared.deeds.Deed as deed
 use Rattle.pks_search_distance.specs.Relaxed.{deed_news, IsNewIn}
-use Rattle.pks_search_distance.specs.Gained.{chances_of, new_of, deed_of}
+use Rattle.pks_search_distance.specs.Gained.{chances_of, some_new, new_of, deed_of}
 use Rattle.pks_search_distance.proofs.deeds.Deeds.go_on.Goals as goal
 
 pub returns-clause-has : goal.returns-clause-has
@@ -13,3 +13,10 @@ returns-clause-has c =
     let m = chances_of w c.args.gains.now in
     let n = chances_of w c.take_all.new.self in
     subst (Each (IsNewIn n)) (ap (λ (xs : List news.New). map new_of xs) c.as_slice-2.ensures.value ∙ c.in_ok-found.ensures ∙ ap (λ (xs : List deed.Deed). flat_map (deed_news m) (map deed_of xs)) c.as_slice.ensures.value) c.in_ok-grew.ensures.has
+
+pub returns-clause-told : goal.returns-clause-told
+returns-clause-told c =
+    let w = world_of c.args.w.now in
+    let m = chances_of w c.args.gains.now in
+    c.in_ok-grew.ensures.told
+    ∙ ap (some_new w c.args.gains.now) (ap (λ (xs : List news.New). map new_of xs) c.as_slice-2.ensures.value ∙ c.in_ok-found.ensures ∙ ap (λ (xs : List deed.Deed). flat_map (deed_news m) (map deed_of xs)) c.as_slice.ensures.value)

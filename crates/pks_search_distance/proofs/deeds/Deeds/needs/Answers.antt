@@ -6,6 +6,7 @@ use Rattle.pks_terms.specs.Views.{aim_of, problem_of}
 use Rattle.pks_world.specs.Contents.{world_of}
 use Rattle.pks_search_distance.specs.Levels.{Chances}
 use Rattle.pks_search_distance.specs.Relaxed.{aim_may, deed_news, IsNewIn}
+use Rattle.pks_search_distance.specs.declared.gains.Gains.{Gains}
 use Rattle.pks_search_distance.specs.Gained.{chances_of, deed_of}
 use Rattle.pks_search_distance.proofs.Growing.{allows_first}
 use Rattle.pks_search_distance.proofs.Bounded.{AtLeast, covers_none, least_none, covers_more, least_more, bound_some, bound_none}
@@ -39,7 +40,7 @@ returns-then-not-grew c =
     let w = world_of c.args.w.now in
     let m = chances_of w c.loop-k.gains in
     let far : list_all (aim_may m) p.goal ≡ false = sym (c.in_ok-met.ensures ∙ ap (λ (aims : List Aim). list_all (aim_may m) (map aim_of aims)) c.as_slice.ensures) ∙ c.if-met.false in
-    let same = c.in_ok-grew.ensures.same c.if-not-grew.true in
+    let same = ap (λ (g : Gains). chances_of w g) (c.in_ok-grew.ensures.same c.if-not-grew.true) in
     let has = subst (λ (n : Chances). Each (IsNewIn n) (flat_map (deed_news m) (map deed_of x.deeds.items))) same c.in_ok-grew.ensures.has in
     bound_none p x w m c.requires has (c.loop-k.invariant.covers 0 w (omega arith) refl) far
 

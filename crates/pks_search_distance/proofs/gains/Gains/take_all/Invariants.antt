@@ -3,12 +3,13 @@ use Rattle.pks_terms.specs.Sets.{Each}
 use Rattle.pks_world.specs.Contents.{world_of}
 use Rattle.pks_search_distance.specs.Levels.{Grows}
 use Rattle.pks_search_distance.specs.Relaxed.{IsNewIn}
-use Rattle.pks_search_distance.specs.Gained.{chances_of, new_of}
+use Rattle.pks_search_distance.specs.Gained.{chances_of, some_new, new_of}
 use Rattle.pks_search_distance.proofs.gains.Gains.take_all.Given as goal
 
 abbrev pub invariant-loop-x : goal.invariant-loop-x
 invariant-loop-x l = record {
   grows : Grows (chances_of (world_of l.w) l.fn.self) (chances_of (world_of l.w) l.self);
   has : Each (IsNewIn (chances_of (world_of l.w) l.self)) (map new_of (take l.x-index l.found));
-  same : l.grew ≡ false → chances_of (world_of l.w) l.self ≡ chances_of (world_of l.w) l.fn.self;
+  told : l.grew ≡ some_new (world_of l.w) l.fn.self (map new_of (take l.x-index l.found));
+  same : l.grew ≡ false → l.self ≡ l.fn.self;
 }
