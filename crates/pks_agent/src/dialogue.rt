@@ -80,6 +80,13 @@ fn act<P: Peer>(
     }
 }
 
+/// The cases of a term and the value that was told, of which one case is wanted.
+#[derive(Clone, Copy)]
+struct Sought<'k> {
+    cases: &'k CaseChain,
+    value: ObjId,
+}
+
 /// Leads the dialogue of the tree, whose first answer has the number `k`.
 #[cycle(dialogue)]
 fn walk<P: Peer>(
@@ -121,7 +128,10 @@ fn walk<P: Peer>(
         }
         Tree::Cases { term, cases } => {
             match ask_value(p, term, peer, questions[0].as_slice(), k) {
-                Ok(value) => walk_case(p, cases, value, &questions[1..], desk, peer, k + 1),
+                Ok(value) => {
+                    let sought = Sought { cases, value };
+                    walk_case(p, sought, &questions[1..], desk, peer, k + 1)
+                }
                 Err(stop) => Err(stop),
             }
         }
@@ -132,28 +142,31 @@ fn walk<P: Peer>(
 #[cycle(dialogue)]
 fn walk_case<P: Peer>(
     p: &Problem<'_>,
-    cases: &CaseChain,
-    value: ObjId,
+    sought: Sought<'_>,
     questions: &[Vec<u8>],
     desk: &mut Desk,
     peer: &mut P,
     k: u32,
 ) -> Result<End, TalkEnd>
     requires objects { length p.now.signature.objects ≤ 65536 }
-    requires questions { Opens (texts_in questions.now) (case_questions (names_of p.now) (chain_of cases.now)) }
+    requires questions { Opens (texts_in questions.now) (case_questions (names_of p.now) (chain_of sought.cases.now)) }
     requires desk { IsDesk (names_of p.now) desk.old }
-    requires numbers { k + 4 * chain_depth (chain_of cases.now) < 2 ^ 32 }
+    requires numbers { k + 4 * chain_depth (chain_of sought.cases.now) < 2 ^ 32 }
     ensures { IsLed (moment P.answers P.said P.sends P.receipts P.kept P.sure peer.old) (moment P.answers P.said P.sends P.receipts P.kept P.sure peer.new) result
-        (talk_case (signature_of p.now.signature) (names_of p.now) (chain_of cases.now) value.0 k) }
+        (talk_case (signature_of p.now.signature) (names_of p.now) (chain_of sought.entry.cases.now) sought.entry.value.0 k) }
 {
-    match cases {
+    match sought.cases {
         CaseChain::Empty => tell_end(End::NoCase, peer),
         CaseChain::More { object, tree, rest } => {
-            if *object == value {
+            if *object == sought.value {
                 walk(p, tree, questions, desk, peer, k)
             } else {
                 let others = behind(tree, questions);
-                walk_case(p, rest, value, others, desk, peer, k)
+                let later = Sought {
+                    cases: rest,
+                    value: sought.value,
+                };
+                walk_case(p, later, others, desk, peer, k)
             }
         }
     }

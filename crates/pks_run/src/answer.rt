@@ -2,12 +2,13 @@
 ghost use Rattle.std.specs.Prelude.{◌≡◌, ◌≤◌, [], length, IfOk};
 ghost use Rattle.pks_terms.specs.Printed.{Text, refusal_text};
 ghost use Rattle.pks_terms.specs.Jobs.{IsInBounds, usage_text};
-ghost use Rattle.pks_terms.specs.Answers.{refusal, text_for, Reading, ReadAs, Faulty};
+ghost use Rattle.pks_terms.specs.Answers.{refusal, text_for, Reading, ReadAs};
 ghost use Rattle.pks_run_words.specs.JobViews.{modes, job_of};
-ghost use Rattle.pks_reader.specs.Inputs.{line_and_column, IsFaulty, IsRead, Reads};
+ghost use Rattle.pks_reader.specs.Inputs.{line_and_column, IsRead, Reads};
 ghost use Rattle.pks_reader.specs.Views.{file_of, IsWhole};
 ghost use Rattle.pks_run_answer.specs.Replies.{IsAbout};
 ghost use Rattle.pks_run.specs.Answer.{IsReplyTo};
+ghost use Rattle.pks_run.specs.Opening.{OpensAs};
 ghost use Rattle.pks_run.specs.Replied.{status_for};
 
 use crate::status::Status;
@@ -29,12 +30,31 @@ fn status_for(verdict: Verdict) -> Status
 }
 
 // The line of a refusal of an input, which says nothing but its place and its code.
-pub fn refusal_of(alloc: Global, input: &[u8], r: Refusal) -> Result<Vec<u8>, AllocError>
+fn refusal_of(alloc: Global, input: &[u8], r: Refusal) -> Result<Vec<u8>, AllocError>
     requires { length input.now ≤ 262144 }
     ensures { IfOk result (λ text. text.items ≡ refusal_text (refusal (line_and_column input.now r.at) r.code [])) }
 {
     let text = refusal_line(alloc, input, r, "")?;
     Ok(text)
+}
+
+// What a text is as an input: a file, or refused with this line.
+#[derive(Drop)]
+pub enum Opened<'t> {
+    File(InputFile<'t>),
+    Refused(Vec<u8>),
+}
+
+// Reads a text as an input.
+pub fn open<'t>(alloc: Global, text: &'t [u8]) -> Result<Opened<'t>, AllocError>
+    requires { length text.now ≤ 262144 }
+    ensures { IfOk result (OpensAs text.now) }
+{
+    match read_file(alloc, text) {
+        Ok(file) => Ok(Opened::File(file)),
+        Err(Turned::Refused(r)) => Ok(Opened::Refused(refusal_of(alloc, text, r)?)),
+        Err(Turned::Memory) => Err(AllocError),
+    }
 }
 
 // What is answered to words that ask for no job.
@@ -75,22 +95,6 @@ fn about_file(
     Ok((status_for(verdict), text))
 }
 
-// The answer about a text that reads as this fault.
-fn about_fault(
-    alloc: Global,
-    job: Job,
-    input: &[u8],
-    r: Refusal,
-) -> Result<(Status, Vec<u8>), AllocError>
-    requires short { length input.now ≤ 262144 }
-    requires faulty { IsFaulty input.now (r.at, r.code) }
-    requires one { (x : Reading) → Reads input.now x → x ≡ Faulty (line_and_column input.now r.at) r.code }
-    ensures { IfOk result (λ a. (given : Text) → text_for (job_of job) given ≡ input.now → IsReplyTo (job_of job) given a.0 a.1.items) }
-{
-    let text = refusal_of(alloc, input, r)?;
-    Ok((Status::Refused, text))
-}
-
 // The answer to a job about a text.
 pub fn answer(alloc: Global, job: Job, input: &[u8]) -> Result<(Status, Vec<u8>), AllocError>
     requires short { length input.now ≤ 262144 }
@@ -98,15 +102,12 @@ pub fn answer(alloc: Global, job: Job, input: &[u8]) -> Result<(Status, Vec<u8>)
     requires about { IsAbout (job_of job) input.now }
     ensures { IfOk result (λ a. (given : Text) → text_for (job_of job) given ≡ input.now → IsReplyTo (job_of job) given a.0 a.1.items) }
 {
-    match read_file(alloc, input) {
-        Ok(file) => {
+    let opened = open(alloc, input)?;
+    match opened {
+        Opened::File(file) => {
             let answer = about_file(alloc, job, input, &file)?;
             Ok(answer)
         }
-        Err(Turned::Refused(r)) => {
-            let answer = about_fault(alloc, job, input, r)?;
-            Ok(answer)
-        }
-        Err(Turned::Memory) => Err(AllocError),
+        Opened::Refused(line) => Ok((Status::Refused, line)),
     }
 }

@@ -16,7 +16,7 @@ ghost use Rattle.pks_run.specs.Answer.{LeadsFront};
 ghost use Rattle.pks_run.specs.Leads.{HasCauses, line_refused, WritesRefusal, Concludes, Converses, Leads};
 ghost use Rattle.pks_run.specs.declared.status.Status.{Status};
 
-use crate::answer::{refusal_of, too_long};
+use crate::answer::{Opened, open, too_long};
 use crate::send::send;
 use crate::status::Status;
 use itoa::Buffer;
@@ -24,8 +24,9 @@ use pks_agent::{PeerFault, ReadAhead, Room, TalkEnd, converse_over, read_file_te
 use pks_exec::End;
 use pks_io::{ReadEnd, Sink, SinkFailed, Source, write_all};
 use pks_plan::Tree;
-use pks_reader::{InputFile, Turned, read_file};
+use pks_reader::InputFile;
 use pks_run_answer::leads::{Lead, lead_about};
+use pks_run_answer::line::refusal_parts;
 use pks_text::line_column_behind;
 use std::alloc::Global;
 
@@ -51,13 +52,7 @@ fn refuse<K: Sink>(sink: &mut K, line: u64, code: u16) -> Status
 {
     let mut place = Buffer::new();
     let mut number = Buffer::new();
-    let parts = [
-        b"refused ".as_slice(),
-        place.format(line).as_bytes(),
-        b":1 ".as_slice(),
-        number.format(code).as_bytes(),
-        b"\n".as_slice(),
-    ];
+    let parts = refusal_parts(place.format(line), "1", number.format(code), "");
     match write_parts(sink, &parts) {
         Ok(()) => Status::Refused,
         Err(_) => Status::WriteFault,
@@ -77,29 +72,36 @@ fn conclude<K: Sink>(ended: Result<End, TalkEnd>, stop: u32, sink: &mut K) -> St
     }
 }
 
+// What a dialogue begins with: how deep its plan may be, the text of its file, and what was read behind that.
+#[derive(Drop)]
+struct Opening<'t> {
+    depth: u8,
+    text: &'t [u8],
+    ahead: ReadAhead,
+}
+
 // Leads the caller through the plan.
 fn lead_through<S: Source, K: Sink>(
     alloc: Global,
-    depth: u8,
-    text: &[u8],
+    opening: Opening<'_>,
     f: &InputFile<'_>,
     t: &Tree,
-    ahead: ReadAhead,
     source: &mut S,
     sink: &mut K,
 ) -> Status
-    requires short { length text.now ≤ 262144 }
+    requires short { length opening.text.now ≤ 262144 }
     requires whole { IsWhole f.now }
-    requires depth { depth ≤ 16 }
-    requires read { IsRead text.now (file_of f.now) }
-    requires one { (x : Reading) → Reads text.now x → x ≡ ReadAs (file_of f.now) }
-    requires fine { NoneApplies (RefusesFile (jobs.Agent depth) (file_of f.now)) }
-    requires best { IsBest (file_of f.now).problem depth (Some (tree_of t.now)) }
-    ensures told { (input : Text) → HasFile input (coming ahead (S.left source.old)) text.now → Converses depth input (K.written sink.old) (K.written sink.new) (S.left source.new) result }
+    requires depth { opening.depth ≤ 16 }
+    requires read { IsRead opening.text.now (file_of f.now) }
+    requires one { (x : Reading) → Reads opening.text.now x → x ≡ ReadAs (file_of f.now) }
+    requires fine { NoneApplies (RefusesFile (jobs.Agent opening.depth) (file_of f.now)) }
+    requires best { IsBest (file_of f.now).problem opening.depth (Some (tree_of t.now)) }
+    ensures told { (input : Text) → HasFile input (coming opening.entry.ahead (S.left source.old)) opening.entry.text.now → Converses opening.entry.depth input (K.written sink.old) (K.written sink.new) (S.left source.new) result }
     ensures causes { HasCauses (S.faults source.old) (S.faults source.new) (K.faults sink.old) (K.faults sink.new) result }
     ensures kind { result ≡ Status.Words → ⊥ }
     ensures memory { result ≡ Status.Memory → sink.new ≡ sink.old }
 {
+    let Opening { text, ahead, .. } = opening;
     let (stop, _column) = line_column_behind(text);
     match Room::new(alloc, &f.problem, t) {
         Ok(mut room) => {
@@ -113,25 +115,23 @@ fn lead_through<S: Source, K: Sink>(
 // Leads the caller through the best plan of the file, where it is accepted and has one.
 fn lead_file<S: Source, K: Sink>(
     alloc: Global,
-    depth: u8,
-    text: &[u8],
+    opening: Opening<'_>,
     f: &InputFile<'_>,
-    ahead: ReadAhead,
     source: &mut S,
     sink: &mut K,
 ) -> Status
-    requires short { length text.now ≤ 262144 }
+    requires short { length opening.text.now ≤ 262144 }
     requires whole { IsWhole f.now }
-    requires depth { depth ≤ 16 }
-    requires read { IsRead text.now (file_of f.now) }
-    requires one { (x : Reading) → Reads text.now x → x ≡ ReadAs (file_of f.now) }
-    ensures told { (input : Text) → HasFile input (coming ahead (S.left source.old)) text.now → Converses depth input (K.written sink.old) (K.written sink.new) (S.left source.new) result }
+    requires depth { opening.depth ≤ 16 }
+    requires read { IsRead opening.text.now (file_of f.now) }
+    requires one { (x : Reading) → Reads opening.text.now x → x ≡ ReadAs (file_of f.now) }
+    ensures told { (input : Text) → HasFile input (coming opening.entry.ahead (S.left source.old)) opening.entry.text.now → Converses opening.entry.depth input (K.written sink.old) (K.written sink.new) (S.left source.new) result }
     ensures causes { HasCauses (S.faults source.old) (S.faults source.new) (K.faults sink.old) (K.faults sink.new) result }
     ensures kind { result ≡ Status.Words → ⊥ }
     ensures memory { result ≡ Status.Memory → sink.new ≡ sink.old }
 {
-    match lead_about(alloc, depth, f) {
-        Ok(Lead::Plan(t)) => lead_through(alloc, depth, text, f, &t, ahead, source, sink),
+    match lead_about(alloc, opening.depth, f) {
+        Ok(Lead::Plan(t)) => lead_through(alloc, opening, f, &t, source, sink),
         Ok(Lead::NoPlan(line)) => send(sink, &line, Status::NoPlan),
         Ok(Lead::Refused(line)) => send(sink, &line, Status::Refused),
         Err(_) => Status::Memory,
@@ -154,13 +154,13 @@ fn lead_text<S: Source, K: Sink>(
     ensures kind { result ≡ Status.Words → ⊥ }
     ensures memory { result ≡ Status.Memory → sink.new ≡ sink.old }
 {
-    match read_file(alloc, text) {
-        Ok(f) => lead_file(alloc, depth, text, &f, ahead, source, sink),
-        Err(Turned::Refused(r)) => match refusal_of(alloc, text, r) {
-            Ok(line) => send(sink, &line, Status::Refused),
-            Err(_) => Status::Memory,
-        },
-        Err(Turned::Memory) => Status::Memory,
+    match open(alloc, text) {
+        Ok(Opened::File(f)) => {
+            let opening = Opening { depth, text, ahead };
+            lead_file(alloc, opening, &f, source, sink)
+        }
+        Ok(Opened::Refused(line)) => send(sink, &line, Status::Refused),
+        Err(_) => Status::Memory,
     }
 }
 

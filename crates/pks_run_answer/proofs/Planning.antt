@@ -16,8 +16,10 @@ use Rattle.pks_run_bench.proofs.Sizes.{plans_small}
 use Rattle.pks_recall.specs.Walking.{Recalls}
 use Rattle.pks_run_answer.specs.declared.reply.Verdict.{Verdict}
 use Rattle.pks_run_answer.specs.declared.reply.Verdict.TheVariants.{Done, NoPlan, Refused}
+use Rattle.pks_run_answer.specs.declared.plans.Product.{Product}
+use Rattle.pks_run_answer.specs.declared.plans.Product.TheVariants as product_is
 use Rattle.pks_run_answer.specs.Accepting.{IsRunIn}
-use Rattle.pks_run_answer.specs.Replies.{Plans, Says, SaysRecalled, SaysExplained, SaysShared, IsReply}
+use Rattle.pks_run_answer.specs.Replies.{CanBeMade, CanBeMadeOf, Plans, Says, SaysRecalled, SaysExplained, SaysShared, IsReply}
 
 pub best_depth : (p : Problem) (n : ℕ) (t : Tree) → IsBest p n (Some t) → depth t ≤ n
 best_depth p n t best = best.0.1
@@ -27,6 +29,15 @@ pub best_nodes : (p : Problem) (t : Tree) → IsBest p 2 (Some t) → nodes_of t
 best_nodes p t best =
     let small : nodes_of t ≤ 273 = plans_small p (start_state best.0.0.outcome) t best.0.0.derives best.0.1 in
     omega (arith, small)
+
+-- so what can be made of a plan to the depth can be made of the best one
+pub can_be_made : (x : Product) (p : Problem) (n : ℕ) (t : Tree) → IsBest p n (Some t) → CanBeMade n x → CanBeMadeOf t x
+can_be_made product_is.Plain p n t best can = tt
+can_be_made (product_is.Run w) p n t best can = tt
+can_be_made product_is.Recalled p n t best can = tt
+can_be_made product_is.Explained p n t best can = tt
+can_be_made product_is.Shared p n t best can = tt
+can_be_made (product_is.BenchLine m file) p n t best can = (can.0, best_nodes p t (subst (λ k. IsBest p k (Some t)) can.1 best))
 
 -- a run has its world
 pub run_is_given : (n : ℕ) (s : Stated) (w : Option World) → IsRunIn (Exec n) s w → IsSome w

@@ -1,17 +1,23 @@
 -- What is replied to a job about a file that was read.
-use Rattle.std.specs.Prelude.{◌≡◌, ◌++◌, ℕ, List, Some, None}
+use Rattle.std.specs.Prelude.{◌≡◌, ◌<◌, ◌^◌, ◌++◌, ℕ, List, Some, None}
 use Rattle.pks_terms.specs.Problems.{Problem}
 use Rattle.pks_terms.specs.Trees.{Tree, IsBest}
 use Rattle.pks_terms.specs.Jobs.{Job, Agent, Explain}
-use Rattle.pks_terms.specs.Printed.{Text, Names, Refusal, tree_text, none_text, refusal_text}
+use Rattle.pks_terms.specs.Printed.{Text, Names, Refusal, generated, nodes_of, tree_text, run_text, bench_text, none_text, refusal_text}
+use Rattle.pks_terms.specs.Knowledge.{run_of}
 use Rattle.pks_terms.specs.Settling.{State}
 use Rattle.pks_terms.specs.Recalled.{IsRecalled, recall_text}
 use Rattle.pks_terms.specs.Explained.{Entry, IsExplained, explained_text}
 use Rattle.pks_terms.specs.Nodes.{Node, IsShared, shared_text}
 use Rattle.pks_terms.specs.Answers.{File, RefusesFile, NoneApplies, IsOfBest, PrintsExplained, IsDone, IsUnplanned, text_for}
+use Rattle.pks_world.specs.Contents.{world_of}
 use Rattle.pks_plan.specs.TreeViews.{tree_of}
 use Rattle.pks_run_answer.specs.declared.leads.Lead.{Lead}
 use Rattle.pks_run_answer.specs.declared.leads.Lead.TheVariants as lead_is
+use Rattle.pks_run_answer.specs.declared.plans.Planned.{Planned}
+use Rattle.pks_run_answer.specs.declared.plans.Planned.TheVariants as planned_is
+use Rattle.pks_run_answer.specs.declared.plans.Product.{Product}
+use Rattle.pks_run_answer.specs.declared.plans.Product.TheVariants as product_is
 use Rattle.pks_run_answer.specs.Goodness.{HasGoodPlan, TellsTruth}
 use Rattle.pks_run_answer.specs.declared.reply.Verdict.{Verdict}
 use Rattle.pks_run_answer.specs.declared.reply.Verdict.TheVariants.{Done, NoPlan, Refused}
@@ -36,6 +42,30 @@ SaysExplained p names text t = (es : List Entry) × IsExplained p t es × (text 
 -- the plan with its equal parts once
 abbrev pub SaysShared : Names → Text → Tree → Type 0
 SaysShared names text t = (nodes : List Node) × IsShared t nodes × (text ≡ shared_text names nodes)
+
+-- what is made of the plan
+abbrev pub SaysMade : Problem → Names → Product → Text → Tree → Type 0
+SaysMade p names product_is.Plain = Says (tree_text names)
+SaysMade p names (product_is.Run w) = Says (λ t. run_text names (run_of p t (world_of w.now)))
+SaysMade p names product_is.Recalled = SaysRecalled p names
+SaysMade p names product_is.Explained = SaysExplained p names
+SaysMade p names product_is.Shared = SaysShared names
+SaysMade p names (product_is.BenchLine n file) = Says (bench_text n)
+
+-- it can be made of a plan to this depth: the line of the generated file, of one to depth 2
+abbrev pub CanBeMade : ℕ → Product → Type 0
+CanBeMade depth (product_is.BenchLine n file) = (file.now ≡ generated n) × (depth ≡ 2)
+CanBeMade depth product = Unit {0}
+
+-- it can be made of this plan
+abbrev pub CanBeMadeOf : Tree → Product → Type 0
+CanBeMadeOf t (product_is.BenchLine n file) = (file.now ≡ generated n) × (nodes_of t < 2 ^ 64)
+CanBeMadeOf t product = Unit {0}
+
+-- the best plan to the depth, or the line that there is none
+abbrev pub IsPlanned : Problem → ℕ → Planned → Type 0
+IsPlanned p n (planned_is.Plan t) = IsBest p n (Some (tree_of t))
+IsPlanned p n (planned_is.NoPlan line) = IsBest p n None × (line.items ≡ none_text n)
 
 -- the best plan to the depth, of which the text says this, or that there is none
 abbrev pub Plans : Problem → ℕ → (Text → Tree → Type 0) → Verdict → Text → Type 0

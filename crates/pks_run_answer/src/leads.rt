@@ -10,12 +10,11 @@ ghost use Rattle.pks_run_answer.specs.Replies.{IsLead};
 
 use crate::accept::accept;
 use crate::line::file_line;
-use crate::plans::none_text;
+use crate::plans::{Planned, look_for_plan};
 use pks_plan::Tree;
 use pks_query::databases::Db;
 use pks_reader::{InputFile, Turned};
 use pks_run_words::Job;
-use pks_search::searching::best_from;
 use std::alloc::{AllocError, Global};
 
 /// What a dialogue about a file begins with.
@@ -29,17 +28,18 @@ pub enum Lead {
     Plan(Tree),
 }
 
-/// The plan of a file that is accepted, or that there is none.
-fn planned(alloc: Global, f: &InputFile<'_>, first: Db, depth: u8) -> Result<Lead, AllocError>
+/// What a dialogue about a file that is accepted begins with.
+fn accepted_lead(alloc: Global, f: &InputFile<'_>, first: Db, depth: u8) -> Result<Lead, AllocError>
     requires whole { IsWhole f.now }
     requires depth { depth ≤ 16 }
     requires begins { Begins (problem_of f.now.problem) (five_of first) }
     requires fine { NoneApplies (RefusesFile (Agent depth) (file_of f.now)) }
     ensures { IfOk result (IsLead depth (file_of f.now)) }
 {
-    match best_from(alloc, &f.problem, first, depth)? {
-        Some(tree) => Ok(Lead::Plan(tree)),
-        None => Ok(Lead::NoPlan(none_text(alloc, depth)?)),
+    let found = look_for_plan(alloc, &f.problem, first, depth)?;
+    match found {
+        Planned::Plan(tree) => Ok(Lead::Plan(tree)),
+        Planned::NoPlan(line) => Ok(Lead::NoPlan(line)),
     }
 }
 
@@ -51,7 +51,7 @@ pub fn lead_about(alloc: Global, depth: u8, f: &InputFile<'_>) -> Result<Lead, A
     ensures { IfOk result (IsLead depth (file_of f.now)) }
 {
     match accept(alloc, Job::Agent(depth), f) {
-        Ok(accepted) => planned(alloc, f, accepted.first, depth),
+        Ok(accepted) => accepted_lead(alloc, f, accepted.first, depth),
         Err(Turned::Refused(r)) => Ok(Lead::Refused(file_line(alloc, f, r)?)),
         Err(Turned::Memory) => Err(AllocError),
     }

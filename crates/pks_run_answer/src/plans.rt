@@ -1,16 +1,16 @@
-// The jobs that plan.
+// Plans, and what is made of them.
 ghost use Rattle.std.specs.Prelude.{◌≡◌, ◌≤◌, [], IfOk};
 ghost use Rattle.pks_terms.specs.Answers.{unjustified};
 ghost use Rattle.pks_terms.specs.Trees.{IsPlan, depth};
 ghost use Rattle.pks_terms.specs.ValidProblems.{IsValidProblem};
 ghost use Rattle.pks_terms.specs.Views.{problem_of, names_of};
 ghost use Rattle.pks_terms.specs.Knowledge.{run_of};
-ghost use Rattle.pks_terms.specs.Printed.{tree_text, run_text, bench_text, none_text, generated};
+ghost use Rattle.pks_terms.specs.Printed.{run_text, none_text};
 ghost use Rattle.pks_world.specs.Contents.{world_of};
 ghost use Rattle.pks_query_lookup.specs.Fives.{five_of};
 ghost use Rattle.pks_plan.specs.TreeViews.{tree_of};
 ghost use Rattle.pks_run_answer.specs.Accepting.{Begins};
-ghost use Rattle.pks_run_answer.specs.Replies.{Plans, Says, SaysRecalled, SaysExplained, SaysShared};
+ghost use Rattle.pks_run_answer.specs.Replies.{IsPlanned, CanBeMade, CanBeMadeOf, SaysMade, Plans, SaysRecalled, SaysExplained, SaysShared};
 
 use crate::reply::Verdict;
 use pks_dag::{print_dag, share};
@@ -26,7 +26,31 @@ use pks_world::World;
 use std::alloc::{AllocError, Global};
 
 // The depth to which the generated file is planned.
-const BENCH_DEPTH: u8 = 2;
+pub(crate) const BENCH_DEPTH: u8 = 2;
+
+// The best plan, or the line that says that there is none.
+#[derive(Drop)]
+pub(crate) enum Planned {
+    Plan(Tree),
+    NoPlan(Vec<u8>),
+}
+
+// What is made of a plan.
+#[derive(Clone, Copy)]
+pub(crate) enum Product<'w> {
+    // Its text.
+    Plain,
+    // The text of its run in the world.
+    Run(&'w World),
+    // Its text, and what each of its leaves knows.
+    Recalled,
+    // Its text, and a proof of each literal that it rests on.
+    Explained,
+    // Its text with equal parts once.
+    Shared,
+    // The line of the plan of this file, which is generated with so many objects.
+    BenchLine(u8, &'w [u8]),
+}
 
 // That there is no plan.
 pub(crate) fn none_text(alloc: Global, depth: u8) -> Result<Vec<u8>, AllocError>
@@ -46,43 +70,6 @@ fn run_text(alloc: Global, p: &Problem<'_>, t: &Tree, w: &World) -> Result<Vec<u
     Ok(text)
 }
 
-// The best plan to the depth, or that there is none.
-pub fn plan(
-    alloc: Global,
-    p: &Problem<'_>,
-    first: Db,
-    depth: u8,
-) -> Result<(Verdict, Vec<u8>), AllocError>
-    requires valid { IsValidProblem p.now }
-    requires depth { depth ≤ 16 }
-    requires begins { Begins (problem_of p.now) (five_of first) }
-    ensures { IfOk result (λ a. Plans (problem_of p.now) depth (Says (tree_text (names_of p.now))) a.0 a.1.items) }
-{
-    match best_from(alloc, p, first, depth)? {
-        Some(tree) => Ok((Verdict::Done, print_tree(alloc, p, &tree)?)),
-        None => Ok((Verdict::NoPlan, none_text(alloc, depth)?)),
-    }
-}
-
-// The run of the best plan in the world, or that there is none.
-pub fn plan_and_run(
-    alloc: Global,
-    p: &Problem<'_>,
-    w: &World,
-    first: Db,
-    depth: u8,
-) -> Result<(Verdict, Vec<u8>), AllocError>
-    requires valid { IsValidProblem p.now }
-    requires depth { depth ≤ 16 }
-    requires begins { Begins (problem_of p.now) (five_of first) }
-    ensures { IfOk result (λ a. Plans (problem_of p.now) depth (Says (λ t. run_text (names_of p.now) (run_of (problem_of p.now) t (world_of w.now)))) a.0 a.1.items) }
-{
-    match best_from(alloc, p, first, depth)? {
-        Some(tree) => Ok((Verdict::Done, run_text(alloc, p, &tree, w)?)),
-        None => Ok((Verdict::NoPlan, none_text(alloc, depth)?)),
-    }
-}
-
 // The text of a plan, and of what each of its leaves knows.
 #[tactic(auto, using(crate::proofs::Planning::says_recalled))]
 fn recalled_text(alloc: Global, p: &Problem<'_>, t: &Tree) -> Result<Vec<u8>, AllocError>
@@ -96,24 +83,6 @@ fn recalled_text(alloc: Global, p: &Problem<'_>, t: &Tree) -> Result<Vec<u8>, Al
     let leaves = recall(alloc, p, t)?;
     text.extend_from_slice(&leaves)?;
     Ok(text)
-}
-
-// The best plan to the depth and what each of its leaves knows, or that there is no plan.
-pub fn plan_and_recall(
-    alloc: Global,
-    p: &Problem<'_>,
-    first: Db,
-    depth: u8,
-) -> Result<(Verdict, Vec<u8>), AllocError>
-    requires valid { IsValidProblem p.now }
-    requires depth { depth ≤ 16 }
-    requires begins { Begins (problem_of p.now) (five_of first) }
-    ensures { IfOk result (λ a. Plans (problem_of p.now) depth (SaysRecalled (problem_of p.now) (names_of p.now)) a.0 a.1.items) }
-{
-    match best_from(alloc, p, first, depth)? {
-        Some(tree) => Ok((Verdict::Done, recalled_text(alloc, p, &tree)?)),
-        None => Ok((Verdict::NoPlan, none_text(alloc, depth)?)),
-    }
 }
 
 // The text of a plan, and of a proof of each literal that it rests on.
@@ -132,24 +101,6 @@ fn explained_text(alloc: Global, p: &Problem<'_>, t: &Tree) -> Result<Vec<u8>, A
     Ok(text)
 }
 
-// The best plan to the depth and a proof of each literal that it rests on, or that there is no plan.
-pub fn plan_and_explain(
-    alloc: Global,
-    p: &Problem<'_>,
-    first: Db,
-    depth: u8,
-) -> Result<(Verdict, Vec<u8>), AllocError>
-    requires valid { IsValidProblem p.now }
-    requires depth { depth ≤ 16 }
-    requires begins { Begins (problem_of p.now) (five_of first) }
-    ensures { IfOk result (λ a. Plans (problem_of p.now) depth (SaysExplained (problem_of p.now) (names_of p.now)) a.0 a.1.items) }
-{
-    match best_from(alloc, p, first, depth)? {
-        Some(tree) => Ok((Verdict::Done, explained_text(alloc, p, &tree)?)),
-        None => Ok((Verdict::NoPlan, none_text(alloc, depth)?)),
-    }
-}
-
 // The nodes of a plan, as text.
 #[tactic(auto, using(crate::proofs::Planning::says_shared))]
 fn nodes_text(alloc: Global, p: &Problem<'_>, t: &Tree) -> Result<Vec<u8>, AllocError>
@@ -160,39 +111,68 @@ fn nodes_text(alloc: Global, p: &Problem<'_>, t: &Tree) -> Result<Vec<u8>, Alloc
     Ok(text)
 }
 
-// The best plan to the depth with its equal parts once, or that there is none.
-pub fn plan_shared(
+// The best plan to the depth, or the line that says that there is none.
+pub(crate) fn look_for_plan(
     alloc: Global,
     p: &Problem<'_>,
+    first: Db,
+    depth: u8,
+) -> Result<Planned, AllocError>
+    requires valid { IsValidProblem p.now }
+    requires depth { depth ≤ 16 }
+    requires begins { Begins (problem_of p.now) (five_of first) }
+    ensures { IfOk result (IsPlanned (problem_of p.now) depth) }
+{
+    match best_from(alloc, p, first, depth)? {
+        Some(tree) => Ok(Planned::Plan(tree)),
+        None => Ok(Planned::NoPlan(none_text(alloc, depth)?)),
+    }
+}
+
+// What is wanted of the plan, as text.
+fn made(
+    alloc: Global,
+    p: &Problem<'_>,
+    product: Product<'_>,
+    t: &Tree,
+) -> Result<Vec<u8>, AllocError>
+    requires valid { IsValidProblem p.now }
+    requires justified { unjustified (problem_of p.now) ≡ [] }
+    requires derived { IsPlan (problem_of p.now) (tree_of t.now) }
+    requires depth { depth (tree_of t.now) ≤ 16 }
+    requires can { CanBeMadeOf (tree_of t.now) product }
+    ensures { IfOk result (λ text. SaysMade (problem_of p.now) (names_of p.now) product.entry text.items (tree_of t.now)) }
+{
+    match product {
+        Product::Plain => print_tree(alloc, p, t),
+        Product::Run(w) => run_text(alloc, p, t, w),
+        Product::Recalled => recalled_text(alloc, p, t),
+        Product::Explained => explained_text(alloc, p, t),
+        Product::Shared => nodes_text(alloc, p, t),
+        Product::BenchLine(n, file) => bench_line(alloc, n, file, t),
+    }
+}
+
+// What is wanted of the best plan to the depth, or that there is none.
+pub(crate) fn plan(
+    alloc: Global,
+    p: &Problem<'_>,
+    product: Product<'_>,
     first: Db,
     depth: u8,
 ) -> Result<(Verdict, Vec<u8>), AllocError>
     requires valid { IsValidProblem p.now }
     requires depth { depth ≤ 16 }
     requires begins { Begins (problem_of p.now) (five_of first) }
-    ensures { IfOk result (λ a. Plans (problem_of p.now) depth (SaysShared (names_of p.now)) a.0 a.1.items) }
+    requires can { CanBeMade depth product }
+    ensures { IfOk result (λ a. Plans (problem_of p.now) depth (SaysMade (problem_of p.now) (names_of p.now) product.entry) a.0 a.1.items) }
 {
-    match best_from(alloc, p, first, depth)? {
-        Some(tree) => Ok((Verdict::Done, nodes_text(alloc, p, &tree)?)),
-        None => Ok((Verdict::NoPlan, none_text(alloc, depth)?)),
-    }
-}
-
-// The line of the best plan over the generated file with n objects, or that there is none.
-pub fn bench(
-    alloc: Global,
-    p: &Problem<'_>,
-    file: &[u8],
-    first: Db,
-    n: u8,
-) -> Result<(Verdict, Vec<u8>), AllocError>
-    requires valid { IsValidProblem p.now }
-    requires file { file.now ≡ generated n }
-    requires begins { Begins (problem_of p.now) (five_of first) }
-    ensures { IfOk result (λ a. Plans (problem_of p.now) 2 (Says (bench_text n)) a.0 a.1.items) }
-{
-    match best_from(alloc, p, first, BENCH_DEPTH)? {
-        Some(tree) => Ok((Verdict::Done, bench_line(alloc, n, file, &tree)?)),
-        None => Ok((Verdict::NoPlan, none_text(alloc, BENCH_DEPTH)?)),
+    let found = look_for_plan(alloc, p, first, depth)?;
+    match found {
+        Planned::Plan(tree) => {
+            let text = made(alloc, p, product, &tree)?;
+            Ok((Verdict::Done, text))
+        }
+        Planned::NoPlan(line) => Ok((Verdict::NoPlan, line)),
     }
 }

@@ -10,7 +10,7 @@ ghost use Rattle.pks_run_answer.specs.Replies.{IsReply, IsAbout, RepliesTo};
 
 use crate::accept::{Accepted, accept};
 use crate::line::file_line;
-use crate::plans::{bench, plan, plan_and_explain, plan_and_recall, plan_and_run, plan_shared};
+use crate::plans::{BENCH_DEPTH, Product, plan};
 use pks_derive::derive;
 use pks_reader::{InputFile, Turned};
 use pks_run_words::Job;
@@ -63,14 +63,17 @@ fn concluded(
     let Accepted { first, world } = accepted;
     match job {
         Job::Check => Ok((Verdict::Done, accepted_text(alloc)?)),
-        Job::Plan(depth) => plan(alloc, &f.problem, first, depth),
-        Job::Exec(depth) => plan_and_run(alloc, &f.problem, given(&world), first, depth),
-        Job::Bench(n) => bench(alloc, &f.problem, f.source.as_bytes(), first, n),
-        Job::Recall(depth) => plan_and_recall(alloc, &f.problem, first, depth),
+        Job::Plan(depth) => plan(alloc, &f.problem, Product::Plain, first, depth),
+        Job::Exec(depth) => plan(alloc, &f.problem, Product::Run(given(&world)), first, depth),
+        Job::Bench(n) => {
+            let line = Product::BenchLine(n, f.source.as_bytes());
+            plan(alloc, &f.problem, line, first, BENCH_DEPTH)
+        }
+        Job::Recall(depth) => plan(alloc, &f.problem, Product::Recalled, first, depth),
         Job::Agent(_) => unreachable!(),
-        Job::Explain(depth) => plan_and_explain(alloc, &f.problem, first, depth),
+        Job::Explain(depth) => plan(alloc, &f.problem, Product::Explained, first, depth),
         Job::Derive => Ok((Verdict::Done, derive(alloc, &f.problem)?)),
-        Job::Shared(depth) => plan_shared(alloc, &f.problem, first, depth),
+        Job::Shared(depth) => plan(alloc, &f.problem, Product::Shared, first, depth),
     }
 }
 

@@ -6,4 +6,4 @@ abbrev pub decreases-walk : goal.decreases-walk
 decreases-walk g l = size (tree_of l.t.now)
 
 abbrev pub decreases-walk_case : goal.decreases-walk_case
-decreases-walk_case g l = size_in (chain_of l.cases.now)
+decreases-walk_case g l = size_in (chain_of l.sought.cases.now)

@@ -1,14 +1,22 @@
-use Rattle.std.proofs.Common.{◌≡◌, refl, sym, subst}
-use Rattle.pks_reader_shape.specs.Refusals.{Turns}
-use Rattle.pks_reader.specs.Views.{file_of}
-use Rattle.pks_run.proofs.Reading.{one_file, one_fault, isnt_memory}
+use Rattle.std.proofs.Common.{subst}
+use Rattle.pks_run_words.specs.JobViews.{job_of}
+use Rattle.pks_run.specs.Opening.{OpensAs}
+use Rattle.pks_run.proofs.Replying.{fault_replied}
 use Rattle.pks_run.proofs.answer.answer.Goals as goal
 
-pub about_file-requires-clause-one : goal.about_file-requires-clause-one
-about_file-requires-clause-one c =
-    one_file c.args.input.now (file_of c.in-Ok.file) (λ g read. sym (c.in-Ok.ensures.only_read g read).0) (λ fault is. (c.in-Ok.ensures.only_faulty fault is).0 refl)
+pub about_file-requires-clause-whole : goal.about_file-requires-clause-whole
+about_file-requires-clause-whole c = (subst (OpensAs c.args.input.now) c.in-File.is c.in_ok-opened.ensures).whole
 
-pub about_fault-requires-clause-one : goal.about_fault-requires-clause-one
-about_fault-requires-clause-one c =
-    one_fault c.args.input.now (c.in-Err-Refused.r.at, c.in-Err-Refused.r.code) (λ g read. isnt_memory c.in-Err-Refused.r (sym c.in-Err-Refused.field-0-is) (c.in-Err-Refused.ensures.only_read g read).1)
-    (λ other is. sym (subst (Turns (λ f. f ≡ other)) c.in-Err-Refused.field-0-is (c.in-Err-Refused.ensures.only_faulty other is).1).0)
+pub about_file-requires-clause-source : goal.about_file-requires-clause-source
+about_file-requires-clause-source c = (subst (OpensAs c.args.input.now) c.in-File.is c.in_ok-opened.ensures).source
+
+pub about_file-requires-clause-read : goal.about_file-requires-clause-read
+about_file-requires-clause-read c = (subst (OpensAs c.args.input.now) c.in-File.is c.in_ok-opened.ensures).read
+
+pub about_file-requires-clause-one : goal.about_file-requires-clause-one
+about_file-requires-clause-one c = (subst (OpensAs c.args.input.now) c.in-File.is c.in_ok-opened.ensures).one
+
+pub returns-in-Refused : goal.returns-in-Refused
+returns-in-Refused c = λ given about.
+    let refused = subst (OpensAs c.args.input.now) c.in-Refused.is c.in_ok-opened.ensures in
+    fault_replied (job_of c.args.job) given c.args.input.now about refused.at refused.code refused.faulty refused.one c.in-Refused.line.items refused.says

@@ -17,7 +17,7 @@ use Rattle.pks_run.proofs.lead.lead_file.Goals as goal
 pub returns-in-Ok-NoPlan-clause-told : goal.returns-in-Ok-NoPlan-clause-told
 returns-in-Ok-NoPlan-clause-told g c = λ input has.
     let f = file_of c.args.f.now in
-    let n = c.args.depth in
+    let n = c.args.opening.depth in
     let old = g.K.Sink.written c.args.sink.now in
     let new = g.K.Sink.written c.send.new.sink in
     let text = c.in-Ok-NoPlan.line.items in
@@ -32,7 +32,7 @@ returns-in-Ok-NoPlan-clause-told g c = λ input has.
 pub returns-in-Ok-Refused-clause-told : goal.returns-in-Ok-Refused-clause-told
 returns-in-Ok-Refused-clause-told g c = λ input has.
     let f = file_of c.args.f.now in
-    let n = c.args.depth in
+    let n = c.args.opening.depth in
     let old = g.K.Sink.written c.args.sink.now in
     let new = g.K.Sink.written c.send-in-Ok-Refused.new.sink in
     let text = c.in-Ok-Refused.line.items in
@@ -45,4 +45,4 @@ returns-in-Ok-Refused-clause-told g c = λ input has.
     (λ e. subst (λ (t : List ℕ). AppendsFront old new t) c.deref-in-Ok-Refused.ensures.value (c.send-in-Ok-Refused.ensures.fault e).1) c.send-in-Ok-Refused.ensures.either
 
 pub returns-in-Err-clause-told : goal.returns-in-Err-clause-told
-returns-in-Err-clause-told g c = λ input has. memory_conversed c.args.depth input (g.K.Sink.written c.args.sink.now) (g.S.Source.left c.args.source.now)
+returns-in-Err-clause-told g c = λ input has. memory_conversed c.args.opening.depth input (g.K.Sink.written c.args.sink.now) (g.S.Source.left c.args.source.now)

@@ -8,8 +8,8 @@ use Rattle.pks_run_answer.specs.Accepting.{printed_of, IfRefused}
 use Rattle.pks_run_answer.proofs.Accepting.{none_applies}
 use Rattle.pks_run_answer.proofs.leads.lead_about.Goals as goal
 
-pub planned-requires-clause-fine : goal.planned-requires-clause-fine
-planned-requires-clause-fine c = none_applies (Agent c.args.depth) (file_of c.args.f.now) (five_of c.in-Ok.accepted.first) c.in-Ok.accepted.world c.in-Ok.ensures.accepts
+pub accepted_lead-requires-clause-fine : goal.accepted_lead-requires-clause-fine
+accepted_lead-requires-clause-fine c = none_applies (Agent c.args.depth) (file_of c.args.f.now) (five_of c.in-Ok.accepted.first) c.in-Ok.accepted.world c.in-Ok.ensures.accepts
 
 pub returns-in_ok-file_line-in-Err-Refused : goal.returns-in_ok-file_line-in-Err-Refused
 returns-in_ok-file_line-in-Err-Refused c =

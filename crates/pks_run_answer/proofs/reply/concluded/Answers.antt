@@ -35,33 +35,33 @@ given-requires c =
 pub returns-in-Exec : goal.returns-in-Exec
 returns-in-Exec c =
     let f = file_of c.args.f.now in
-    IfOk-weaker c.plan_and_run.result _ _ (λ a plans.
+    IfOk-weaker c.plan-in-Exec.result _ _ (λ a plans.
     subst (λ (j : Job). NoneApplies (RefusesFile (job_of j) f) → IsReply (job_of j) f a.0 a.1.items) (sym c.in-Exec.is)
     (λ none. run_reply c.in-Exec.depth f (world_of c.given.result.now) a.0 a.1.items
     (run_is_stated c.in-Exec.depth f.world c.args.accepted.world c.given.result.now c.given.ensures
     (subst (λ (j : Job). IsRunIn (job_of j) f.world c.args.accepted.world) c.in-Exec.is c.requires.accepts.run)) none plans)
-    (none_applies (job_of c.args.job) f (five_of c.args.accepted.first) c.args.accepted.world c.requires.accepts)) c.plan_and_run.ensures
+    (none_applies (job_of c.args.job) f (five_of c.args.accepted.first) c.args.accepted.world c.requires.accepts)) c.plan-in-Exec.ensures
 
 pub returns-in-Bench : goal.returns-in-Bench
 returns-in-Bench c =
     let f = file_of c.args.f.now in
-    IfOk-weaker c.bench.result _ _ (λ a plans.
+    IfOk-weaker c.plan-in-Bench.result _ _ (λ a plans.
     subst (λ (j : Job). NoneApplies (RefusesFile (job_of j) f) → IsReply (job_of j) f a.0 a.1.items) (sym c.in-Bench.is) (λ none. bench_reply c.in-Bench.n f a.0 a.1.items none plans)
-    (none_applies (job_of c.args.job) f (five_of c.args.accepted.first) c.args.accepted.world c.requires.accepts)) c.bench.ensures
+    (none_applies (job_of c.args.job) f (five_of c.args.accepted.first) c.args.accepted.world c.requires.accepts)) c.plan-in-Bench.ensures
 
 pub returns-in-Recall : goal.returns-in-Recall
 returns-in-Recall c =
     let f = file_of c.args.f.now in
-    IfOk-weaker c.plan_and_recall.result _ _ (λ a plans.
+    IfOk-weaker c.plan-in-Recall.result _ _ (λ a plans.
     subst (λ (j : Job). NoneApplies (RefusesFile (job_of j) f) → IsReply (job_of j) f a.0 a.1.items) (sym c.in-Recall.is) (λ none. recall_reply c.in-Recall.depth f a.0 a.1.items none plans)
-    (none_applies (job_of c.args.job) f (five_of c.args.accepted.first) c.args.accepted.world c.requires.accepts)) c.plan_and_recall.ensures
+    (none_applies (job_of c.args.job) f (five_of c.args.accepted.first) c.args.accepted.world c.requires.accepts)) c.plan-in-Recall.ensures
 
 pub returns-in-Explain : goal.returns-in-Explain
 returns-in-Explain c =
     let f = file_of c.args.f.now in
-    IfOk-weaker c.plan_and_explain.result _ _ (λ a plans.
+    IfOk-weaker c.plan-in-Explain.result _ _ (λ a plans.
     subst (λ (j : Job). NoneApplies (RefusesFile (job_of j) f) → IsReply (job_of j) f a.0 a.1.items) (sym c.in-Explain.is) (λ none. explain_reply c.in-Explain.depth f a.0 a.1.items none plans)
-    (none_applies (job_of c.args.job) f (five_of c.args.accepted.first) c.args.accepted.world c.requires.accepts)) c.plan_and_explain.ensures
+    (none_applies (job_of c.args.job) f (five_of c.args.accepted.first) c.args.accepted.world c.requires.accepts)) c.plan-in-Explain.ensures
 
 pub returns-in_ok-derive-in-Derive : goal.returns-in_ok-derive-in-Derive
 returns-in_ok-derive-in-Derive c =
@@ -73,6 +73,6 @@ returns-in_ok-derive-in-Derive c =
 pub returns-in-Shared : goal.returns-in-Shared
 returns-in-Shared c =
     let f = file_of c.args.f.now in
-    IfOk-weaker c.plan_shared.result _ _ (λ a plans.
+    IfOk-weaker c.plan-in-Shared.result _ _ (λ a plans.
     subst (λ (j : Job). NoneApplies (RefusesFile (job_of j) f) → IsReply (job_of j) f a.0 a.1.items) (sym c.in-Shared.is) (λ none. shared_reply c.in-Shared.depth f a.0 a.1.items none plans)
-    (none_applies (job_of c.args.job) f (five_of c.args.accepted.first) c.args.accepted.world c.requires.accepts)) c.plan_shared.ensures
+    (none_applies (job_of c.args.job) f (five_of c.args.accepted.first) c.args.accepted.world c.requires.accepts)) c.plan-in-Shared.ensures
