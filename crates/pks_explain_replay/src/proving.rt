@@ -66,38 +66,45 @@ fn keeping(
     Ok(Some(cites))
 }
 
-/// Puts the way to have what the k-th effect writes in this form, where no later one undoes it. Its conditions hold.
+/// An effect of an action at its place among them, whose conditions hold.
+#[derive(Clone, Copy)]
+struct Fired<'a> {
+    k: usize,
+    firing: &'a Firing,
+}
+
+/// Puts the way to have what the effect writes in this form, where no later one undoes it.
 fn put_form(
     alloc: Global,
     lines: &mut Lines<'_>,
     step: &ActionStep,
-    k: usize,
-    firing: &Firing,
+    fired: &Fired<'_>,
     form: &TargetForm,
     to: &mut Vec<Joining>,
 ) -> Result<(), AllocError> {
     let tests = Tests::of(lines, step);
-    let Some(by) = tests.made_in(alloc, k, firing.conditions(), form)? else {
+    let conditions = fired.firing.conditions();
+    let Some(by) = tests.made_in(alloc, fired.k, conditions, form)? else {
         return Ok(());
     };
     let cites = lines.show_all(alloc, step.before, by.as_slice())?;
     put(&form.literal, Reason::Effect, cites, to)
 }
 
-/// Puts the ways to have the literal by the k-th effect, whose conditions hold.
+/// Puts the ways to have the literal by the effect.
 fn put_effect(
     alloc: Global,
     lines: &mut Lines<'_>,
     step: &ActionStep,
-    k: usize,
-    firing: &Firing,
+    fired: &Fired<'_>,
     l: &Literal,
     to: &mut Vec<Joining>,
 ) -> Result<(), AllocError> {
-    let forms = Tests::of(lines, step).target_forms(alloc, &firing.effect.target)?;
+    let target = &fired.firing.effect.target;
+    let forms = Tests::of(lines, step).target_forms(alloc, target)?;
     for form in forms.as_slice() {
         if form.literal == *l {
-            put_form(alloc, lines, step, k, firing, form, to)?;
+            put_form(alloc, lines, step, fired, form, to)?;
         }
     }
     Ok(())
@@ -113,7 +120,7 @@ fn put_effects(
 ) -> Result<(), AllocError> {
     for (k, firing) in step.firings.as_slice().iter().enumerate() {
         if Tests::of(lines, step).has_conditions(firing) {
-            put_effect(alloc, lines, step, k, firing, l, to)?;
+            put_effect(alloc, lines, step, &Fired { k, firing }, l, to)?;
         }
     }
     Ok(())

@@ -50,20 +50,26 @@ fn put_region(
     lines.add_region(alloc, m, e.share()?, line)
 }
 
-/// The region stands after the action, if it doesn't yet, by a line that rests on these before it.
+/// On what a line about a region rests: literals that hold before the action, and lines.
+#[derive(Clone, Copy)]
+struct Grounds<'a> {
+    by: &'a [Literal],
+    rest: &'a [u32],
+}
+
+/// The region stands after the action, if it doesn't yet, by a line that rests on these.
 fn add_region(
     alloc: Global,
     lines: &mut Lines<'_>,
     step: &ActionStep,
     e: &Entry,
     reason: Reason,
-    by: &[Literal],
-    rest: &[u32],
+    grounds: &Grounds<'_>,
 ) -> Result<(), AllocError> {
     if lines.has_region(step.after, e) {
         return Ok(());
     }
-    let cites = cite(alloc, lines, step.before, by, rest)?;
+    let cites = cite(alloc, lines, step.before, grounds.by, grounds.rest)?;
     put_region(alloc, lines, step.after, e, reason, cites)
 }
 
@@ -78,8 +84,11 @@ fn widen_region(
 ) -> Result<(), AllocError> {
     let atoms = staying.atoms.as_slice();
     let next = with_atoms(alloc, e, atoms)?;
-    let by = staying.by.as_slice();
-    add_region(alloc, lines, step, &next, reason_of(atoms), by, &[line])
+    let grounds = Grounds {
+        by: staying.by.as_slice(),
+        rest: &[line],
+    };
+    add_region(alloc, lines, step, &next, reason_of(atoms), &grounds)
 }
 
 /// The region, which has this line before the action, stays with what comes into it, where its terms are steady.
@@ -124,7 +133,8 @@ fn put_cleared(
         pattern: *pattern,
         list: AtomSet::empty(),
     };
-    add_region(alloc, lines, step, &e, Reason::Clear, by, &[])
+    let grounds = Grounds { by, rest: &[] };
+    add_region(alloc, lines, step, &e, Reason::Clear, &grounds)
 }
 
 /// The pattern, which the action clears, has no true instance after it, where its terms in normal form are steady.

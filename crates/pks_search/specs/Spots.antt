@@ -1,6 +1,5 @@
 -- Where a search is, and what it takes along.
 use Rattle.std.specs.Prelude.{ℕ, IfSome}
-use Rattle.pks_terms.specs.declared.problem.Problem.{Problem as DProblem}
 use Rattle.pks_terms.specs.Sets.{Each}
 use Rattle.pks_terms.specs.Problems.{Problem}
 use Rattle.pks_terms.specs.Views.{problem_of}
@@ -14,10 +13,10 @@ use Rattle.pks_search.specs.declared.spots.Spot.{Spot}
 use Rattle.pks_search.specs.declared.spots.Notes.{Notes}
 
 -- a search may go on from there by n actions, each witness may be the present world, and so may both of each twins
-pub record MayGoOn (p : DProblem) (x : Spot) (n : ℕ) : Type 0 where
-  pub ready : IsReady p x.history.now x.unread n
-  pub near : Each (IsNear (problem_of p) x.history.now) x.near.now
-  pub twins : Each (AreTwins (problem_of p) x.history.now) x.twins.now
+pub record MayGoOn (x : Spot) (n : ℕ) : Type 0 where
+  pub ready : IsReady x.problem.now x.history.now x.unread n
+  pub near : Each (IsNear (problem_of x.problem.now) x.history.now) x.near.now
+  pub twins : Each (AreTwins (problem_of x.problem.now) x.history.now) x.twins.now
 
 -- what is taken along is so
 pub record AreSo (p : Problem) (x : Notes) : Type 0 where

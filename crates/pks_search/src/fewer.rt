@@ -37,10 +37,12 @@ fn is_met_for_good(s: &Signature, d: &Db, aim: &Aim) -> bool
 pub(crate) fn some_is_met(s: &Signature, d: &Db, aims: &[Aim]) -> bool
     ensures { result ≡ list_any (is_met_for_good (signature_of s.now) (five_of d.now)) (map aim_of aims.now) }
 {
-    match aims {
-        [] => false,
-        [aim, rest @ ..] => is_met_for_good(s, d, aim) || some_is_met(s, d, rest),
+    for aim in aims {
+        if is_met_for_good(s, d, aim) {
+            return true;
+        }
     }
+    false
 }
 
 /// The aims that they don't meet for good.

@@ -113,10 +113,12 @@ fn best_of_all(
         finds,
     };
     let spot = Spot {
+        alloc,
+        problem: p,
         history: &h,
         unread: 0,
         near: near.as_slice(),
         twins: twins.as_slice(),
     };
-    best_rising(alloc, p, &spot, 0, u32::from(depth), 16 * 9_999, &mut notes)
+    best_rising(&spot, 0, u32::from(depth), 16 * 9_999, &mut notes)
 }

@@ -18,13 +18,16 @@ use pks_search_witness::{Twins, Witness};
 use pks_terms::problem::Problem;
 use std::alloc::{AllocError, Global};
 
-/// Where a search is: at a history, of whose steps all but the last `unread` bring nothing new, with witnesses or none.
+/// Where a search is: in a problem, at a history, of whose steps all but the last `unread` bring nothing new, with witnesses or
+/// none.
 #[derive(Clone, Copy)]
-pub(crate) struct Spot<'s> {
-    pub(crate) history: &'s History,
+pub(crate) struct Spot<'a, 's> {
+    pub(crate) alloc: Global,
+    pub(crate) problem: &'a Problem<'s>,
+    pub(crate) history: &'a History,
     pub(crate) unread: u32,
-    pub(crate) near: &'s [Witness],
-    pub(crate) twins: &'s [Twins],
+    pub(crate) near: &'a [Witness],
+    pub(crate) twins: &'a [Twins],
 }
 
 /// What a search takes along: the ground actions by which bounds are counted, or none, and the failures and the best trees
@@ -34,6 +37,13 @@ pub(crate) struct Notes {
     pub(crate) deeds: Option<Deeds>,
     pub(crate) failures: Failures,
     pub(crate) finds: Finds,
+}
+
+/// What the first witness and the twins become by an action.
+#[derive(Drop)]
+pub(crate) struct WorldsAfter {
+    pub(crate) first: Vec<Witness>,
+    pub(crate) twins: Vec<Twins>,
 }
 
 /// The last moment of the history alone.
@@ -47,45 +57,37 @@ fn last_alone(alloc: Global, h: &History) -> Result<History, AllocError>
 
 /// What is left of the history: its last moment, where the bound leaves no room for a branch and each aim is one of the last
 /// moment, and else what the settled past leaves. The same trees within the depth and the limit are derived from it.
-pub(crate) fn left_of(
-    alloc: Global,
-    p: &Problem<'_>,
-    spot: &Spot<'_>,
-    n: u32,
-    limit: u32,
-) -> Result<History, AllocError>
-    requires spot { MayGoOn p.now spot.now n }
-    ensures { IfOk result (λ rest. HasTreesWithin (problem_of p.now) spot.now.history.now rest n limit) }
+pub(crate) fn left_of(spot: &Spot<'_, '_>, n: u32, limit: u32) -> Result<History, AllocError>
+    requires spot { MayGoOn spot.now n }
+    ensures { IfOk result (λ rest. HasTreesWithin (problem_of spot.now.problem.now) spot.now.history.now rest n limit) }
 {
-    if is_tight(spot.near, n.min(limit)) && are_now(p.goal.as_slice()) {
-        return last_alone(alloc, spot.history);
+    if is_tight(spot.near, n.min(limit)) && are_now(spot.problem.goal.as_slice()) {
+        return last_alone(spot.alloc, spot.history);
     }
-    let rest = cut(alloc, p, spot.history)?;
+    let rest = cut(spot.alloc, spot.problem, spot.history)?;
     Ok(rest)
 }
 
 /// Whether nothing but actions has room, as `tight` says, each aim is one of the last moment, and the table tells that this
 /// alone has no tree no deeper than `n` that costs at most `limit`. It isn't asked where there is no other moment.
 pub(crate) fn last_fails(
-    alloc: Global,
-    p: &Problem<'_>,
-    h: &History,
+    spot: &Spot<'_, '_>,
     tight: bool,
     n: u32,
     limit: u32,
     failures: &mut Failures,
 ) -> Result<bool, AllocError>
-    requires valid { IsValid (problem_of p.now) }
-    requires moments { AreMomentsOf (problem_of p.now) h.now }
-    requires right { AreRight (problem_of p.now) failures.old }
-    ensures fails { IfOk result (λ b. b ≡ true → LastFails (problem_of p.now) h.now tight n limit) }
-    ensures right { AreRight (problem_of p.now) failures.new }
+    requires valid { IsValid (problem_of spot.now.problem.now) }
+    requires moments { AreMomentsOf (problem_of spot.now.problem.now) spot.now.history.now }
+    requires right { AreRight (problem_of spot.now.problem.now) failures.old }
+    ensures fails { IfOk result (λ b. b ≡ true → LastFails (problem_of spot.now.problem.now) spot.now.history.now tight n limit) }
+    ensures right { AreRight (problem_of spot.now.problem.now) failures.new }
 {
-    if !tight || h.len() == 1 || !are_now(p.goal.as_slice()) {
+    if !tight || spot.history.len() == 1 || !are_now(spot.problem.goal.as_slice()) {
         return Ok(false);
     }
-    let only = last_alone(alloc, h)?;
-    let key = failures.key_of(alloc, &only)?;
+    let only = last_alone(spot.alloc, spot.history)?;
+    let key = failures.key_of(spot.alloc, &only)?;
     let asked = Question {
         at: Keyed {
             history: &only,
@@ -94,6 +96,6 @@ pub(crate) fn last_fails(
         n,
         limit,
     };
-    let fails = failures.tells(alloc, p, &asked);
+    let fails = failures.tells(spot.alloc, spot.problem, &asked);
     Ok(fails)
 }

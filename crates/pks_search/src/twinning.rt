@@ -37,10 +37,12 @@ pub(crate) fn twins_after(
 pub(crate) fn some_met(twins: &[Twins]) -> bool
     ensures { IsTrue result → SomeMet twins.now }
 {
-    match twins {
-        [] => false,
-        [x, rest @ ..] => x.have_met() || some_met(rest),
+    for x in twins {
+        if x.have_met() {
+            return true;
+        }
     }
+    false
 }
 
 /// The twins that are on the side: both, since they agree on what a choice asks.

@@ -18,7 +18,7 @@ ghost use Rattle.pks_search.specs.Spots.{MayGoOn, AreSo};
 
 use crate::nearing::{is_beyond, is_first_on, is_tight, joined, near_after, on_side, others_of};
 use crate::parts::{act, branch, cases};
-use crate::spots::{Notes, Spot, last_fails, left_of};
+use crate::spots::{Notes, Spot, WorldsAfter, last_fails, left_of};
 use crate::twinning::{some_met, twins_after, twins_on};
 use pks_branch::assuming::assume;
 use pks_branch::leaving::left;
@@ -30,32 +30,28 @@ use pks_progress::progressing::progress;
 use pks_query::databases::Step;
 use pks_search_nogoods::failures::Question;
 use pks_search_symmetry::Keyed;
-use pks_search_witness::{Twins, Witness};
 use pks_terms::choices::{Choice, Side};
 use pks_terms::ids::ObjId;
 use pks_terms::literal::Conj;
-use pks_terms::problem::Problem;
 use pks_terms::schema::Instance;
 use pks_terms::term::{Term, front};
-use std::alloc::{AllocError, Global};
+use std::alloc::AllocError;
 
 /// The best tree that is derived at the history, no deeper than `n`, and costs at most `limit`; `None` where there is none.
 /// It asks for a history of the problem to which `n` more moments may be added. The error is want of memory.
 #[cycle(searching)]
 pub(crate) fn best_within(
-    alloc: Global,
-    p: &Problem<'_>,
-    spot: &Spot<'_>,
+    spot: &Spot<'_, '_>,
     n: u32,
     limit: u32,
     notes: &mut Notes,
 ) -> Result<Option<Tree>, AllocError>
-    requires spot { MayGoOn p.now spot.now n }
-    requires notes { AreSo (problem_of p.now) notes.now }
-    ensures best { IfOk result (λ o. IsBestWithin (problem_of p.now) (At spot.now.history.now) n limit (option_map tree_of o)) }
-    ensures notes { AreSo (problem_of p.now) notes.new }
+    requires spot { MayGoOn spot.now n }
+    requires notes { AreSo (problem_of spot.now.problem.now) notes.now }
+    ensures best { IfOk result (λ o. IsBestWithin (problem_of spot.now.problem.now) (At spot.now.history.now) n limit (option_map tree_of o)) }
+    ensures notes { AreSo (problem_of spot.now.problem.now) notes.new }
 {
-    if met(p, spot.history) {
+    if met(spot.problem, spot.history) {
         return Ok(Some(Tree::Goal));
     }
     if n == 0 || limit == 0 {
@@ -64,55 +60,53 @@ pub(crate) fn best_within(
     if is_beyond(spot.near, n.min(limit)) {
         return Ok(None);
     }
-    best_unmet(alloc, p, spot, n, limit, notes)
+    best_unmet(spot, n, limit, notes)
 }
 
 /// The same where the goal isn't met: what plays no part is let go of first, since without it the same trees are derived.
 #[cycle(searching)]
 fn best_unmet(
-    alloc: Global,
-    p: &Problem<'_>,
-    spot: &Spot<'_>,
+    spot: &Spot<'_, '_>,
     n: u32,
     limit: u32,
     notes: &mut Notes,
 ) -> Result<Option<Tree>, AllocError>
-    requires spot { MayGoOn p.now spot.now n }
-    requires unmet { met (problem_of p.now) spot.now.history.now ≡ false }
+    requires spot { MayGoOn spot.now n }
+    requires unmet { met (problem_of spot.now.problem.now) spot.now.history.now ≡ false }
     requires some { 1 ≤ n }
-    requires notes { AreSo (problem_of p.now) notes.now }
-    ensures best { IfOk result (λ o. IsBestWithin (problem_of p.now) (At spot.now.history.now) n limit (option_map tree_of o)) }
-    ensures notes { AreSo (problem_of p.now) notes.new }
+    requires notes { AreSo (problem_of spot.now.problem.now) notes.now }
+    ensures best { IfOk result (λ o. IsBestWithin (problem_of spot.now.problem.now) (At spot.now.history.now) n limit (option_map tree_of o)) }
+    ensures notes { AreSo (problem_of spot.now.problem.now) notes.new }
 {
-    let rest = left_of(alloc, p, spot, n, limit)?;
+    let rest = left_of(spot, n, limit)?;
     let shorter = Spot {
+        alloc: spot.alloc,
+        problem: spot.problem,
         history: &rest,
         unread: spot.unread,
         near: spot.near,
         twins: spot.twins,
     };
-    best_of_rest(alloc, p, &shorter, n, limit, notes)
+    best_of_rest(&shorter, n, limit, notes)
 }
 
 /// The same at what is left of a history: a failure in the table tells that there is none, and a find what is the best.
 /// What is found, or found to fail, is noted. So histories that differ in what was let go of share their failures and finds.
 #[cycle(searching)]
 fn best_of_rest(
-    alloc: Global,
-    p: &Problem<'_>,
-    spot: &Spot<'_>,
+    spot: &Spot<'_, '_>,
     n: u32,
     limit: u32,
     notes: &mut Notes,
 ) -> Result<Option<Tree>, AllocError>
-    requires spot { MayGoOn p.now spot.now n }
-    requires unmet { met (problem_of p.now) spot.now.history.now ≡ false }
+    requires spot { MayGoOn spot.now n }
+    requires unmet { met (problem_of spot.now.problem.now) spot.now.history.now ≡ false }
     requires some { 1 ≤ n }
-    requires notes { AreSo (problem_of p.now) notes.now }
-    ensures best { IfOk result (λ o. IsBestWithin (problem_of p.now) (At spot.now.history.now) n limit (option_map tree_of o)) }
-    ensures notes { AreSo (problem_of p.now) notes.new }
+    requires notes { AreSo (problem_of spot.now.problem.now) notes.now }
+    ensures best { IfOk result (λ o. IsBestWithin (problem_of spot.now.problem.now) (At spot.now.history.now) n limit (option_map tree_of o)) }
+    ensures notes { AreSo (problem_of spot.now.problem.now) notes.new }
 {
-    let key = notes.failures.key_of(alloc, spot.history)?;
+    let key = notes.failures.key_of(spot.alloc, spot.history)?;
     let asked = Question {
         at: Keyed {
             history: spot.history,
@@ -121,15 +115,15 @@ fn best_of_rest(
         n,
         limit,
     };
-    if notes.failures.tells(alloc, p, &asked) {
+    if notes.failures.tells(spot.alloc, spot.problem, &asked) {
         return Ok(None);
     }
-    if let Some(told) = notes.finds.tells(alloc, &asked) {
+    if let Some(told) = notes.finds.tells(spot.alloc, &asked) {
         return Ok(told);
     }
-    match best_of_choices(alloc, p, spot, n - 1, limit, notes)? {
+    match best_of_choices(spot, n - 1, limit, notes)? {
         Some(t) => {
-            notes.finds.note(alloc, p, &asked, &t);
+            notes.finds.note(spot.alloc, spot.problem, &asked, &t);
             Ok(Some(t))
         }
         None => {
@@ -143,26 +137,24 @@ fn best_of_rest(
 /// better only if it costs less than the one that was found.
 #[cycle(searching)]
 fn best_of_choices(
-    alloc: Global,
-    p: &Problem<'_>,
-    spot: &Spot<'_>,
+    spot: &Spot<'_, '_>,
     n: u32,
     limit: u32,
     notes: &mut Notes,
 ) -> Result<Option<Tree>, AllocError>
-    requires spot { MayGoOn p.now spot.now (n + 1) }
-    requires unmet { met (problem_of p.now) spot.now.history.now ≡ false }
-    requires notes { AreSo (problem_of p.now) notes.now }
-    ensures best { IfOk result (λ o. IsBestWithin (problem_of p.now) (At spot.now.history.now) (n + 1) limit (option_map tree_of o)) }
-    ensures notes { AreSo (problem_of p.now) notes.new }
+    requires spot { MayGoOn spot.now (n + 1) }
+    requires unmet { met (problem_of spot.now.problem.now) spot.now.history.now ≡ false }
+    requires notes { AreSo (problem_of spot.now.problem.now) notes.now }
+    ensures best { IfOk result (λ o. IsBestWithin (problem_of spot.now.problem.now) (At spot.now.history.now) (n + 1) limit (option_map tree_of o)) }
+    ensures notes { AreSo (problem_of spot.now.problem.now) notes.new }
 {
     let d = spot.history.last();
-    let mut walk = Walk::of(alloc, p, d)?;
+    let mut walk = Walk::of(spot.alloc, spot.problem, d)?;
     let mut best = None;
     let mut below = limit;
-    'each: while let Some(c) = walk.next(alloc, p, d)? {
-        if let Some(t) = best_by_choice(alloc, p, spot, n, below, &c, notes)? {
-            below = cost(p, &t) - 1;
+    'each: while let Some(c) = walk.next(spot.alloc, spot.problem, d)? {
+        if let Some(t) = best_by_choice(spot, n, below, &c, notes)? {
+            below = cost(spot.problem, &t) - 1;
             best = Some(t);
         }
     }
@@ -172,24 +164,22 @@ fn best_of_choices(
 /// The best tree with the choice at its root.
 #[cycle(searching)]
 fn best_by_choice(
-    alloc: Global,
-    p: &Problem<'_>,
-    spot: &Spot<'_>,
+    spot: &Spot<'_, '_>,
     n: u32,
     limit: u32,
     c: &Choice,
     notes: &mut Notes,
 ) -> Result<Option<Tree>, AllocError>
-    requires spot { MayGoOn p.now spot.now (n + 1) }
-    requires chosen { IsIn (choice_of c.now) (choices (problem_of p.now) (last_moment spot.now.history.now)) }
-    requires notes { AreSo (problem_of p.now) notes.now }
-    ensures best { IfOk result (λ o. IsBestOf (problem_of p.now) (IsCheapBy (problem_of p.now) spot.now.history.now (n + 1) limit (choice_of c.now)) (option_map tree_of o)) }
-    ensures notes { AreSo (problem_of p.now) notes.new }
+    requires spot { MayGoOn spot.now (n + 1) }
+    requires chosen { IsIn (choice_of c.now) (choices (problem_of spot.now.problem.now) (last_moment spot.now.history.now)) }
+    requires notes { AreSo (problem_of spot.now.problem.now) notes.now }
+    ensures best { IfOk result (λ o. IsBestOf (problem_of spot.now.problem.now) (IsCheapBy (problem_of spot.now.problem.now) spot.now.history.now (n + 1) limit (choice_of c.now)) (option_map tree_of o)) }
+    ensures notes { AreSo (problem_of spot.now.problem.now) notes.new }
 {
     match c {
-        Choice::Act(step) => best_by_action(alloc, p, spot, n, limit, step, notes),
-        Choice::Branch(test) => best_by_branch(alloc, p, spot, n, limit, test, notes),
-        Choice::Cases(term) => best_by_cases(alloc, p, spot, n, limit, term, notes),
+        Choice::Act(step) => best_by_action(spot, n, limit, step, notes),
+        Choice::Branch(test) => best_by_branch(spot, n, limit, test, notes),
+        Choice::Cases(term) => best_by_cases(spot, n, limit, term, notes),
     }
 }
 
@@ -197,86 +187,91 @@ fn best_by_choice(
 /// at which the aim that tells them apart isn't met.
 #[cycle(searching)]
 fn best_by_action(
-    alloc: Global,
-    p: &Problem<'_>,
-    spot: &Spot<'_>,
+    spot: &Spot<'_, '_>,
     n: u32,
     limit: u32,
     step: &Instance,
     notes: &mut Notes,
 ) -> Result<Option<Tree>, AllocError>
-    requires spot { MayGoOn p.now spot.now (n + 1) }
-    requires chosen { IsIn (instance_of step.now) (instances (problem_of p.now) (last_moment spot.now.history.now)) }
-    requires notes { AreSo (problem_of p.now) notes.now }
-    ensures best { IfOk result (λ o. IsBestOf (problem_of p.now) (IsCheapBy (problem_of p.now) spot.now.history.now (n + 1) limit (Act (instance_of step.now))) (option_map tree_of o)) }
-    ensures notes { AreSo (problem_of p.now) notes.new }
+    requires spot { MayGoOn spot.now (n + 1) }
+    requires chosen { IsIn (instance_of step.now) (instances (problem_of spot.now.problem.now) (last_moment spot.now.history.now)) }
+    requires notes { AreSo (problem_of spot.now.problem.now) notes.now }
+    ensures best { IfOk result (λ o. IsBestOf (problem_of spot.now.problem.now) (IsCheapBy (problem_of spot.now.problem.now) spot.now.history.now (n + 1) limit (Act (instance_of step.now))) (option_map tree_of o)) }
+    ensures notes { AreSo (problem_of spot.now.problem.now) notes.new }
 {
-    let own = action_cost(p, step.act);
+    let own = action_cost(spot.problem, step.act);
     if limit < own {
         return Ok(None);
     }
     let room = n.min(limit - own);
-    let first = near_after(alloc, p, front(spot.near, 1), &mut notes.deeds, step, room)?;
+    let first = near_after(
+        spot.alloc,
+        spot.problem,
+        front(spot.near, 1),
+        &mut notes.deeds,
+        step,
+        room,
+    )?;
     if is_beyond(first.as_slice(), room) {
         return Ok(None);
     }
-    let twins = twins_after(alloc, p, spot.twins, step)?;
+    let twins = twins_after(spot.alloc, spot.problem, spot.twins, step)?;
     if some_met(twins.as_slice()) {
         return Ok(None);
     }
     let tight = is_tight(first.as_slice(), room);
-    let barren = last_fails(
-        alloc,
-        p,
-        spot.history,
-        tight,
-        n + 1,
-        limit,
-        &mut notes.failures,
-    )?;
+    let barren = last_fails(spot, tight, n + 1, limit, &mut notes.failures)?;
     if barren {
         return Ok(None);
     }
-    let next = best_after(alloc, p, spot, n, limit - own, step, first, twins, notes)?;
-    act(alloc, *step, next)
+    let worlds = WorldsAfter { first, twins };
+    let next = best_after(spot, n, limit - own, step, worlds, notes)?;
+    act(spot.alloc, *step, next)
 }
 
 /// The best tree after the action, with what the first witness and the twins become by it: the other witnesses are asked before the
 /// search goes on.
 #[cycle(searching)]
 fn best_after(
-    alloc: Global,
-    p: &Problem<'_>,
-    spot: &Spot<'_>,
+    spot: &Spot<'_, '_>,
     n: u32,
     limit: u32,
     step: &Instance,
-    first: Vec<Witness>,
-    twins: Vec<Twins>,
+    worlds: WorldsAfter,
     notes: &mut Notes,
 ) -> Result<Option<Tree>, AllocError>
-    requires spot { MayGoOn p.now spot.now (n + 1) }
-    requires chosen { IsIn (instance_of step.now) (instances (problem_of p.now) (last_moment spot.now.history.now)) }
-    requires notes { AreSo (problem_of p.now) notes.now }
-    requires near { AreNearAfter (problem_of p.now) spot.now.history.now (instance_of step.now) first.items }
-    requires twins { AreTwinsAfter (problem_of p.now) spot.now.history.now (instance_of step.now) twins.items }
-    ensures best { IfOk result (λ o. IsBestAfter (problem_of p.now) spot.now.history.now (instance_of step.now) n limit (option_map tree_of o)) }
-    ensures notes { AreSo (problem_of p.now) notes.new }
+    requires spot { MayGoOn spot.now (n + 1) }
+    requires chosen { IsIn (instance_of step.now) (instances (problem_of spot.now.problem.now) (last_moment spot.now.history.now)) }
+    requires notes { AreSo (problem_of spot.now.problem.now) notes.now }
+    requires near { AreNearAfter (problem_of spot.now.problem.now) spot.now.history.now (instance_of step.now) worlds.first.items }
+    requires twins { AreTwinsAfter (problem_of spot.now.problem.now) spot.now.history.now (instance_of step.now) worlds.twins.items }
+    ensures best { IfOk result (λ o. IsBestAfter (problem_of spot.now.problem.now) spot.now.history.now (instance_of step.now) n limit (option_map tree_of o)) }
+    ensures notes { AreSo (problem_of spot.now.problem.now) notes.new }
 {
-    match progress(alloc, p, spot.history.last(), step)? {
+    let WorldsAfter { first, twins } = worlds;
+    match progress(spot.alloc, spot.problem, spot.history.last(), step)? {
         Step::Clash(_) => Ok(Some(Tree::Impossible)),
         Step::Next(d) => {
             let room = n.min(limit);
-            let others = near_after(alloc, p, others_of(spot.near), &mut notes.deeds, step, room)?;
+            let others = near_after(
+                spot.alloc,
+                spot.problem,
+                others_of(spot.near),
+                &mut notes.deeds,
+                step,
+                room,
+            )?;
             let after = joined(first, others)?;
-            let longer = spot.history.push(alloc, *step, d)?;
+            let longer = spot.history.push(spot.alloc, *step, d)?;
             let later = Spot {
+                alloc: spot.alloc,
+                problem: spot.problem,
                 history: &longer,
                 unread: spot.unread + 1,
                 near: after.as_slice(),
                 twins: twins.as_slice(),
             };
-            best_within(alloc, p, &later, n, limit, notes)
+            best_within(&later, n, limit, notes)
         }
     }
 }
@@ -285,20 +280,18 @@ fn best_after(
 /// isn't searched; that is the true side, unless the first witness is on the false one.
 #[cycle(searching)]
 fn best_by_branch(
-    alloc: Global,
-    p: &Problem<'_>,
-    spot: &Spot<'_>,
+    spot: &Spot<'_, '_>,
     n: u32,
     limit: u32,
     test: &Conj,
     notes: &mut Notes,
 ) -> Result<Option<Tree>, AllocError>
-    requires spot { MayGoOn p.now spot.now (n + 1) }
+    requires spot { MayGoOn spot.now (n + 1) }
     requires member { IsIn (conj_of test.now) (last_moment spot.now.history.now).kw }
-    requires undecided { is_undecided (problem_of p.now).signature (last_moment spot.now.history.now) (conj_of test.now) ≡ true }
-    requires notes { AreSo (problem_of p.now) notes.now }
-    ensures best { IfOk result (λ o. IsBestOf (problem_of p.now) (IsCheapBy (problem_of p.now) spot.now.history.now (n + 1) limit (BranchOn (conj_of test.now))) (option_map tree_of o)) }
-    ensures notes { AreSo (problem_of p.now) notes.new }
+    requires undecided { is_undecided (problem_of spot.now.problem.now).signature (last_moment spot.now.history.now) (conj_of test.now) ≡ true }
+    requires notes { AreSo (problem_of spot.now.problem.now) notes.now }
+    ensures best { IfOk result (λ o. IsBestOf (problem_of spot.now.problem.now) (IsCheapBy (problem_of spot.now.problem.now) spot.now.history.now (n + 1) limit (BranchOn (conj_of test.now))) (option_map tree_of o)) }
+    ensures notes { AreSo (problem_of spot.now.problem.now) notes.new }
 {
     if limit == 0 {
         return Ok(None);
@@ -308,65 +301,61 @@ fn best_by_branch(
     }
     let c = Choice::Branch(*test);
     if is_first_on(spot.near, &c, Side::False) {
-        return best_from_false(alloc, p, spot, n, limit, test, notes);
+        return best_from_false(spot, n, limit, test, notes);
     }
-    let Some(yes) = best_taking(alloc, p, spot, n, limit - 1, &c, Side::True, notes)? else {
+    let Some(yes) = best_taking(spot, n, limit - 1, &c, Side::True, notes)? else {
         return Ok(None);
     };
-    let Some(no) = best_taking(alloc, p, spot, n, limit - 1, &c, Side::False, notes)? else {
+    let Some(no) = best_taking(spot, n, limit - 1, &c, Side::False, notes)? else {
         return Ok(None);
     };
-    let tree = branch(alloc, *test, yes, no)?;
+    let tree = branch(spot.alloc, *test, yes, no)?;
     Ok(Some(tree))
 }
 
 /// The same, the false side being searched first.
 #[cycle(searching)]
 fn best_from_false(
-    alloc: Global,
-    p: &Problem<'_>,
-    spot: &Spot<'_>,
+    spot: &Spot<'_, '_>,
     n: u32,
     limit: u32,
     test: &Conj,
     notes: &mut Notes,
 ) -> Result<Option<Tree>, AllocError>
-    requires spot { MayGoOn p.now spot.now (n + 1) }
+    requires spot { MayGoOn spot.now (n + 1) }
     requires member { IsIn (conj_of test.now) (last_moment spot.now.history.now).kw }
-    requires undecided { is_undecided (problem_of p.now).signature (last_moment spot.now.history.now) (conj_of test.now) ≡ true }
+    requires undecided { is_undecided (problem_of spot.now.problem.now).signature (last_moment spot.now.history.now) (conj_of test.now) ≡ true }
     requires some { 1 ≤ limit }
-    requires notes { AreSo (problem_of p.now) notes.now }
-    ensures best { IfOk result (λ o. IsBestOf (problem_of p.now) (IsCheapBy (problem_of p.now) spot.now.history.now (n + 1) limit (BranchOn (conj_of test.now))) (option_map tree_of o)) }
-    ensures notes { AreSo (problem_of p.now) notes.new }
+    requires notes { AreSo (problem_of spot.now.problem.now) notes.now }
+    ensures best { IfOk result (λ o. IsBestOf (problem_of spot.now.problem.now) (IsCheapBy (problem_of spot.now.problem.now) spot.now.history.now (n + 1) limit (BranchOn (conj_of test.now))) (option_map tree_of o)) }
+    ensures notes { AreSo (problem_of spot.now.problem.now) notes.new }
 {
     let c = Choice::Branch(*test);
-    let Some(no) = best_taking(alloc, p, spot, n, limit - 1, &c, Side::False, notes)? else {
+    let Some(no) = best_taking(spot, n, limit - 1, &c, Side::False, notes)? else {
         return Ok(None);
     };
-    let Some(yes) = best_taking(alloc, p, spot, n, limit - 1, &c, Side::True, notes)? else {
+    let Some(yes) = best_taking(spot, n, limit - 1, &c, Side::True, notes)? else {
         return Ok(None);
     };
-    let tree = branch(alloc, *test, yes, no)?;
+    let tree = branch(spot.alloc, *test, yes, no)?;
     Ok(Some(tree))
 }
 
 /// The best tree with cases on the term at its root.
 #[cycle(searching)]
 fn best_by_cases(
-    alloc: Global,
-    p: &Problem<'_>,
-    spot: &Spot<'_>,
+    spot: &Spot<'_, '_>,
     n: u32,
     limit: u32,
     term: &Term,
     notes: &mut Notes,
 ) -> Result<Option<Tree>, AllocError>
-    requires spot { MayGoOn p.now spot.now (n + 1) }
+    requires spot { MayGoOn spot.now (n + 1) }
     requires member { IsIn (term_of term.now) (last_moment spot.now.history.now).kv }
-    requires splits { may_split (problem_of p.now).signature (last_moment spot.now.history.now) (term_of term.now) ≡ true }
-    requires notes { AreSo (problem_of p.now) notes.now }
-    ensures best { IfOk result (λ o. IsBestOf (problem_of p.now) (IsCheapBy (problem_of p.now) spot.now.history.now (n + 1) limit (CasesOn (term_of term.now))) (option_map tree_of o)) }
-    ensures notes { AreSo (problem_of p.now) notes.new }
+    requires splits { may_split (problem_of spot.now.problem.now).signature (last_moment spot.now.history.now) (term_of term.now) ≡ true }
+    requires notes { AreSo (problem_of spot.now.problem.now) notes.now }
+    ensures best { IfOk result (λ o. IsBestOf (problem_of spot.now.problem.now) (IsCheapBy (problem_of spot.now.problem.now) spot.now.history.now (n + 1) limit (CasesOn (term_of term.now))) (option_map tree_of o)) }
+    ensures notes { AreSo (problem_of spot.now.problem.now) notes.new }
 {
     if limit == 0 {
         return Ok(None);
@@ -374,51 +363,40 @@ fn best_by_cases(
     if is_beyond(spot.near, n.min(limit - 1)) {
         return Ok(None);
     }
-    let objects = left(alloc, p, spot.history.last(), term)?;
-    let chain = best_chain(
-        alloc,
-        p,
-        spot,
-        n,
-        limit - 1,
-        term,
-        objects.as_slice(),
-        notes,
-    )?;
-    cases(alloc, *term, chain)
+    let objects = left(spot.alloc, spot.problem, spot.history.last(), term)?;
+    let chain = best_chain(spot, n, limit - 1, term, objects.as_slice(), notes)?;
+    cases(spot.alloc, *term, chain)
 }
 
 /// The best cases on the objects. Where one has no tree, the later ones aren't searched.
 #[cycle(searching)]
 fn best_chain(
-    alloc: Global,
-    p: &Problem<'_>,
-    spot: &Spot<'_>,
+    spot: &Spot<'_, '_>,
     n: u32,
     limit: u32,
     term: &Term,
     objects: &[ObjId],
     notes: &mut Notes,
 ) -> Result<Option<CaseChain>, AllocError>
-    requires spot { MayGoOn p.now spot.now (n + 1) }
+    requires spot { MayGoOn spot.now (n + 1) }
     requires member { IsIn (term_of term.now) (last_moment spot.now.history.now).kv }
-    requires sides { Each (λ e. IsIn e (range_of (problem_of p.now).signature (term_of term.now))) (map object_of objects.now) }
+    requires sides { Each (λ e. IsIn e (range_of (problem_of spot.now.problem.now).signature (term_of term.now))) (map object_of objects.now) }
     requires few { length objects.now ≤ 16 }
-    requires notes { AreSo (problem_of p.now) notes.now }
-    ensures best { IfOk result (λ o. AreBestCheapCases (problem_of p.now) spot.now.history.now (term_of term.now) n limit (map object_of objects.now) (option_map chain_of o)) }
-    ensures notes { AreSo (problem_of p.now) notes.new }
+    requires notes { AreSo (problem_of spot.now.problem.now) notes.now }
+    ensures best { IfOk result (λ o. AreBestCheapCases (problem_of spot.now.problem.now) spot.now.history.now (term_of term.now) n limit (map object_of objects.now) (option_map chain_of o)) }
+    ensures notes { AreSo (problem_of spot.now.problem.now) notes.new }
 {
     let [object, others @ ..] = objects else {
         return Ok(Some(CaseChain::Empty));
     };
     let c = Choice::Cases(*term);
-    let Some(tree) = best_taking(alloc, p, spot, n, limit, &c, Side::Is(*object), notes)? else {
+    let Some(tree) = best_taking(spot, n, limit, &c, Side::Is(*object), notes)? else {
         return Ok(None);
     };
-    let Some(rest) = best_chain(alloc, p, spot, n, limit, term, others, notes)? else {
+    let Some(rest) = best_chain(spot, n, limit, term, others, notes)? else {
         return Ok(None);
     };
-    let rest = Box::new(alloc, rest)?;
+    let rest = Box::new(spot.alloc, rest)?;
     Ok(Some(CaseChain::More {
         object: *object,
         tree,
@@ -429,36 +407,42 @@ fn best_chain(
 /// The best tree where the side is taken: assumed, and the history settled.
 #[cycle(searching)]
 fn best_taking(
-    alloc: Global,
-    p: &Problem<'_>,
-    spot: &Spot<'_>,
+    spot: &Spot<'_, '_>,
     n: u32,
     limit: u32,
     c: &Choice,
     side: Side,
     notes: &mut Notes,
 ) -> Result<Option<Tree>, AllocError>
-    requires spot { MayGoOn p.now spot.now (n + 1) }
+    requires spot { MayGoOn spot.now (n + 1) }
     requires member { IsMember (last_moment spot.now.history.now) (choice_of c.now) }
-    requires side { IsSideOf (problem_of p.now).signature (choice_of c.now) (side_of side) }
-    requires notes { AreSo (problem_of p.now) notes.now }
-    ensures best { IfOk result (λ o. IsBestTaking (problem_of p.now) spot.now.history.now (choice_of c.now) (side_of side) n limit (option_map tree_of o)) }
-    ensures notes { AreSo (problem_of p.now) notes.new }
+    requires side { IsSideOf (problem_of spot.now.problem.now).signature (choice_of c.now) (side_of side) }
+    requires notes { AreSo (problem_of spot.now.problem.now) notes.now }
+    ensures best { IfOk result (λ o. IsBestTaking (problem_of spot.now.problem.now) spot.now.history.now (choice_of c.now) (side_of side) n limit (option_map tree_of o)) }
+    ensures notes { AreSo (problem_of spot.now.problem.now) notes.new }
 {
-    match assume(alloc, p, spot.history.last(), c, side)? {
+    match assume(spot.alloc, spot.problem, spot.history.last(), c, side)? {
         Step::Clash(_) => Ok(Some(Tree::Impossible)),
-        Step::Next(d) => match settle_after(alloc, p, spot.history, d, spot.unread)? {
+        Step::Next(d) => match settle_after(
+            spot.alloc,
+            spot.problem,
+            spot.history,
+            d,
+            spot.unread,
+        )? {
             Settled::Clash => Ok(Some(Tree::Impossible)),
             Settled::Whole(settled) => {
-                let on = on_side(alloc, spot.near, c, side)?;
-                let twins = twins_on(alloc, spot.twins, c, side)?;
+                let on = on_side(spot.alloc, spot.near, c, side)?;
+                let twins = twins_on(spot.alloc, spot.twins, c, side)?;
                 let there = Spot {
+                    alloc: spot.alloc,
+                    problem: spot.problem,
                     history: &settled,
                     unread: 0,
                     near: on.as_slice(),
                     twins: twins.as_slice(),
                 };
-                best_within(alloc, p, &there, n, limit, notes)
+                best_within(&there, n, limit, notes)
             }
         },
     }

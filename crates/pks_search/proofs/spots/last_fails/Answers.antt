@@ -11,10 +11,10 @@ use Rattle.pks_search.proofs.spots.last_fails.Goals as goal
 
 pub returns-clause-fails : goal.returns-clause-fails
 returns-clause-fails c = λ k.
-    let p = problem_of c.args.p.now in
+    let p = problem_of c.args.spot.now.problem.now in
     let tight : c.args.tight ≡ true = search rules in
     let now : c.are_now.result ≡ true = search rules in
-    let h = c.args.h.now in
+    let h = c.args.spot.now.history.now in
     let alone : AreMomentsOf p (last_alone h) = record { start = last_of_it p c.requires.valid h c.requires.moments; steps = tt } in
     let moments : AreMomentsOf p c.in_ok-only.only = subst (AreMomentsOf p) (sym c.in_ok-only.ensures) alone in
     record {
@@ -24,4 +24,4 @@ returns-clause-fails c = λ k.
     }
 
 pub returns-clause-right : goal.returns-clause-right
-returns-clause-right c = c.tells-fails.ensures.right (problem_of c.args.p.now) c.requires.right
+returns-clause-right c = c.tells-fails.ensures.right (problem_of c.args.spot.now.problem.now) c.requires.right

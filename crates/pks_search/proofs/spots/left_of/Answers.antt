@@ -13,7 +13,7 @@ use Rattle.pks_search.proofs.spots.left_of.Goals as goal
 
 pub returns-then-are_now : goal.returns-then-are_now
 returns-then-are_now c =
-    let p = problem_of c.args.p.now in
+    let p = problem_of c.args.spot.now.problem.now in
     let r = c.requires.spot.ready in
     let h = c.args.spot.now.history.now in
     let near = c.args.spot.now.near.now in
@@ -24,4 +24,4 @@ returns-then-are_now c =
     (λ g e. subst (λ (x : History). HasTreesWithin p h x c.args.n c.args.limit) (sym e) same) c.last_alone.ensures
 
 pub returns : goal.returns
-returns c = all_within (problem_of c.args.p.now) c.args.spot.now.history.now c.in_ok-rest.rest c.args.n c.args.limit c.in_ok-rest.ensures.trees c.in_ok-rest.ensures.asked
+returns c = all_within (problem_of c.args.spot.now.problem.now) c.args.spot.now.history.now c.in_ok-rest.rest c.args.n c.args.limit c.in_ok-rest.ensures.trees c.in_ok-rest.ensures.asked

@@ -46,38 +46,38 @@ use Rattle.pks_search.proofs.within.+searching.Goals.{best_within-then-n-eq0-via
 -- ---- after an action
 
 pub best_after-progress-requires-clause-moment : goal.best_after-progress-requires-clause-moment
-best_after-progress-requires-clause-moment t c = subst (IsMomentOf (problem_of c.args.p.now).signature) (sym c.last.ensures) (ready_last c.args.p.now c.args.spot.now.history.now c.args.spot.now.unread (c.args.n + 1) c.requires.spot.ready)
+best_after-progress-requires-clause-moment t c = subst (IsMomentOf (problem_of c.args.spot.now.problem.now).signature) (sym c.last.ensures) (ready_last c.args.spot.now.problem.now c.args.spot.now.history.now c.args.spot.now.unread (c.args.n + 1) c.requires.spot.ready)
 
 pub best_after-returns-in-Clash-clause-best : goal.best_after-returns-in-Clash-clause-best
 best_after-returns-in-Clash-clause-best t c =
-    after_clash (problem_of c.args.p.now) c.args.spot.now.history.now c.args.n c.args.limit (instance_of c.args.step.now) (five_of c.last.result.now) (outcome_of c.in_ok-progress.field-0) _ c.last.ensures (ap outcome_of c.in-Clash.is) c.in_ok-progress.ensures.progress
+    after_clash (problem_of c.args.spot.now.problem.now) c.args.spot.now.history.now c.args.n c.args.limit (instance_of c.args.step.now) (five_of c.last.result.now) (outcome_of c.in_ok-progress.field-0) _ c.last.ensures (ap outcome_of c.in-Clash.is) c.in_ok-progress.ensures.progress
 
 pub best_after-best_within-requires : goal.best_after-best_within-requires
 best_after-best_within-requires t c =
-    let p = problem_of c.args.p.now in
+    let p = problem_of c.args.spot.now.problem.now in
     let less : c.args.n * 32 + 2 < t = omega (arith, c.decreases) in
     let i = instance_of c.args.step.now in
     let h = c.args.spot.now.history.now in
     let progress = acted p h i (five_of c.last.result.now) (five_of c.in-Next.d) (outcome_of c.in_ok-progress.field-0) c.last.ensures (ap outcome_of c.in-Next.is) c.in_ok-progress.ensures.progress in
     let r = c.requires.spot.ready in
     let k = each_other (IsNear p h) c.args.spot.now.near.now c.others_of.result.now c.others_of.ensures c.requires.spot.near in
-    let all = joined_near p r.justified (valid_typed p r.valid.says) h i c.others_of.result.now c.args.first.items c.in_ok-others-in-Next.others.items c.in_ok-after-in-Next.after.items c.requires.chosen k c.requires.near c.in_ok-others-in-Next.ensures.becomes c.in_ok-after-in-Next.ensures in
+    let all = joined_near p r.justified (valid_typed p r.valid.says) h i c.others_of.result.now c.args.worlds.first.items c.in_ok-others-in-Next.others.items c.in_ok-after-in-Next.after.items c.requires.chosen k c.requires.near c.in_ok-others-in-Next.ensures.becomes c.in_ok-after-in-Next.ensures in
     let near = all (pushed h i (five_of c.in-Next.d)) (record { outcome = Next (five_of c.in-Next.d); progress = progress; gives = refl }) in
-    let ready = ready_acted c.args.p.now h c.args.spot.now.unread c.args.n i (five_of c.in-Next.d) c.requires.spot.ready c.requires.chosen progress in
+    let ready = ready_acted c.args.spot.now.problem.now h c.args.spot.now.unread c.args.n i (five_of c.in-Next.d) c.requires.spot.ready c.requires.chosen progress in
     let same = sym c.in_ok-longer-in-Next.ensures in
     let twins = c.requires.twins (pushed h i (five_of c.in-Next.d)) (record { outcome = Next (five_of c.in-Next.d); progress = progress; gives = refl }) in
-    let both = subst (Each (AreTwins p c.in_ok-longer-in-Next.longer)) (sym c.as_slice-in-Next.ensures.value) (subst (λ g. Each (AreTwins p g) c.args.twins.items) same twins) in
-    (less, (record { ready = subst (λ g. IsReady c.args.p.now g (c.args.spot.now.unread + 1) c.args.n) same ready; near = subst (Each (IsNear p c.in_ok-longer-in-Next.longer)) (sym c.as_slice.ensures.value) (subst (λ g. Each (IsNear p g) c.in_ok-after-in-Next.after.items) same near); twins = both }, record { deeds = c.in_ok-others-in-Next.ensures.deeds; failures = c.requires.notes.failures; finds = c.requires.notes.finds }))
+    let both = subst (Each (AreTwins p c.in_ok-longer-in-Next.longer)) (sym c.as_slice-in-Next.ensures.value) (subst (λ g. Each (AreTwins p g) c.args.worlds.twins.items) same twins) in
+    (less, (record { ready = subst (λ g. IsReady c.args.spot.now.problem.now g (c.args.spot.now.unread + 1) c.args.n) same ready; near = subst (Each (IsNear p c.in_ok-longer-in-Next.longer)) (sym c.as_slice.ensures.value) (subst (λ g. Each (IsNear p g) c.in_ok-after-in-Next.after.items) same near); twins = both }, record { deeds = c.in_ok-others-in-Next.ensures.deeds; failures = c.requires.notes.failures; finds = c.requires.notes.finds }))
 
 pub best_after-near_after-requires-clause-counted : goal.best_after-near_after-requires-clause-counted
 best_after-near_after-requires-clause-counted t c =
-    let p = problem_of c.args.p.now in
+    let p = problem_of c.args.spot.now.problem.now in
     let h = c.args.spot.now.history.now in
     near_counted p h c.others_of.result.now (each_other (IsNear p h) c.args.spot.now.near.now c.others_of.result.now c.others_of.ensures c.requires.spot.near)
 
 pub best_after-returns-in_ok-longer-in-Next-clause-best : goal.best_after-returns-in_ok-longer-in-Next-clause-best
 best_after-returns-in_ok-longer-in-Next-clause-best t c =
-    let p = problem_of c.args.p.now in
+    let p = problem_of c.args.spot.now.problem.now in
     let i = instance_of c.args.step.now in
     IfOk-weaker c.best_within.result (λ o. IsBestWithin p (At c.in_ok-longer-in-Next.longer) c.args.n c.args.limit (option_map tree_of o)) (λ o. IsBestAfter p c.args.spot.now.history.now i c.args.n c.args.limit (option_map tree_of o))
     (λ o b. after_next p c.args.spot.now.history.now c.args.n c.args.limit i (five_of c.last.result.now) (five_of c.in-Next.d) (outcome_of c.in_ok-progress.field-0) (option_map tree_of o) c.last.ensures (ap outcome_of c.in-Next.is) c.in_ok-progress.ensures.progress
@@ -86,12 +86,12 @@ best_after-returns-in_ok-longer-in-Next-clause-best t c =
 
 pub best_by_action-returns-then-limit-own-clause-best : goal.best_by_action-returns-then-limit-own-clause-best
 best_by_action-returns-then-limit-own-clause-best t c =
-    let dear : c.args.limit < price (problem_of c.args.p.now) (instance_of c.args.step.now) = omega (arith, c.if-limit-own.true, c.action_cost-own.ensures) in
-    dear_act (problem_of c.args.p.now) c.args.spot.now.history.now (c.args.n + 1) (instance_of c.args.step.now) c.args.limit dear
+    let dear : c.args.limit < price (problem_of c.args.spot.now.problem.now) (instance_of c.args.step.now) = omega (arith, c.if-limit-own.true, c.action_cost-own.ensures) in
+    dear_act (problem_of c.args.spot.now.problem.now) c.args.spot.now.history.now (c.args.n + 1) (instance_of c.args.step.now) c.args.limit dear
 
 pub best_by_action-returns-clause-best : goal.best_by_action-returns-clause-best
 best_by_action-returns-clause-best t c =
-    let p = problem_of c.args.p.now in
+    let p = problem_of c.args.spot.now.problem.now in
     let i = instance_of c.args.step.now in
     IfOk-weaker c.act.result _ (λ o. IsBestOf p (IsCheapBy p c.args.spot.now.history.now (c.args.n + 1) c.args.limit (Act i)) (option_map tree_of o))
     (λ o e. found_act p c.args.spot.now.history.now c.args.n c.args.limit c.action_cost-own.result i (option_map tree_of c.in_ok-next.next) (option_map tree_of o) c.requires.chosen c.action_cost-own.ensures c.if-limit-own.false c.in_ok-next.ensures.best e)
@@ -101,20 +101,20 @@ best_by_action-returns-clause-best t c =
 
 pub best_by_branch-returns-then-limit-eq0-clause-best : goal.best_by_branch-returns-then-limit-eq0-clause-best
 best_by_branch-returns-then-limit-eq0-clause-best t c =
-    let p = problem_of c.args.p.now in
+    let p = problem_of c.args.spot.now.problem.now in
     let test = conj_of c.args.test.now in
     subst (λ l. IsBestOf p (IsCheapBy p c.args.spot.now.history.now (c.args.n + 1) l (BranchOn test)) None) (sym c.if-limit-eq0.true) (dear_branch p c.args.spot.now.history.now (c.args.n + 1) test)
 
 pub best_by_branch-returns-then-is_beyond-clause-best : goal.best_by_branch-returns-then-is_beyond-clause-best
 best_by_branch-returns-then-is_beyond-clause-best t c =
-    let p = problem_of c.args.p.now in
+    let p = problem_of c.args.spot.now.problem.now in
     let r = c.requires.spot.ready in
     let far : is_far c.args.spot.now.near.now (min c.args.n (c.args.limit - 1)) ≡ true = sym (c.is_beyond.ensures ∙ ap (is_far c.args.spot.now.near.now) c.min.ensures) ∙ c.if-is_beyond.true in
     none_branching p r.justified (valid_typed p r.valid.says) c.args.spot.now.history.now r.valid.says c.args.spot.now.near.now c.args.n c.args.limit (conj_of c.args.test.now) c.requires.spot.near far
 
 pub best_by_branch-returns-clause-best : goal.best_by_branch-returns-clause-best
 best_by_branch-returns-clause-best t c =
-    let p = problem_of c.args.p.now in
+    let p = problem_of c.args.spot.now.problem.now in
     let test = conj_of c.args.test.now in
     let yes : IsBestTaking p c.args.spot.now.history.now (BranchOn test) AsTrue c.args.n (c.args.limit - 1) (Some (tree_of c.in-Some.yes)) = subst (λ o. IsBestTaking p c.args.spot.now.history.now (BranchOn test) AsTrue c.args.n (c.args.limit - 1) (option_map tree_of o)) c.in-Some.is c.in_ok-yes.ensures.best in
     let no' : IsBestTaking p c.args.spot.now.history.now (BranchOn test) AsFalse c.args.n (c.args.limit - 1) (Some (tree_of c.in-Some-2.no)) = subst (λ o. IsBestTaking p c.args.spot.now.history.now (BranchOn test) AsFalse c.args.n (c.args.limit - 1) (option_map tree_of o)) c.in-Some-2.is c.in_ok-no.ensures.best in
@@ -122,15 +122,15 @@ best_by_branch-returns-clause-best t c =
 
 pub best_by_branch-returns-in_default-clause-best : goal.best_by_branch-returns-in_default-clause-best
 best_by_branch-returns-in_default-clause-best t c =
-    no_true_side (problem_of c.args.p.now) c.args.spot.now.history.now c.args.n c.args.limit (conj_of c.args.test.now) (option_map tree_of c.in_ok-yes.field-0) c.if-limit-eq0.false (ap (option_map tree_of) c.in_default.is) c.in_ok-yes.ensures.best
+    no_true_side (problem_of c.args.spot.now.problem.now) c.args.spot.now.history.now c.args.n c.args.limit (conj_of c.args.test.now) (option_map tree_of c.in_ok-yes.field-0) c.if-limit-eq0.false (ap (option_map tree_of) c.in_default.is) c.in_ok-yes.ensures.best
 
 pub best_by_branch-returns-in_default-2-clause-best : goal.best_by_branch-returns-in_default-2-clause-best
 best_by_branch-returns-in_default-2-clause-best t c =
-    no_false_side (problem_of c.args.p.now) c.args.spot.now.history.now c.args.n c.args.limit (conj_of c.args.test.now) (option_map tree_of c.in_ok-no.field-0) c.if-limit-eq0.false (ap (option_map tree_of) c.in_default-2.is) c.in_ok-no.ensures.best
+    no_false_side (problem_of c.args.spot.now.problem.now) c.args.spot.now.history.now c.args.n c.args.limit (conj_of c.args.test.now) (option_map tree_of c.in_ok-no.field-0) c.if-limit-eq0.false (ap (option_map tree_of) c.in_default-2.is) c.in_ok-no.ensures.best
 
 pub best_from_false-returns-clause-best : goal.best_from_false-returns-clause-best
 best_from_false-returns-clause-best t c =
-    let p = problem_of c.args.p.now in
+    let p = problem_of c.args.spot.now.problem.now in
     let test = conj_of c.args.test.now in
     let yes : IsBestTaking p c.args.spot.now.history.now (BranchOn test) AsTrue c.args.n (c.args.limit - 1) (Some (tree_of c.in-Some-2.yes)) = subst (λ o. IsBestTaking p c.args.spot.now.history.now (BranchOn test) AsTrue c.args.n (c.args.limit - 1) (option_map tree_of o)) c.in-Some-2.is c.in_ok-yes.ensures.best in
     let no' : IsBestTaking p c.args.spot.now.history.now (BranchOn test) AsFalse c.args.n (c.args.limit - 1) (Some (tree_of c.in-Some.no)) = subst (λ o. IsBestTaking p c.args.spot.now.history.now (BranchOn test) AsFalse c.args.n (c.args.limit - 1) (option_map tree_of o)) c.in-Some.is c.in_ok-no.ensures.best in
@@ -138,17 +138,17 @@ best_from_false-returns-clause-best t c =
 
 pub best_from_false-returns-in_default-clause-best : goal.best_from_false-returns-in_default-clause-best
 best_from_false-returns-in_default-clause-best t c =
-    no_false_side (problem_of c.args.p.now) c.args.spot.now.history.now c.args.n c.args.limit (conj_of c.args.test.now) (option_map tree_of c.in_ok-no.field-0) (some_limit c.args.limit c.requires.some) (ap (option_map tree_of) c.in_default.is) c.in_ok-no.ensures.best
+    no_false_side (problem_of c.args.spot.now.problem.now) c.args.spot.now.history.now c.args.n c.args.limit (conj_of c.args.test.now) (option_map tree_of c.in_ok-no.field-0) (some_limit c.args.limit c.requires.some) (ap (option_map tree_of) c.in_default.is) c.in_ok-no.ensures.best
 
 pub best_from_false-returns-in_default-2-clause-best : goal.best_from_false-returns-in_default-2-clause-best
 best_from_false-returns-in_default-2-clause-best t c =
-    no_true_side (problem_of c.args.p.now) c.args.spot.now.history.now c.args.n c.args.limit (conj_of c.args.test.now) (option_map tree_of c.in_ok-yes.field-0) (some_limit c.args.limit c.requires.some) (ap (option_map tree_of) c.in_default-2.is) c.in_ok-yes.ensures.best
+    no_true_side (problem_of c.args.spot.now.problem.now) c.args.spot.now.history.now c.args.n c.args.limit (conj_of c.args.test.now) (option_map tree_of c.in_ok-yes.field-0) (some_limit c.args.limit c.requires.some) (ap (option_map tree_of) c.in_default-2.is) c.in_ok-yes.ensures.best
 
 -- ---- cases
 
 pub best_by_cases-best_chain-requires : goal.best_by_cases-best_chain-requires
 best_by_cases-best_chain-requires t c =
-    let s = (problem_of c.args.p.now).signature in
+    let s = (problem_of c.args.spot.now.problem.now).signature in
     let d = last_moment c.args.spot.now.history.now in
     let x = term_of c.args.term.now in
     let all : map object_of c.as_slice.result.now ≡ left s d x = ap (map object_of) c.as_slice.ensures ∙ (c.in_ok-objects.ensures ∙ ap (λ (e : Five). left s e x) c.last.ensures) in
@@ -161,20 +161,20 @@ best_by_cases-best_chain-requires t c =
 
 pub best_by_cases-returns-then-limit-eq0-clause-best : goal.best_by_cases-returns-then-limit-eq0-clause-best
 best_by_cases-returns-then-limit-eq0-clause-best t c =
-    let p = problem_of c.args.p.now in
+    let p = problem_of c.args.spot.now.problem.now in
     let x = term_of c.args.term.now in
     subst (λ l. IsBestOf p (IsCheapBy p c.args.spot.now.history.now (c.args.n + 1) l (CasesOn x)) None) (sym c.if-limit-eq0.true) (dear_cases p c.args.spot.now.history.now (c.args.n + 1) x)
 
 pub best_by_cases-returns-then-is_beyond-clause-best : goal.best_by_cases-returns-then-is_beyond-clause-best
 best_by_cases-returns-then-is_beyond-clause-best t c =
-    let p = problem_of c.args.p.now in
+    let p = problem_of c.args.spot.now.problem.now in
     let r = c.requires.spot.ready in
     let far : is_far c.args.spot.now.near.now (min c.args.n (c.args.limit - 1)) ≡ true = sym (c.is_beyond.ensures ∙ ap (is_far c.args.spot.now.near.now) c.min.ensures) ∙ c.if-is_beyond.true in
     none_splitting p r.justified (valid_typed p r.valid.says) c.args.spot.now.history.now r.valid.says c.args.spot.now.near.now c.args.n c.args.limit (term_of c.args.term.now) c.requires.spot.near far
 
 pub best_by_cases-returns-clause-best : goal.best_by_cases-returns-clause-best
 best_by_cases-returns-clause-best t c =
-    let p = problem_of c.args.p.now in
+    let p = problem_of c.args.spot.now.problem.now in
     let x = term_of c.args.term.now in
     let d = last_moment c.args.spot.now.history.now in
     let all : map object_of c.as_slice.result.now ≡ left p.signature d x = ap (map object_of) c.as_slice.ensures ∙ (c.in_ok-objects.ensures ∙ ap (λ (e : Five). left p.signature e x) c.last.ensures) in
@@ -185,11 +185,11 @@ best_by_cases-returns-clause-best t c =
 
 pub best_chain-returns-in_default-clause-best : goal.best_chain-returns-in_default-clause-best
 best_chain-returns-in_default-clause-best t c =
-    chain_empty (problem_of c.args.p.now) c.args.spot.now.history.now c.args.n c.args.limit (term_of c.args.term.now) (map object_of c.args.objects.now) (none_left object_of c.args.objects.now c.in_default.len_below)
+    chain_empty (problem_of c.args.spot.now.problem.now) c.args.spot.now.history.now c.args.n c.args.limit (term_of c.args.term.now) (map object_of c.args.objects.now) (none_left object_of c.args.objects.now c.in_default.len_below)
 
 pub best_chain-returns-clause-best : goal.best_chain-returns-clause-best
 best_chain-returns-clause-best t c =
-    let p = problem_of c.args.p.now in
+    let p = problem_of c.args.spot.now.problem.now in
     let x = term_of c.args.term.now in
     let all = c.args.objects.now in
     let object = get_or all 0 (record { 0 = 0 }) in
@@ -200,7 +200,7 @@ best_chain-returns-clause-best t c =
 
 pub best_chain-returns-in_default-2-clause-best : goal.best_chain-returns-in_default-2-clause-best
 best_chain-returns-in_default-2-clause-best t c =
-    let p = problem_of c.args.p.now in
+    let p = problem_of c.args.spot.now.problem.now in
     let x = term_of c.args.term.now in
     let all = c.args.objects.now in
     let object = get_or all 0 (record { 0 = 0 }) in
@@ -209,7 +209,7 @@ best_chain-returns-in_default-2-clause-best t c =
 
 pub best_chain-returns-in_default-3-clause-best : goal.best_chain-returns-in_default-3-clause-best
 best_chain-returns-in_default-3-clause-best t c =
-    let p = problem_of c.args.p.now in
+    let p = problem_of c.args.spot.now.problem.now in
     let x = term_of c.args.term.now in
     let all = c.args.objects.now in
     let object = get_or all 0 (record { 0 = 0 }) in
@@ -221,27 +221,27 @@ best_chain-returns-in_default-3-clause-best t c =
 
 pub best_by_choice-best_by_action-requires : goal.best_by_choice-best_by_action-requires
 best_by_choice-best_by_action-requires t c =
-    let p = problem_of c.args.p.now in
+    let p = problem_of c.args.spot.now.problem.now in
     let less : c.args.n * 32 + 29 < t = omega (arith, c.decreases) in
     (less, (c.requires.spot, (chosen_action p (last_moment c.args.spot.now.history.now) (instance_of c.in-Act.step) (subst (λ x. IsIn (choice_of x) (choices p (last_moment c.args.spot.now.history.now))) c.in-Act.is c.requires.chosen), c.requires.notes)))
 
 pub best_by_choice-best_by_branch-requires : goal.best_by_choice-best_by_branch-requires
 best_by_choice-best_by_branch-requires t c =
-    let p = problem_of c.args.p.now in
+    let p = problem_of c.args.spot.now.problem.now in
     let less : c.args.n * 32 + 29 < t = omega (arith, c.decreases) in
     let r = chosen_branch p (last_moment c.args.spot.now.history.now) (conj_of c.in-Branch.test) (subst (λ x. IsIn (choice_of x) (choices p (last_moment c.args.spot.now.history.now))) c.in-Branch.is c.requires.chosen) in
     (less, (c.requires.spot, (r.0, (r.1, c.requires.notes))))
 
 pub best_by_choice-best_by_cases-requires : goal.best_by_choice-best_by_cases-requires
 best_by_choice-best_by_cases-requires t c =
-    let p = problem_of c.args.p.now in
+    let p = problem_of c.args.spot.now.problem.now in
     let less : c.args.n * 32 + 29 < t = omega (arith, c.decreases) in
     let r = chosen_cases p (last_moment c.args.spot.now.history.now) (term_of c.in-Cases.term) (subst (λ x. IsIn (choice_of x) (choices p (last_moment c.args.spot.now.history.now))) c.in-Cases.is c.requires.chosen) in
     (less, (c.requires.spot, (r.0, (r.1, c.requires.notes))))
 
 pub best_of_choices-best_by_choice-requires : goal.best_of_choices-best_by_choice-requires
 best_of_choices-best_by_choice-requires t c =
-    let p = problem_of c.args.p.now in
+    let p = problem_of c.args.spot.now.problem.now in
     let left = left_in p (last_moment c.args.spot.now.history.now) in
     let f = c.each.invariant.0 in
     let less : c.args.n * 32 + 30 < t = omega (arith, c.decreases) in
@@ -252,13 +252,13 @@ best_of_choices-best_by_choice-requires t c =
 
 pub best_of_choices-each-init : goal.best_of_choices-each-init
 best_of_choices-each-init t c =
-    let p = problem_of c.args.p.now in
+    let p = problem_of c.args.spot.now.problem.now in
     let all : left_in p (last_moment c.args.spot.now.history.now) c.in_ok-walk.walk ≡ choices p (last_moment c.args.spot.now.history.now) = subst (λ d. left_in p d c.in_ok-walk.walk ≡ choices p d) c.last-d.ensures c.in_ok-walk.ensures.all in
     (record { done = []; all = all; among = found_first p c.args.spot.now.history.now (c.args.n + 1) c.args.limit c.requires.unmet }, c.requires.notes)
 
 pub best_of_choices-each-smaller : goal.best_of_choices-each-smaller
 best_of_choices-each-smaller t c =
-    let p = problem_of c.args.p.now in
+    let p = problem_of c.args.spot.now.problem.now in
     let left = left_in p (last_moment c.args.spot.now.history.now) in
     let f = c.each.invariant.0 in
     let given : IsNext (left c.each.walk) (left c.next.new.self) (option_map choice_of c.in_ok-c.field-0) = subst (λ d. IsNext (left_in p d c.each.walk) (left_in p d c.next.new.self) (option_map choice_of c.in_ok-c.field-0)) c.last-d.ensures c.in_ok-c.ensures in
@@ -267,7 +267,7 @@ best_of_choices-each-smaller t c =
 
 pub best_of_choices-each-preserved-in-Some-2 : goal.best_of_choices-each-preserved-in-Some-2
 best_of_choices-each-preserved-in-Some-2 t c =
-    let p = problem_of c.args.p.now in
+    let p = problem_of c.args.spot.now.problem.now in
     let left = left_in p (last_moment c.args.spot.now.history.now) in
     let f = c.each.invariant.0 in
     let given : IsNext (left c.each.walk) (left c.next.new.self) (option_map choice_of c.in_ok-c.field-0) = subst (λ d. IsNext (left_in p d c.each.walk) (left_in p d c.next.new.self) (option_map choice_of c.in_ok-c.field-0)) c.last-d.ensures c.in_ok-c.ensures in
@@ -281,7 +281,7 @@ best_of_choices-each-preserved-in-Some-2 t c =
 
 pub best_of_choices-each-preserved : goal.best_of_choices-each-preserved
 best_of_choices-each-preserved t c =
-    let p = problem_of c.args.p.now in
+    let p = problem_of c.args.spot.now.problem.now in
     let left = left_in p (last_moment c.args.spot.now.history.now) in
     let f = c.each.invariant.0 in
     let given : IsNext (left c.each.walk) (left c.next.new.self) (option_map choice_of c.in_ok-c.field-0) = subst (λ d. IsNext (left_in p d c.each.walk) (left_in p d c.next.new.self) (option_map choice_of c.in_ok-c.field-0)) c.last-d.ensures c.in_ok-c.ensures in
@@ -295,11 +295,11 @@ best_of_choices-each-preserved t c =
     (found_more p c.args.spot.now.history.now (c.args.n + 1) c.args.limit c.requires.unmet (left c.each.walk) (left c.next.new.self) here (option_map tree_of c.each.best) (option_map tree_of c.each.best) c.each.below c.each.below next f among, c.in_ok-t.ensures.notes)
 
 pub best_of_choices-cost-below-requires-clause-costs : goal.best_of_choices-cost-below-requires-clause-costs
-best_of_choices-cost-below-requires-clause-costs t c = costs_at_most (problem_of c.args.p.now) c.requires.spot.ready.valid.says
+best_of_choices-cost-below-requires-clause-costs t c = costs_at_most (problem_of c.args.spot.now.problem.now) c.requires.spot.ready.valid.says
 
 pub best_of_choices-overflow_sub-below : goal.best_of_choices-overflow_sub-below
 best_of_choices-overflow_sub-below t c =
-    let p = problem_of c.args.p.now in
+    let p = problem_of c.args.spot.now.problem.now in
     let here = choice_of c.in-Some.c in
     let found : IsBestOf p (IsCheapBy p c.args.spot.now.history.now (c.args.n + 1) c.each.below here) (Some (tree_of c.in-Some-2.t)) = subst (λ o. IsBestOf p (IsCheapBy p c.args.spot.now.history.now (c.args.n + 1) c.each.below here) (option_map tree_of o)) c.in-Some-2.is c.in_ok-t.ensures.best in
     let some : 1 ≤ cost p (tree_of c.in-Some-2.t) = costs_some p c.requires.spot.ready.valid.says c.args.spot.now.history.now c.requires.unmet (tree_of c.in-Some-2.t) found.0.0.0.0 in
@@ -307,7 +307,7 @@ best_of_choices-overflow_sub-below t c =
 
 pub best_of_choices-returns-clause-best : goal.best_of_choices-returns-clause-best
 best_of_choices-returns-clause-best t c =
-    let p = problem_of c.args.p.now in
+    let p = problem_of c.args.spot.now.problem.now in
     let left = left_in p (last_moment c.args.spot.now.history.now) in
     let f = c.each.invariant.0 in
     let given : IsNext (left c.each.walk) (left c.next.new.self) (option_map choice_of c.in_ok-c.field-0) = subst (λ d. IsNext (left_in p d c.each.walk) (left_in p d c.next.new.self) (option_map choice_of c.in_ok-c.field-0)) c.last-d.ensures c.in_ok-c.ensures in
@@ -318,11 +318,11 @@ best_of_choices-returns-clause-best t c =
 -- ---- sides
 
 pub best_taking-assume-requires-clause-moment : goal.best_taking-assume-requires-clause-moment
-best_taking-assume-requires-clause-moment t c = subst (IsMomentOf (problem_of c.args.p.now).signature) (sym c.last.ensures) (ready_last c.args.p.now c.args.spot.now.history.now c.args.spot.now.unread (c.args.n + 1) c.requires.spot.ready)
+best_taking-assume-requires-clause-moment t c = subst (IsMomentOf (problem_of c.args.spot.now.problem.now).signature) (sym c.last.ensures) (ready_last c.args.spot.now.problem.now c.args.spot.now.history.now c.args.spot.now.unread (c.args.n + 1) c.requires.spot.ready)
 
 pub best_taking-best_within-requires : goal.best_taking-best_within-requires
 best_taking-best_within-requires t c =
-    let p = problem_of c.args.p.now in
+    let p = problem_of c.args.spot.now.problem.now in
     let r = c.requires.spot.ready in
     let h = c.args.spot.now.history.now in
     let less : c.args.n * 32 + 2 < t = omega (arith, c.decreases) in
@@ -331,23 +331,23 @@ best_taking-best_within-requires t c =
     let read = subst (λ x. IfAt (IsReadBut p 0) (state_of x)) c.in-Whole.is c.in_ok-settle_after-in-Next.ensures.read in
     let takes = takes p h (choice_of c.args.c.now) (side_of c.args.side) (five_of c.last.result.now) (five_of c.in-Next.d) (outcome_of c.in_ok-assume.field-0) (At c.in-Whole.settled) c.last.ensures (ap outcome_of c.in-Next.is) c.in_ok-assume.ensures.assumes settles in
     let near = taken_near p r.justified (valid_typed p r.valid.says) h (choice_of c.args.c.now) (side_of c.args.side) c.in-Whole.settled c.args.spot.now.near.now c.in_ok-on-in-Whole.on.items c.requires.member takes c.requires.spot.near c.in_ok-on-in-Whole.ensures in
-    let ready = ready_taken c.args.p.now h c.in-Whole.settled c.args.spot.now.unread c.args.n (five_of c.in-Next.d) r settles moments read in
+    let ready = ready_taken c.args.spot.now.problem.now h c.in-Whole.settled c.args.spot.now.unread c.args.n (five_of c.in-Next.d) r settles moments read in
     let twins = taken_each p r.justified (valid_typed p r.valid.says) h (choice_of c.args.c.now) (side_of c.args.side) c.in-Whole.settled c.args.spot.now.twins.now c.in_ok-twins-in-Whole.twins.items c.requires.member takes c.requires.spot.twins c.in_ok-twins-in-Whole.ensures in
     (less, (record { ready = ready; near = subst (Each (IsNear p c.in-Whole.settled)) (sym c.as_slice.ensures.value) near; twins = subst (Each (AreTwins p c.in-Whole.settled)) (sym c.as_slice-in-Whole.ensures.value) twins }, c.requires.notes))
 
 pub best_taking-returns-in-Clash-clause-best : goal.best_taking-returns-in-Clash-clause-best
 best_taking-returns-in-Clash-clause-best t c =
-    taking_clash (problem_of c.args.p.now) c.args.spot.now.history.now c.args.n c.args.limit (choice_of c.args.c.now) (side_of c.args.side) (five_of c.last.result.now) (outcome_of c.in_ok-assume.field-0) _ c.last.ensures (ap outcome_of c.in-Clash.is) c.in_ok-assume.ensures.assumes
+    taking_clash (problem_of c.args.spot.now.problem.now) c.args.spot.now.history.now c.args.n c.args.limit (choice_of c.args.c.now) (side_of c.args.side) (five_of c.last.result.now) (outcome_of c.in_ok-assume.field-0) _ c.last.ensures (ap outcome_of c.in-Clash.is) c.in_ok-assume.ensures.assumes
 
 pub best_taking-returns-in-Clash-2-clause-best : goal.best_taking-returns-in-Clash-2-clause-best
 best_taking-returns-in-Clash-2-clause-best t c =
-    let p = problem_of c.args.p.now in
+    let p = problem_of c.args.spot.now.problem.now in
     taking_next p c.args.spot.now.history.now c.args.n c.args.limit (choice_of c.args.c.now) (side_of c.args.side) (five_of c.last.result.now) (five_of c.in-Next.d) (outcome_of c.in_ok-assume.field-0) (state_of c.in_ok-settle_after-in-Next.field-0) Stopped (Some Impossible)
     c.last.ensures (ap outcome_of c.in-Next.is) c.in_ok-assume.ensures.assumes c.in_ok-settle_after-in-Next.ensures.settles (ap state_of c.in-Clash-2.is) (cheap_stopped p c.args.n c.args.limit)
 
 pub best_taking-returns-in_ok-twins-in-Whole-clause-best : goal.best_taking-returns-in_ok-twins-in-Whole-clause-best
 best_taking-returns-in_ok-twins-in-Whole-clause-best t c =
-    let p = problem_of c.args.p.now in
+    let p = problem_of c.args.spot.now.problem.now in
     let choice = choice_of c.args.c.now in
     let side = side_of c.args.side in
     IfOk-weaker c.best_within.result (λ o. IsBestWithin p (At c.in-Whole.settled) c.args.n c.args.limit (option_map tree_of o)) (λ o. IsBestTaking p c.args.spot.now.history.now choice side c.args.n c.args.limit (option_map tree_of o))
@@ -358,11 +358,11 @@ best_taking-returns-in_ok-twins-in-Whole-clause-best t c =
 -- ---- at a history
 
 pub best_within-returns-then-met-clause-best : goal.best_within-returns-then-met-clause-best
-best_within-returns-then-met-clause-best t c = cheap_goal (problem_of c.args.p.now) c.args.spot.now.history.now c.args.n c.args.limit (sym c.met.ensures ∙ c.if-met.true)
+best_within-returns-then-met-clause-best t c = cheap_goal (problem_of c.args.spot.now.problem.now) c.args.spot.now.history.now c.args.n c.args.limit (sym c.met.ensures ∙ c.if-met.true)
 
 pub best_within-returns-then-n-eq0-clause-best : goal.best_within-returns-then-n-eq0-clause-best
 best_within-returns-then-n-eq0-clause-best t c =
-    let p = problem_of c.args.p.now in
+    let p = problem_of c.args.spot.now.problem.now in
     let unmet = sym c.met.ensures ∙ c.if-met.false in
     elim c.then-n-eq0.branch [
       | best_within-then-n-eq0-via-then-n-eq0 w ↦ subst (λ n. IsBestWithin p (At c.args.spot.now.history.now) n c.args.limit None) (sym w.if-n-eq0.true) (none_at_depth p c.args.spot.now.history.now c.args.limit unmet)
@@ -371,20 +371,20 @@ best_within-returns-then-n-eq0-clause-best t c =
 
 pub best_within-returns-then-is_beyond-clause-best : goal.best_within-returns-then-is_beyond-clause-best
 best_within-returns-then-is_beyond-clause-best t c =
-    let p = problem_of c.args.p.now in
+    let p = problem_of c.args.spot.now.problem.now in
     let r = c.requires.spot.ready in
     let far : is_far c.args.spot.now.near.now (min c.args.n c.args.limit) ≡ true = sym (c.is_beyond.ensures ∙ ap (is_far c.args.spot.now.near.now) c.min.ensures) ∙ c.if-is_beyond.true in
     none_near p r.justified (valid_typed p r.valid.says) c.args.spot.now.history.now r.valid.says c.args.spot.now.near.now c.args.n c.args.limit c.requires.spot.near far
 
 pub best_by_action-near_after-requires-clause-counted : goal.best_by_action-near_after-requires-clause-counted
 best_by_action-near_after-requires-clause-counted t c =
-    let p = problem_of c.args.p.now in
+    let p = problem_of c.args.spot.now.problem.now in
     let h = c.args.spot.now.history.now in
     near_counted p h c.front.result.now (each_first (IsNear p h) c.args.spot.now.near.now c.front.result.now c.front.ensures c.requires.spot.near)
 
 pub best_by_action-returns-then-is_beyond-clause-best : goal.best_by_action-returns-then-is_beyond-clause-best
 best_by_action-returns-then-is_beyond-clause-best t c =
-    let p = problem_of c.args.p.now in
+    let p = problem_of c.args.spot.now.problem.now in
     let r = c.requires.spot.ready in
     let h = c.args.spot.now.history.now in
     let first = c.in_ok-first.first.items in
@@ -395,7 +395,7 @@ best_by_action-returns-then-is_beyond-clause-best t c =
 
 pub best_by_action-returns-then-barren-clause-best : goal.best_by_action-returns-then-barren-clause-best
 best_by_action-returns-then-barren-clause-best t c =
-    let p = problem_of c.args.p.now in
+    let p = problem_of c.args.spot.now.problem.now in
     let r = c.requires.spot.ready in
     let h = c.args.spot.now.history.now in
     let i = instance_of c.args.step.now in
@@ -409,7 +409,7 @@ best_by_action-returns-then-barren-clause-best t c =
 
 pub best_by_action-best_after-requires : goal.best_by_action-best_after-requires
 best_by_action-best_after-requires t c =
-    let p = problem_of c.args.p.now in
+    let p = problem_of c.args.spot.now.problem.now in
     let r = c.requires.spot.ready in
     let h = c.args.spot.now.history.now in
     let less : c.args.n * 32 + 3 < t = omega (arith, c.decreases) in
@@ -420,26 +420,26 @@ best_by_action-best_after-requires t c =
 
 pub best_by_action-returns-then-some_met-clause-best : goal.best_by_action-returns-then-some_met-clause-best
 best_by_action-returns-then-some_met-clause-best t c =
-    let p = problem_of c.args.p.now in
+    let p = problem_of c.args.spot.now.problem.now in
     let r = c.requires.spot.ready in
     let some : SomeMet c.in_ok-twins.twins.items = subst SomeMet c.as_slice-2.ensures.value (c.some_met.ensures c.if-some_met.true) in
     none_meeting p r.justified (valid_typed p r.valid.says) c.args.spot.now.history.now (instance_of c.args.step.now) c.args.spot.now.twins.now c.in_ok-twins.twins.items (c.args.n + 1) c.args.limit c.requires.chosen c.requires.spot.twins c.in_ok-twins.ensures some
 
 pub best_unmet-best_of_rest-requires : goal.best_unmet-best_of_rest-requires
 best_unmet-best_of_rest-requires t c =
-    let p = problem_of c.args.p.now in
+    let p = problem_of c.args.spot.now.problem.now in
     let less : c.args.n * 32 < t = omega (arith, c.decreases) in
     let h = c.args.spot.now.history.now in
     let rest = c.in_ok-rest.rest in
     let same : HasTreesWithin p h rest c.args.n c.args.limit = c.in_ok-rest.ensures in
-    let ready = rest_ready c.args.p.now h rest c.args.spot.now.unread c.args.n c.args.limit same c.requires.spot.ready in
+    let ready = rest_ready c.args.spot.now.problem.now h rest c.args.spot.now.unread c.args.n c.args.limit same c.requires.spot.ready in
     let near = left_near p h rest c.args.spot.now.near.now same.left c.requires.spot.near in
     let twins = each_weaker (AreTwins p h) (AreTwins p rest) (λ x m. same.twins (first_in x) (second_in x) m) c.args.spot.now.twins.now c.requires.spot.twins in
     (less, (record { ready = ready; near = near; twins = twins }, (rest_unmet p h rest c.args.n c.args.limit same c.requires.unmet, (c.requires.some, c.requires.notes))))
 
 pub best_unmet-returns-clause-best : goal.best_unmet-returns-clause-best
 best_unmet-returns-clause-best t c =
-    let p = problem_of c.args.p.now in
+    let p = problem_of c.args.spot.now.problem.now in
     let h = c.args.spot.now.history.now in
     let rest = c.in_ok-rest.rest in
     let same : HasTreesWithin p h rest c.args.n c.args.limit = c.in_ok-rest.ensures in
@@ -451,18 +451,18 @@ pub best_of_rest-returns-then-tells-clause-best : goal.best_of_rest-returns-then
 best_of_rest-returns-then-tells-clause-best t c = c.tells.ensures.told c.if-tells.true c.requires.spot.ready.valid.says c.requires.spot.ready.moments c.requires.notes.failures
 
 pub best_of_rest-returns-then-tells-clause-notes : goal.best_of_rest-returns-then-tells-clause-notes
-best_of_rest-returns-then-tells-clause-notes t c = record { deeds = c.requires.notes.deeds; failures = c.tells.ensures.right (problem_of c.args.p.now) c.requires.notes.failures; finds = c.requires.notes.finds }
+best_of_rest-returns-then-tells-clause-notes t c = record { deeds = c.requires.notes.deeds; failures = c.tells.ensures.right (problem_of c.args.spot.now.problem.now) c.requires.notes.failures; finds = c.requires.notes.finds }
 
 pub best_of_rest-best_of_choices-requires : goal.best_of_rest-best_of_choices-requires
 best_of_rest-best_of_choices-requires t c =
     let same : c.args.n ≡ c.args.n - 1 + 1 = omega (arith, c.requires.some) in
     let less : (c.args.n - 1) * 32 + 31 < t = omega (arith, c.decreases, c.requires.some) in
-    let right = c.tells.ensures.right (problem_of c.args.p.now) c.requires.notes.failures in
-    (less, (subst (MayGoOn c.args.p.now c.args.spot.now) same c.requires.spot, (c.requires.unmet, record { deeds = c.requires.notes.deeds; failures = right; finds = c.tells-2.ensures.found (problem_of c.args.p.now) c.requires.notes.finds })))
+    let right = c.tells.ensures.right (problem_of c.args.spot.now.problem.now) c.requires.notes.failures in
+    (less, (subst (MayGoOn c.args.spot.now) same c.requires.spot, (c.requires.unmet, record { deeds = c.requires.notes.deeds; failures = right; finds = c.tells-2.ensures.found (problem_of c.args.spot.now.problem.now) c.requires.notes.finds })))
 
 pub best_of_rest-returns-in-None-clause-notes : goal.best_of_rest-returns-in-None-clause-notes
 best_of_rest-returns-in-None-clause-notes t c =
-    let p = problem_of c.args.p.now in
+    let p = problem_of c.args.spot.now.problem.now in
     let h = c.args.spot.now.history.now in
     let same : c.args.n - 1 + 1 ≡ c.args.n = omega (arith, c.requires.some) in
     let none : IsBestWithin p (At h) (c.args.n - 1 + 1) c.args.limit None = subst (λ o. IsBestWithin p (At h) (c.args.n - 1 + 1) c.args.limit (option_map tree_of o)) c.in-None.is c.in_ok-t.ensures.best in
@@ -472,17 +472,17 @@ best_of_rest-returns-in-None-clause-notes t c =
 
 pub best_of_rest-returns-in-Some-clause-best : goal.best_of_rest-returns-in-Some-clause-best
 best_of_rest-returns-in-Some-clause-best t c =
-    let p = problem_of c.args.p.now in
+    let p = problem_of c.args.spot.now.problem.now in
     subst (λ o. IfSome o (λ told. IsAnswer p c.args.spot.now.history.now c.args.n c.args.limit (option_map tree_of told))) c.in-Some.is (c.tells-2.ensures.told p c.requires.spot.ready.valid.says c.requires.notes.finds)
 
 pub best_of_rest-returns-in-Some-clause-notes : goal.best_of_rest-returns-in-Some-clause-notes
 best_of_rest-returns-in-Some-clause-notes t c =
-    let p = problem_of c.args.p.now in
+    let p = problem_of c.args.spot.now.problem.now in
     record { deeds = c.requires.notes.deeds; failures = c.tells.ensures.right p c.requires.notes.failures; finds = c.tells-2.ensures.found p c.requires.notes.finds }
 
 pub best_of_rest-returns-in-Some-2-clause-notes : goal.best_of_rest-returns-in-Some-2-clause-notes
 best_of_rest-returns-in-Some-2-clause-notes t c =
-    let p = problem_of c.args.p.now in
+    let p = problem_of c.args.spot.now.problem.now in
     let h = c.args.spot.now.history.now in
     let found = c.in-Some-2.t in
     let same : c.args.n - 1 + 1 ≡ c.args.n = omega (arith, c.requires.some) in

@@ -45,7 +45,7 @@ abbrev pub decreases-best_taking : goal.decreases-best_taking
 decreases-best_taking l = l.n * 32 + 3
 
 abbrev pub invariant-best_of_choices-each : goal.invariant-best_of_choices-each
-invariant-best_of_choices-each l = IsFoundBefore (problem_of l.fn.p) l.fn.spot.history.now (l.n + 1) l.limit (left_in (problem_of l.fn.p) (last_moment l.fn.spot.history.now) l.walk) (option_map tree_of l.best) l.below × AreSo (problem_of l.fn.p) l.notes
+invariant-best_of_choices-each l = IsFoundBefore (problem_of l.fn.spot.problem.now) l.fn.spot.history.now (l.n + 1) l.limit (left_in (problem_of l.fn.spot.problem.now) (last_moment l.fn.spot.history.now) l.walk) (option_map tree_of l.best) l.below × AreSo (problem_of l.fn.spot.problem.now) l.notes
 
 abbrev pub decreases-best_of_choices-each : goal.decreases-best_of_choices-each
-decreases-best_of_choices-each l = length (left_in (problem_of l.fn.p) (last_moment l.fn.spot.history.now) l.walk)
+decreases-best_of_choices-each l = length (left_in (problem_of l.fn.spot.problem.now) (last_moment l.fn.spot.history.now) l.walk)
