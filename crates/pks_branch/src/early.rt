@@ -26,10 +26,12 @@ fn inner_is_early(t: &Inner, n: u8) -> bool
 fn are_early(ts: &[Inner], n: u8) -> bool
     ensures { result ≡ list_all (inner_is_early n) (map inner_of ts.now) }
 {
-    match ts {
-        [] => true,
-        [t, rest @ ..] => inner_is_early(t, n) && are_early(rest, n),
+    for t in ts {
+        if !inner_is_early(t, n) {
+            return false;
+        }
     }
+    true
 }
 
 /// Whether only the first `n` parameters stand in the term.
@@ -47,10 +49,12 @@ fn term_is_early(t: &Term, n: u8) -> bool
 fn terms_are_early(ts: &[Term], n: u8) -> bool
     ensures { result ≡ list_all (term_is_early n) (map term_of ts.now) }
 {
-    match ts {
-        [] => true,
-        [t, rest @ ..] => term_is_early(t, n) && terms_are_early(rest, n),
+    for t in ts {
+        if !term_is_early(t, n) {
+            return false;
+        }
     }
+    true
 }
 
 /// Whether only the first `n` parameters stand in the literal.
@@ -65,10 +69,12 @@ fn literal_is_early(l: &Literal, n: u8) -> bool
 fn literals_are_early(ls: &[Literal], n: u8) -> bool
     ensures { result ≡ list_all (literal_is_early n) (literals_in ls.now) }
 {
-    match ls {
-        [] => true,
-        [l, rest @ ..] => literal_is_early(l, n) && literals_are_early(rest, n),
+    for l in ls {
+        if !literal_is_early(l, n) {
+            return false;
+        }
     }
+    true
 }
 
 /// Whether only the first `n` parameters stand in the query.

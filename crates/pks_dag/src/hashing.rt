@@ -13,50 +13,34 @@ use std::hash::Hasher;
 fn write_inners<H: Hasher>(ts: &[Inner], state: &mut H)
     ensures { state.new ≡ fold H.write state.old (inners_written (map inner_of ts.now)) }
 {
-    match ts {
-        [] => {}
-        [t, others @ ..] => {
-            state.write_u16(t.number());
-            write_inners(others, state);
-        }
+    for t in ts {
+        state.write_u16(t.number());
     }
 }
 
 fn write_terms<H: Hasher>(ts: &[Term], state: &mut H)
     ensures { state.new ≡ fold H.write state.old (terms_written (terms_of ts.now)) }
 {
-    match ts {
-        [] => {}
-        [t, others @ ..] => {
-            state.write_u16(t.number());
-            write_terms(others, state);
-        }
+    for t in ts {
+        state.write_u16(t.number());
     }
 }
 
 fn write_literals<H: Hasher>(literals: &[Literal], state: &mut H)
     ensures { state.new ≡ fold H.write state.old (literals_written (literals_in literals.now)) }
 {
-    match literals {
-        [] => {}
-        [l, others @ ..] => {
-            let arguments = l.atom.arguments();
-            write_terms(arguments.terms(), state);
-            write_literals(others, state);
-        }
+    for l in literals {
+        let arguments = l.atom.arguments();
+        write_terms(arguments.terms(), state);
     }
 }
 
 fn write_links<H: Hasher>(cases: &[CaseNode], state: &mut H)
     ensures { state.new ≡ fold H.write state.old (links_written (map link_of cases.now)) }
 {
-    match cases {
-        [] => {}
-        [one, others @ ..] => {
-            state.write_u16(one.object.0);
-            state.write_u64(one.node);
-            write_links(others, state);
-        }
+    for one in cases {
+        state.write_u16(one.object.0);
+        state.write_u64(one.node);
     }
 }
 

@@ -86,15 +86,11 @@ fn last_depth(alloc: Global, nodes: &[Node]) -> Result<u64, AllocError>
 fn print_links(p: &Problem<'_>, cases: &[CaseNode], out: &mut Vec<u8>) -> Result<(), AllocError>
     ensures { OnOk result (out.new.items ≡ out.old.items ++ links_text (names_of p.now) (map link_of cases.now)) }
 {
-    match cases {
-        [] => {}
-        [one, others @ ..] => {
-            put(out, b" ")?;
-            print_term(p, &Term::Obj(one.object), out)?;
-            put(out, b" ")?;
-            put_number(out, one.node)?;
-            print_links(p, others, out)?;
-        }
+    for one in cases {
+        put(out, b" ")?;
+        print_term(p, &Term::Obj(one.object), out)?;
+        put(out, b" ")?;
+        put_number(out, one.node)?;
     }
     Ok(())
 }

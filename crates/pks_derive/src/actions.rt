@@ -30,13 +30,9 @@ fn print_adds(
 ) -> Result<(), AllocError>
     ensures { OnOk result (out.new.items ≡ out.old.items ++ flat_map (λ x. line (add_text (names_of p.now) (map (λ t. t.now) parameters.now) x)) (adds_of adds.now)) }
 {
-    match adds {
-        [] => {}
-        [add, others @ ..] => {
-            print_add(p, parameters, add, out)?;
-            put(out, b"\n")?;
-            print_adds(p, parameters, others, out)?;
-        }
+    for add in adds {
+        print_add(p, parameters, add, out)?;
+        put(out, b"\n")?;
     }
     Ok(())
 }

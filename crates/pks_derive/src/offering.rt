@@ -68,12 +68,8 @@ fn offer_effects(
     requires these { AssignToPlaces effects.now }
     ensures { OnOk result (adds_of to.new.items ≡ fold (with_offered (schema_of schema.now)) (adds_of to.old.items) (flat_map effect_shapes (effects_of effects.now))) }
 {
-    match effects {
-        [] => {}
-        [e, others @ ..] => {
-            offer_effect(schema, e, to)?;
-            offer_effects(schema, others, to)?;
-        }
+    for e in effects {
+        offer_effect(schema, e, to)?;
     }
     Ok(())
 }
@@ -84,12 +80,8 @@ fn offer_senses(schema: &Schema<'_>, senses: &[Sense], to: &mut Vec<Adds>) -> Re
     requires { AssignToPlaces schema.now.effects }
     ensures { OnOk result (adds_of to.new.items ≡ fold (with_offered (schema_of schema.now)) (adds_of to.old.items) (flat_map sense_shapes (senses_of senses.now))) }
 {
-    match senses {
-        [] => {}
-        [sense, others @ ..] => {
-            offer_made(schema, sensed(sense), to)?;
-            offer_senses(schema, others, to)?;
-        }
+    for sense in senses {
+        offer_made(schema, sensed(sense), to)?;
     }
     Ok(())
 }

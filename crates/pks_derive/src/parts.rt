@@ -36,13 +36,9 @@ pub(crate) fn print_parts<T: DerivedPart>(
 ) -> Result<(), AllocError>
     ensures { OnOk result (out.new.items ≡ out.old.items ++ flat_map (λ part. 32 ∷ part) (map (T.text (names_of p.now) (map (λ t. t.now) parameters.now)) parts.now)) }
 {
-    match parts {
-        [] => {}
-        [part, others @ ..] => {
-            put(out, b" ")?;
-            part.print(p, parameters, out)?;
-            print_parts(p, parameters, others, out)?;
-        }
+    for part in parts {
+        put(out, b" ")?;
+        part.print(p, parameters, out)?;
     }
     Ok(())
 }

@@ -93,8 +93,10 @@ fn same_add(a: &Adds, b: &Adds) -> bool
 pub(crate) fn is_among(add: &Adds, adds: &[Adds]) -> bool
     ensures { result ≡ list_any (same_add (add_of add.now)) (adds_of adds.now) }
 {
-    match adds {
-        [] => false,
-        [one, others @ ..] => same_add(add, one) || is_among(add, others),
+    for one in adds {
+        if same_add(add, one) {
+            return true;
+        }
     }
+    false
 }

@@ -20,13 +20,12 @@ use std::alloc::{AllocError, Global};
 pub fn are_now(aims: &[Aim]) -> bool
     ensures { IsTrue result ↔ Each IsNow (map aim_of aims.now) }
 {
-    match aims {
-        [] => true,
-        [a, rest @ ..] => match a {
-            Aim::Now(_) => are_now(rest),
-            Aim::AtStart(_) | Aim::Always(_) | Aim::Once(_) => false,
-        },
+    for a in aims {
+        if !matches!(a, Aim::Now(_)) {
+            return false;
+        }
     }
+    true
 }
 
 /// That each set of each moment is in order. It does nothing.

@@ -68,19 +68,23 @@ pub(crate) fn made_by(x: &Target) -> Option<Literal>
 fn all_known(d: &Five, ls: &[Literal]) -> bool
     ensures { result ≡ list_all (has (five_of d.now)) (literals_in ls.now) }
 {
-    match ls {
-        [] => true,
-        [l, rest @ ..] => has(d, l) && all_known(d, rest),
+    for l in ls {
+        if !has(d, l) {
+            return false;
+        }
     }
+    true
 }
 
 fn some_denied(d: &Five, ls: &[Literal]) -> bool
     ensures { result ≡ list_any (λ c. has (five_of d.now) (negated c)) (literals_in ls.now) }
 {
-    match ls {
-        [] => false,
-        [l, rest @ ..] => has(d, &l.negated()) || some_denied(d, rest),
+    for l in ls {
+        if has(d, &l.negated()) {
+            return true;
+        }
     }
+    false
 }
 
 /// Whether each condition of the effect is known.
@@ -114,10 +118,12 @@ pub(crate) fn is_written(d: &Five, effects: &[Effect], l: &Literal) -> bool
     requires { ArePlaced effects.now }
     ensures { result ≡ is_written (five_of d.now) (map effect_of effects.now) (literal_of l.now) }
 {
-    match effects {
-        [] => false,
-        [e, rest @ ..] => { (fires_surely(d, e) && writes(&e.target, l)) || is_written(d, rest, l) }
+    for e in effects {
+        if fires_surely(d, e) && writes(&e.target, l) {
+            return true;
+        }
     }
+    false
 }
 
 /// Whether the target assigns the place.
@@ -140,10 +146,10 @@ pub(crate) fn is_assigned(d: &Five, effects: &[Effect], t: &Term) -> bool
     requires { ArePlaced effects.now }
     ensures { result ≡ is_assigned (five_of d.now) (map effect_of effects.now) (term_of t.now) }
 {
-    match effects {
-        [] => false,
-        [e, rest @ ..] => {
-            (fires_surely(d, e) && assigns(&e.target, t)) || is_assigned(d, rest, t)
+    for e in effects {
+        if fires_surely(d, e) && assigns(&e.target, t) {
+            return true;
         }
     }
+    false
 }

@@ -61,10 +61,12 @@ fn are_decided(before: &Five, after: &Five, effects: &[Effect]) -> bool
     requires { ArePlaced effects.now }
     ensures { result ≡ list_all (is_decided (five_of before.now) (five_of after.now)) (map effect_of effects.now) }
 {
-    match effects {
-        [] => true,
-        [e, rest @ ..] => is_decided(before, after, e) && are_decided(before, after, rest),
+    for e in effects {
+        if !is_decided(before, after, e) {
+            return false;
+        }
     }
+    true
 }
 
 fn is_of_predicate(l: &Literal) -> bool
@@ -105,12 +107,12 @@ fn are_read_alike(before: &Five, after: &Five, effects: &[Effect], written: &[Ef
     requires { ArePlaced written.now }
     ensures { result ≡ list_all (is_read_alike (five_of before.now) (five_of after.now) (map effect_of effects.now)) (map effect_of written.now) }
 {
-    match written {
-        [] => true,
-        [e, rest @ ..] => {
-            is_read_alike(before, after, effects, e) && are_read_alike(before, after, effects, rest)
+    for e in written {
+        if !is_read_alike(before, after, effects, e) {
+            return false;
         }
     }
+    true
 }
 
 /// Whether the step from the databases before by the instance to those after hides nothing: each effect, its target in normal

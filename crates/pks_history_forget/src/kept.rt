@@ -79,10 +79,12 @@ pub(crate) fn literals_last(before: &Derived, after: &Five, effects: &[Effect]) 
 fn are_spent(d: &Five, ls: &[Literal]) -> bool
     ensures { result ≡ list_all (λ m. has (five_of d.now) m || has (five_of d.now) (negated m)) (literals_in ls.now) }
 {
-    match ls {
-        [] => true,
-        [l, rest @ ..] => (has(d, l) || has(d, &l.negated())) && are_spent(d, rest),
+    for l in ls {
+        if !(has(d, l) || has(d, &l.negated())) {
+            return false;
+        }
     }
+    true
 }
 
 /// Whether the group is one of the databases.
@@ -136,13 +138,14 @@ pub(crate) fn groups_last(before: &Five, after: &Five, effects: &[Effect]) -> bo
 fn slots_are_objects(slots: &[Option<Term>]) -> bool
     ensures { result ≡ are_objects (fixed_terms (map (option_map term_of) slots.now)) }
 {
-    match slots {
-        [] => true,
-        [slot, rest @ ..] => match slot {
-            Some(t) => is_object(t) && slots_are_objects(rest),
-            None => slots_are_objects(rest),
-        },
+    for slot in slots {
+        if let Some(t) = slot {
+            if !is_object(t) {
+                return false;
+            }
+        }
     }
+    true
 }
 
 #[tactic(auto, using(crate::proofs::Found::all))]

@@ -20,15 +20,12 @@ fn some_assigned(before: &Five, effects: &[Effect], ts: &[Inner]) -> bool
     requires { ArePlaced effects.now }
     ensures { result ≡ list_any (is_assigned (five_of before.now) (map effect_of effects.now)) (filter is_application (map lifted (map inner_of ts.now))) }
 {
-    match ts {
-        [] => false,
-        [t, rest @ ..] => match t {
-            Inner::Obj(_) | Inner::Param(_) => some_assigned(before, effects, rest),
-            Inner::App { .. } => {
-                is_assigned(before, effects, &t.as_term()) || some_assigned(before, effects, rest)
-            }
-        },
+    for t in ts {
+        if matches!(t, Inner::App { .. }) && is_assigned(before, effects, &t.as_term()) {
+            return true;
+        }
     }
+    false
 }
 
 /// Whether a place in the term is assigned.
@@ -49,10 +46,12 @@ fn some_moves(before: &Five, effects: &[Effect], ts: &[Term]) -> bool
     requires { ArePlaced effects.now }
     ensures { result ≡ list_any (is_assigned (five_of before.now) (map effect_of effects.now)) (flat_map applications_in (terms_of ts.now)) }
 {
-    match ts {
-        [] => false,
-        [t, rest @ ..] => moves(before, effects, t) || some_moves(before, effects, rest),
+    for t in ts {
+        if moves(before, effects, t) {
+            return true;
+        }
     }
+    false
 }
 
 /// Whether a place in the literal is assigned.

@@ -23,22 +23,23 @@ pub(crate) fn is_object(t: &Term) -> bool
 pub(crate) fn are_objects(ts: &[Term]) -> bool
     ensures { result ≡ are_objects (terms_of ts.now) }
 {
-    match ts {
-        [] => true,
-        [t, rest @ ..] => is_object(t) && are_objects(rest),
+    for t in ts {
+        if !is_object(t) {
+            return false;
+        }
     }
+    true
 }
 
 fn are_inner_objects(ts: &[Inner]) -> bool
     ensures { result ≡ list_all (λ t. is_some (as_object t)) (map inner_of ts.now) }
 {
-    match ts {
-        [] => true,
-        [t, rest @ ..] => match t {
-            Inner::Obj(_) => are_inner_objects(rest),
-            Inner::Param(_) | Inner::App { .. } => false,
-        },
+    for t in ts {
+        if !matches!(t, Inner::Obj(_)) {
+            return false;
+        }
     }
+    true
 }
 
 /// Whether the term is a function at objects.
@@ -72,8 +73,10 @@ pub(crate) fn is_of_objects(l: &Literal) -> bool
 pub(crate) fn are_of_objects(ls: &[Literal]) -> bool
     ensures { result ≡ list_all is_of_objects (literals_in ls.now) }
 {
-    match ls {
-        [] => true,
-        [l, rest @ ..] => is_of_objects(l) && are_of_objects(rest),
+    for l in ls {
+        if !is_of_objects(l) {
+            return false;
+        }
     }
+    true
 }

@@ -57,10 +57,12 @@ fn leaves(l: &Literal, x: &Target) -> bool
 fn all_leave(effects: &[Effect], l: &Literal) -> bool
     ensures { result ≡ list_all (λ e. leaves (literal_of l.now) e.target) (map effect_of effects.now) }
 {
-    match effects {
-        [] => true,
-        [e, rest @ ..] => leaves(l, &e.target) && all_leave(rest, l),
+    for e in effects {
+        if !leaves(l, &e.target) {
+            return false;
+        }
     }
+    true
 }
 
 /// Both or neither.
@@ -91,10 +93,12 @@ fn literal_stays(s: &Signature, step: &StepTaken<'_>, l: &Literal) -> bool
 fn literals_stay(s: &Signature, step: &StepTaken<'_>, ls: &[Literal]) -> bool
     ensures { result ≡ list_all (literal_stays (signature_of s.now) (map effect_of step.now.effects.now) (five_of step.now.before.now) (five_of step.now.after.now)) (literals_in ls.now) }
 {
-    match ls {
-        [] => true,
-        [l, rest @ ..] => literal_stays(s, step, l) && literals_stay(s, step, rest),
+    for l in ls {
+        if !literal_stays(s, step, l) {
+            return false;
+        }
     }
+    true
 }
 
 /// Whether it is one of the literals, or the negation of one.
@@ -102,20 +106,24 @@ fn literals_stay(s: &Signature, step: &StepTaken<'_>, ls: &[Literal]) -> bool
 fn is_said_in(ls: &[Literal], m: &Literal) -> bool
     ensures { result ≡ is_said_in (literals_in ls.now) (literal_of m.now) }
 {
-    match ls {
-        [] => false,
-        [l, rest @ ..] => (*m == *l || *m == l.negated()) || is_said_in(rest, m),
+    for l in ls {
+        if *m == *l || *m == l.negated() {
+            return true;
+        }
     }
+    false
 }
 
 /// Whether one of the other literals is of a predicate at objects, and isn't said in these.
 fn says_more(ls: &[Literal], others: &[Literal]) -> bool
     ensures { result ≡ says_more (literals_in ls.now) (literals_in others.now) }
 {
-    match others {
-        [] => false,
-        [m, rest @ ..] => (is_of_objects(m) && !is_said_in(ls, m)) || says_more(ls, rest),
+    for m in others {
+        if is_of_objects(m) && !is_said_in(ls, m) {
+            return true;
+        }
     }
+    false
 }
 
 /// Whether each formula that is known to be true or false says more than this one.
@@ -158,10 +166,12 @@ fn aim_stays(s: &Signature, step: &StepTaken<'_>, aim: &Aim) -> bool
 fn all_stay(s: &Signature, step: &StepTaken<'_>, aims: &[Aim]) -> bool
     ensures { result ≡ list_all (aim_stays (signature_of s.now) (map effect_of step.now.effects.now) (five_of step.now.before.now) (five_of step.now.after.now)) (map aim_of aims.now) }
 {
-    match aims {
-        [] => true,
-        [aim, rest @ ..] => aim_stays(s, step, aim) && all_stay(s, step, rest),
+    for aim in aims {
+        if !aim_stays(s, step, aim) {
+            return false;
+        }
     }
+    true
 }
 
 /// Whether there are no regions.

@@ -36,13 +36,12 @@ pub(crate) fn is_about(atom: &Atom, x: &Target) -> bool
 fn some_applies(fun: u16, ts: &[Inner]) -> bool
     ensures { result ≡ list_any (λ u. fun == number_of u) (filter is_application (map lifted (map inner_of ts.now))) }
 {
-    match ts {
-        [] => false,
-        [t, rest @ ..] => match t {
-            Inner::Obj(_) | Inner::Param(_) => some_applies(fun, rest),
-            Inner::App { .. } => fun == t.as_term().number() || some_applies(fun, rest),
-        },
+    for t in ts {
+        if matches!(t, Inner::App { .. }) && fun == t.as_term().number() {
+            return true;
+        }
     }
+    false
 }
 
 /// Whether the function of this number occurs in the term.
@@ -84,20 +83,24 @@ fn is_untouched_by(x: &Target, l: &Literal) -> bool
 pub(crate) fn is_untouched(effects: &[Effect], l: &Literal) -> bool
     ensures { result ≡ is_untouched (map effect_of effects.now) (literal_of l.now) }
 {
-    match effects {
-        [] => true,
-        [e, rest @ ..] => is_untouched_by(&e.target, l) && is_untouched(rest, l),
+    for e in effects {
+        if !is_untouched_by(&e.target, l) {
+            return false;
+        }
     }
+    true
 }
 
 /// Whether none of the effects assigns a function that occurs in the terms.
 pub(crate) fn are_unassigned(effects: &[Effect], ts: &[Term]) -> bool
     ensures { result ≡ are_unassigned (map effect_of effects.now) (terms_of ts.now) }
 {
-    match effects {
-        [] => true,
-        [e, rest @ ..] => !assigns_in_some(ts, &e.target) && are_unassigned(rest, ts),
+    for e in effects {
+        if assigns_in_some(ts, &e.target) {
+            return false;
+        }
     }
+    true
 }
 
 /// The arguments of the atom that the target makes true or false.
@@ -145,20 +148,24 @@ fn leaves(x: &Target, l: &Literal) -> bool
 fn is_left(effects: &[Effect], l: &Literal) -> bool
     ensures { result ≡ is_left (map effect_of effects.now) (literal_of l.now) }
 {
-    match effects {
-        [] => true,
-        [e, rest @ ..] => leaves(&e.target, l) && is_left(rest, l),
+    for e in effects {
+        if !leaves(&e.target, l) {
+            return false;
+        }
     }
+    true
 }
 
 /// Whether each of the effects leaves each of the literals as it is.
 pub(crate) fn are_left(effects: &[Effect], ls: &[Literal]) -> bool
     ensures { result ≡ list_all (is_left (map effect_of effects.now)) (literals_in ls.now) }
 {
-    match ls {
-        [] => true,
-        [l, rest @ ..] => is_left(effects, l) && are_left(effects, rest),
+    for l in ls {
+        if !is_left(effects, l) {
+            return false;
+        }
     }
+    true
 }
 
 fn are_two_objects(t: &Inner, u: &Inner) -> bool
@@ -205,8 +212,10 @@ fn is_elsewhere(t: &Term, x: &Target) -> bool
 pub(crate) fn are_elsewhere(t: &Term, effects: &[Effect]) -> bool
     ensures { result ≡ list_all (λ e. is_elsewhere (term_of t.now) e.target) (map effect_of effects.now) }
 {
-    match effects {
-        [] => true,
-        [e, rest @ ..] => is_elsewhere(t, &e.target) && are_elsewhere(t, rest),
+    for e in effects {
+        if !is_elsewhere(t, &e.target) {
+            return false;
+        }
     }
+    true
 }

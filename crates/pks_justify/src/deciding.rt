@@ -37,10 +37,12 @@ fn writes(p: PredId, target: &Target) -> bool
 fn some_writes(p: PredId, effects: &[Effect]) -> bool
     ensures { result ≡ list_any (λ e. is_target_on p.0 e.target) (effects_of effects.now) }
 {
-    match effects {
-        [] => false,
-        [e, others @ ..] => writes(p, &e.target) || some_writes(p, others),
+    for e in effects {
+        if writes(p, &e.target) {
+            return true;
+        }
     }
+    false
 }
 
 #[tactic(auto, unfolding(pks_terms::specs::Orders::literal_eq))]
@@ -136,10 +138,12 @@ pub fn some_assigns_known(g: &Premises<'_>, t: &Term, effects: &[Effect]) -> boo
 fn some_sets(p: PredId, effects: &[Effect]) -> bool
     ensures { result ≡ list_any (λ e. is_set_on p.0 e.target) (effects_of effects.now) }
 {
-    match effects {
-        [] => false,
-        [e, others @ ..] => sets(p, &e.target) || some_sets(p, others),
+    for e in effects {
+        if sets(p, &e.target) {
+            return true;
+        }
     }
+    false
 }
 
 fn sets(p: PredId, target: &Target) -> bool

@@ -133,28 +133,34 @@ fn finds_value(t: &Term, sense: &Sense) -> bool
 pub fn is_among_found(l: &Literal, senses: &[Sense]) -> bool
     ensures { result ≡ list_any (senses_all (literal_of l.now) (relation_of l.now.atom)) (senses_of senses.now) }
 {
-    match senses {
-        [] => false,
-        [sense, others @ ..] => finds_all(l, sense) || is_among_found(l, others),
+    for sense in senses {
+        if finds_all(l, sense) {
+            return true;
+        }
     }
+    false
 }
 
 /// A sense finds the truth of these literals.
 pub fn is_found(c: &Conj, senses: &[Sense]) -> bool
     ensures { result ≡ list_any (senses_whether (conj_of c.now)) (senses_of senses.now) }
 {
-    match senses {
-        [] => false,
-        [sense, others @ ..] => finds_whether(c, sense) || is_found(c, others),
+    for sense in senses {
+        if finds_whether(c, sense) {
+            return true;
+        }
     }
+    false
 }
 
 /// A sense finds the value of this term.
 pub fn is_value_found(t: &Term, senses: &[Sense]) -> bool
     ensures { result ≡ list_any (senses_value (term_of t.now)) (senses_of senses.now) }
 {
-    match senses {
-        [] => false,
-        [sense, others @ ..] => finds_value(t, sense) || is_value_found(t, others),
+    for sense in senses {
+        if finds_value(t, sense) {
+            return true;
+        }
     }
+    false
 }

@@ -80,10 +80,12 @@ fn asks(q: &Query, fact: QuerySubject<'_>) -> bool
 fn some_asks(queries: &[Query], fact: QuerySubject<'_>) -> bool
     ensures { result ≡ list_any (is_asked (asks_for fact.entry)) (map query_of queries.now) }
 {
-    match queries {
-        [] => false,
-        [q, others @ ..] => asks(q, fact) || some_asks(others, fact),
+    for q in queries {
+        if asks(q, fact) {
+            return true;
+        }
     }
+    false
 }
 
 // The formula of this one literal.
@@ -144,19 +146,23 @@ impl<'a> Premises<'a> {
     pub fn knows_all(&self, literals: &[Literal]) -> bool
         ensures { result ≡ are_given (given_view self.now) (literals_in literals.now) }
     {
-        match literals {
-            [] => true,
-            [l, others @ ..] => self.knows(l) && self.knows_all(others),
+        for l in literals {
+            if !self.knows(l) {
+                return false;
+            }
         }
+        true
     }
 
     /// Each literal is given either way.
     pub fn knows_each_either_way(&self, literals: &[Literal]) -> bool
         ensures { result ≡ list_all (is_given_either_way (given_view self.now)) (literals_in literals.now) }
     {
-        match literals {
-            [] => true,
-            [l, others @ ..] => self.knows_either_way(l) && self.knows_each_either_way(others),
+        for l in literals {
+            if !self.knows_either_way(l) {
+                return false;
+            }
         }
+        true
     }
 }

@@ -118,8 +118,10 @@ pub fn may_undo(g: &Premises<'_>, first: &Target, later: &Target) -> bool
 pub fn may_be_undone(g: &Premises<'_>, first: &Target, later: &[Effect]) -> bool
     ensures { result ≡ list_any (λ f. may_undo (given_view g.now) (target_of first.now) f.target) (effects_of later.now) }
 {
-    match later {
-        [] => false,
-        [e, others @ ..] => may_undo(g, first, &e.target) || may_be_undone(g, first, others),
+    for e in later {
+        if may_undo(g, first, &e.target) {
+            return true;
+        }
     }
+    false
 }

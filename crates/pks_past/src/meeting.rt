@@ -49,10 +49,12 @@ fn is_met(s: &Signature, h: &History, aim: &Aim) -> bool
 fn are_met(s: &Signature, h: &History, aims: &[Aim]) -> bool
     ensures { result ≡ list_all (is_met (signature_of s.now) h.now) (map aim_of aims.now) }
 {
-    match aims {
-        [] => true,
-        [aim, rest @ ..] => is_met(s, h, aim) && are_met(s, h, rest),
+    for aim in aims {
+        if !is_met(s, h, aim) {
+            return false;
+        }
     }
+    true
 }
 
 /// Whether every aim is met at the history: a plain one at the last moment, the others at the first, at every and at some

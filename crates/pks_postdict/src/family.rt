@@ -152,10 +152,12 @@ fn later_links(
 fn some_grew(later: &[Link]) -> bool
     ensures { result ≡ some_grew later.now }
 {
-    match later {
-        [] => false,
-        [x, rest @ ..] => x.place.grew || some_grew(rest),
+    for x in later {
+        if x.place.grew {
+            return true;
+        }
     }
+    false
 }
 
 impl Family {

@@ -50,10 +50,12 @@ fn some_clashes(s: &Signature, later: &[Link]) -> bool
     requires { Each (λ x. IsFine (signature_of s.now) x.place.held) later.now }
     ensures { result ≡ list_any (λ step. is_some (first_clash (signature_of s.now) step.1)) (links_of later.now) }
 {
-    match later {
-        [] => false,
-        [x, rest @ ..] => place_clashes(s, &x.place.held) || some_clashes(s, rest),
+    for x in later {
+        if place_clashes(s, &x.place.held) {
+            return true;
+        }
     }
+    false
 }
 
 /// Whether some moment clashes.

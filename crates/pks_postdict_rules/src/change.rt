@@ -49,10 +49,12 @@ impl Change<'_> {
     pub(crate) fn all_hold(&self, literals: &[Literal]) -> bool
         ensures { result ≡ list_all (holds (signature_in self.now) (before_in self.now)) (literals_in literals.now) }
     {
-        match literals {
-            [] => true,
-            [l, rest @ ..] => self.holds(l) && self.all_hold(rest),
+        for l in literals {
+            if !self.holds(l) {
+                return false;
+            }
         }
+        true
     }
 
     /// Whether the negation of the literal holds before.

@@ -82,13 +82,12 @@ pub(crate) fn put_all_fired(
 fn some_turned(change: &Change<'_>, after: &Derived, literals: &[Literal]) -> bool
     ensures { result ≡ list_any (λ l. holds (signature_in change.now) (before_in change.now) (negated l) && holds (signature_in change.now) (five_of after.now) l) (literals_in literals.now) }
 {
-    match literals {
-        [] => false,
-        [l, rest @ ..] => {
-            (change.denies(l) && after.holds(change.signature, l))
-                || some_turned(change, after, rest)
+    for l in literals {
+        if change.denies(l) && after.holds(change.signature, l) {
+            return true;
         }
     }
+    false
 }
 
 /// Whether some stable form of the target was denied before and holds afterwards. The error is want of memory.

@@ -102,10 +102,12 @@ fn put_atom_forms(
 fn inners_stay(change: &Change<'_>, args: &[Inner]) -> bool
     ensures { result ≡ list_all (is_stable (signature_in change.now) (before_in change.now) (effects_by change.now)) (map lifted (map inner_of args.now)) }
 {
-    match args {
-        [] => true,
-        [t, rest @ ..] => change.is_stable(&t.as_term()) && inners_stay(change, rest),
+    for t in args {
+        if !change.is_stable(&t.as_term()) {
+            return false;
+        }
     }
+    true
 }
 
 /// Whether the arguments of the place are stable.

@@ -55,12 +55,12 @@ fn assigns_so(change: &Change<'_>, place: &Term, value: &Term, e: &Effect) -> bo
 fn some_assigns_so(change: &Change<'_>, place: &Term, value: &Term, written: &[Effect]) -> bool
     ensures { result ≡ list_any (assigns_so (signature_in change.now) (before_in change.now) (term_of place.now) (term_of value.now)) (some_effects change.now written.now) }
 {
-    match written {
-        [] => false,
-        [e, rest @ ..] => {
-            assigns_so(change, place, value, e) || some_assigns_so(change, place, value, rest)
+    for e in written {
+        if assigns_so(change, place, value, e) {
+            return true;
         }
     }
+    false
 }
 
 /// Whether one of the effects that may fire may make so what the target makes so, whose arguments are put in.

@@ -29,12 +29,12 @@ use std::alloc::{AllocError, Global};
 fn is_untouched(s: &Signature, d: &Derived, es: Effects<'_>, literals: &[Literal]) -> bool
     ensures { result ≡ is_untouched (signature_of s.now) (five_of d.now) (effects_in es.entry) (literals_in literals.now) }
 {
-    match literals {
-        [] => true,
-        [l, rest @ ..] => !spoils(s, d, es, l)
-            && !spoils(s, d, es, &l.negated())
-            && is_untouched(s, d, es, rest),
+    for l in literals {
+        if !(!spoils(s, d, es, l) && !spoils(s, d, es, &l.negated())) {
+            return false;
+        }
     }
+    true
 }
 
 fn is_formula_untouched(s: &Signature, d: &Derived, es: Effects<'_>, c: &Conj) -> bool

@@ -32,10 +32,12 @@ fn is_predicate(p: PredId, l: &Literal) -> bool
 fn have_none(p: PredId, literals: &[Literal]) -> bool
     ensures { result ≡ list_all (λ m. not (is_predicate p.0 m.relation)) (literals_in literals.now) }
 {
-    match literals {
-        [] => true,
-        [l, rest @ ..] => !is_predicate(p, l) && have_none(p, rest),
+    for l in literals {
+        if is_predicate(p, l) {
+            return false;
+        }
     }
+    true
 }
 
 fn is_in_no_group(kx: &Kx, p: PredId) -> bool
@@ -82,10 +84,12 @@ fn is_among(kf: &Kf, l: &Literal) -> bool
 pub(crate) fn bring_nothing(kf: &Kf, kx: &Kx, literals: &[Literal]) -> bool
     ensures { result ≡ bring_nothing (literals_of kf.now) (groups_of kx.now) (literals_of literals.now) }
 {
-    match literals {
-        [] => true,
-        [l, rest @ ..] => (is_among(kf, l) || is_loose(kx, l)) && bring_nothing(kf, kx, rest),
+    for l in literals {
+        if !(is_among(kf, l) || is_loose(kx, l)) {
+            return false;
+        }
     }
+    true
 }
 
 fn is_assignment(e: &Effect) -> bool
@@ -100,10 +104,12 @@ fn is_assignment(e: &Effect) -> bool
 fn none_assigns(written: &[Effect]) -> bool
     ensures { result ≡ assign_nothing (map effect_of written.now) }
 {
-    match written {
-        [] => true,
-        [e, rest @ ..] => !is_assignment(e) && none_assigns(rest),
+    for e in written {
+        if is_assignment(e) {
+            return false;
+        }
     }
+    true
 }
 
 /// Whether none of the effects assigns a value.

@@ -169,10 +169,12 @@ fn is_elsewhere(s: &Signature, d: &Derived, x: &Pattern, a: &PredAtom) -> bool
 fn are_elsewhere(s: &Signature, d: &Derived, x: &Pattern, atoms: &[PredAtom]) -> bool
     ensures { result ≡ list_all (is_elsewhere (signature_of s.now) (literals_of d.now.kf) (pattern_of x.now)) (atoms_of atoms.now) }
 {
-    match atoms {
-        [] => true,
-        [a, atoms @ ..] => is_elsewhere(s, d, x, a) && are_elsewhere(s, d, x, atoms),
+    for a in atoms {
+        if !is_elsewhere(s, d, x, a) {
+            return false;
+        }
     }
+    true
 }
 
 /// Whether the region lasts as it is.

@@ -34,10 +34,12 @@ impl Deed<'_, '_> {
     fn has_stable_inners(&self, ts: &[Inner]) -> bool
         ensures { result ≡ arguments_stable (signature_in self.now) (five_in self.now) (effects_in self.now) (normals_in self.now) (flat_map (form_parameters (λ d. [])) (map inner_of ts.now)) }
     {
-        match ts {
-            [] => true,
-            [t, ts @ ..] => self.has_stable_inside(t) && self.has_stable_inners(ts),
+        for t in ts {
+            if !self.has_stable_inside(t) {
+                return false;
+            }
         }
+        true
     }
 
     /// Each argument in normal form that stands for a parameter of the term is stable.
@@ -55,10 +57,12 @@ impl Deed<'_, '_> {
     fn has_stable_terms(&self, ts: &[Term]) -> bool
         ensures { result ≡ arguments_stable (signature_in self.now) (five_in self.now) (effects_in self.now) (normals_in self.now) (flat_map parameters_in (terms_of ts.now)) }
     {
-        match ts {
-            [] => true,
-            [t, ts @ ..] => self.has_stable_in(t) && self.has_stable_terms(ts),
+        for t in ts {
+            if !self.has_stable_in(t) {
+                return false;
+            }
         }
+        true
     }
 
     fn has_stable_sides(&self, l: &Literal) -> bool
@@ -72,9 +76,11 @@ impl Deed<'_, '_> {
     pub fn has_stable_in_all(&self, ls: &[Literal]) -> bool
         ensures { result ≡ arguments_stable (signature_in self.now) (five_in self.now) (effects_in self.now) (normals_in self.now) (conj_parameters (literals_in ls.now)) }
     {
-        match ls {
-            [] => true,
-            [l, ls @ ..] => self.has_stable_sides(l) && self.has_stable_in_all(ls),
+        for l in ls {
+            if !self.has_stable_sides(l) {
+                return false;
+            }
         }
+        true
     }
 }

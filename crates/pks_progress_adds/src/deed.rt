@@ -91,20 +91,23 @@ impl Deed<'_, '_> {
     pub fn inners_are_stable(&self, ts: &[Inner]) -> bool
         ensures { result ≡ are_stable (signature_in self.now) (five_in self.now) (effects_in self.now) (map lifted (map inner_of ts.now)) }
     {
-        match ts {
-            [] => true,
-            [t, ts @ ..] => self.is_stable(&t.as_term()) && self.inners_are_stable(ts),
+        for t in ts {
+            if !self.is_stable(&t.as_term()) {
+                return false;
+            }
         }
+        true
     }
 
     fn are_answered(&self, queries: &[Query]) -> bool
         ensures { result ≡ list_all (λ q. answers (signature_in self.now) (five_in self.now) (query_at (chosen_in self.now) q)) (map query_of queries.now) }
     {
-        match queries {
-            [] => true,
-            [q, queries @ ..] => self.before.answers(self.signature, &q.at(self.chosen))
-                && self.are_answered(queries),
+        for q in queries {
+            if !self.before.answers(self.signature, &q.at(self.chosen)) {
+                return false;
+            }
         }
+        true
     }
 
     /// The add's own queries are answered.

@@ -29,11 +29,12 @@ impl Deed<'_, '_> {
     fn literals_are_stable(&self, ls: &[Literal]) -> bool
         ensures { result ≡ list_all (λ l. are_stable (signature_in self.now) (five_in self.now) (effects_in self.now) l.arguments) (literals_in ls.now) }
     {
-        match ls {
-            [] => true,
-            [l, ls @ ..] => self.are_stable(l.atom.arguments().terms())
-                && self.literals_are_stable(ls),
+        for l in ls {
+            if !self.are_stable(l.atom.arguments().terms()) {
+                return false;
+            }
         }
+        true
     }
 
     /// A sensed add has the arguments in normal form and the rest as written; a world add is taken in normal form.

@@ -19,11 +19,14 @@ impl Deed<'_, '_> {
     fn fixed_are_stable(&self, slots: &[Option<Term>]) -> bool
         ensures { result ≡ are_stable (signature_in self.now) (five_in self.now) (effects_in self.now) (fixed_terms (map (option_map term_of) slots.now)) }
     {
-        match slots {
-            [] => true,
-            [None, slots @ ..] => self.fixed_are_stable(slots),
-            [Some(t), slots @ ..] => self.is_stable(t) && self.fixed_are_stable(slots),
+        for slot in slots {
+            if let Some(t) = slot {
+                if !self.is_stable(t) {
+                    return false;
+                }
+            }
         }
+        true
     }
 
     fn region_of(&self, x: &Pattern) -> Option<Entry>

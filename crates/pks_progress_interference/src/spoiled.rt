@@ -54,10 +54,12 @@ pub fn is_stable(s: &Signature, d: &Derived, es: Effects<'_>, t: &Term) -> bool
 pub fn are_stable(s: &Signature, d: &Derived, es: Effects<'_>, ts: &[Term]) -> bool
     ensures { result ≡ are_stable (signature_of s.now) (five_of d.now) (effects_in es.entry) (terms_of ts.now) }
 {
-    match ts {
-        [] => true,
-        [t, ts @ ..] => is_stable(s, d, es, t) && are_stable(s, d, es, ts),
+    for t in ts {
+        if !is_stable(s, d, es, t) {
+            return false;
+        }
     }
+    true
 }
 
 fn may_be_denied(s: &Signature, d: &Derived, es: Effects<'_>, l: &Literal) -> bool

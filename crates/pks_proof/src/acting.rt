@@ -73,13 +73,14 @@ fn keeps_group(d: &Transition<'_>, g: &[Literal]) -> bool
 pub fn are_slots_steady(d: &Transition<'_>, slots: &[Option<Term>]) -> bool
     ensures { result ≡ are_steady (before_in d.now) (moment_in d.now) (effects_by d.now) (fixed_terms (map (option_map term_of) slots.now)) }
 {
-    match slots {
-        [] => true,
-        [slot, slots @ ..] => match slot {
-            None => are_slots_steady(d, slots),
-            Some(t) => is_steady(d, t) && are_slots_steady(d, slots),
-        },
+    for slot in slots {
+        if let Some(t) = slot {
+            if !is_steady(d, t) {
+                return false;
+            }
+        }
     }
+    true
 }
 
 fn are_atoms_steady(d: &Transition<'_>, atoms: &[PredAtom]) -> bool

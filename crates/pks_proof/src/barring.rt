@@ -145,13 +145,12 @@ fn is_place_kept(d: &Transition<'_>, place: &Term) -> bool
 fn are_places_kept(d: &Transition<'_>, ts: &[Inner]) -> bool
     ensures { result ≡ list_all (λ u. are_barred (before_in d.now) (moment_in d.now) (would_change (before_in d.now) (moment_in d.now) (number_of u) (arguments_of u)) (effects_by d.now)) (filter is_application (map lifted (map inner_of ts.now))) }
 {
-    match ts {
-        [] => true,
-        [t, ts @ ..] => match t {
-            Inner::Obj(_) | Inner::Param(_) => are_places_kept(d, ts),
-            Inner::App { .. } => is_place_kept(d, &t.as_term()) && are_places_kept(d, ts),
-        },
+    for t in ts {
+        if matches!(t, Inner::App { .. }) && !is_place_kept(d, &t.as_term()) {
+            return false;
+        }
     }
+    true
 }
 
 /// Whether the term is steady: each assignment that could change an application in it is barred. It takes no memory.
@@ -168,20 +167,24 @@ pub fn is_steady(d: &Transition<'_>, t: &Term) -> bool
 pub fn are_steady(d: &Transition<'_>, ts: &[Term]) -> bool
     ensures { result ≡ are_steady (before_in d.now) (moment_in d.now) (effects_by d.now) (terms_of ts.now) }
 {
-    match ts {
-        [] => true,
-        [t, ts @ ..] => is_steady(d, t) && are_steady(d, ts),
+    for t in ts {
+        if !is_steady(d, t) {
+            return false;
+        }
     }
+    true
 }
 
 /// Whether each of the arguments is steady. It takes no memory.
 pub fn are_inners_steady(d: &Transition<'_>, ts: &[Inner]) -> bool
     ensures { result ≡ are_steady (before_in d.now) (moment_in d.now) (effects_by d.now) (map lifted (map inner_of ts.now)) }
 {
-    match ts {
-        [] => true,
-        [t, ts @ ..] => is_steady(d, &t.as_term()) && are_inners_steady(d, ts),
+    for t in ts {
+        if !is_steady(d, &t.as_term()) {
+            return false;
+        }
     }
+    true
 }
 
 /// What would make the literal false.

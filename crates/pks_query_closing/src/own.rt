@@ -28,10 +28,12 @@ fn is_own_literal(by: &Normals, l: &Literal) -> bool
 fn are_own_literals(by: &Normals, ls: &[Literal]) -> bool
     ensures { result ≡ list_all (is_normal (literals_of by.now.kf)) (literals_in ls.now) }
 {
-    match ls {
-        [] => true,
-        [l, ls @ ..] => is_own_literal(by, l) && are_own_literals(by, ls),
+    for l in ls {
+        if !is_own_literal(by, l) {
+            return false;
+        }
     }
+    true
 }
 
 /// Whether each of the literals is below the next, beginning with `last`.
@@ -121,10 +123,12 @@ fn is_own_term(by: &Normals, t: &Term) -> bool
 fn are_own_terms(by: &Normals, ts: &[Term]) -> bool
     ensures { result ≡ list_all (is_own_term (literals_of by.now.kf)) (terms_of ts.now) }
 {
-    match ts {
-        [] => true,
-        [t, ts @ ..] => is_own_term(by, t) && are_own_terms(by, ts),
+    for t in ts {
+        if !is_own_term(by, t) {
+            return false;
+        }
     }
+    true
 }
 
 fn is_own_atom(by: &Normals, a: &PredAtom) -> bool

@@ -32,10 +32,12 @@ impl<'t> Look<'t> {
     fn objects(&self, ds: &[ObjId]) -> bool
         ensures { IsTrue result → Each (λ d. image_by self.now.to.now d ≡ d) (map object_of ds.now) }
     {
-        match ds {
-            [] => true,
-            [d, rest @ ..] => self.object(*d) && self.objects(rest),
+        for d in ds {
+            if !self.object(*d) {
+                return false;
+            }
         }
+        true
     }
 
     fn inner(&self, t: &Inner) -> bool
@@ -51,10 +53,12 @@ impl<'t> Look<'t> {
     fn inners(&self, ts: &[Inner]) -> bool
         ensures { IsTrue result → Each (IsFixedInner (image_by self.now.to.now) self.now.parameters) (map inner_of ts.now) }
     {
-        match ts {
-            [] => true,
-            [t, rest @ ..] => self.inner(t) && self.inners(rest),
+        for t in ts {
+            if !self.inner(t) {
+                return false;
+            }
         }
+        true
     }
 
     fn term(&self, t: &Term) -> bool
@@ -70,10 +74,12 @@ impl<'t> Look<'t> {
     fn terms(&self, ts: &[Term]) -> bool
         ensures { IsTrue result → Each (IsFixedTerm (image_by self.now.to.now) self.now.parameters) (map term_of ts.now) }
     {
-        match ts {
-            [] => true,
-            [t, rest @ ..] => self.term(t) && self.terms(rest),
+        for t in ts {
+            if !self.term(t) {
+                return false;
+            }
         }
+        true
     }
 
     fn literal(&self, l: &Literal) -> bool
@@ -85,10 +91,12 @@ impl<'t> Look<'t> {
     fn literals(&self, ls: &[Literal]) -> bool
         ensures { IsTrue result → IsFixedConj (image_by self.now.to.now) self.now.parameters (map literal_of ls.now) }
     {
-        match ls {
-            [] => true,
-            [l, rest @ ..] => self.literal(l) && self.literals(rest),
+        for l in ls {
+            if !self.literal(l) {
+                return false;
+            }
         }
+        true
     }
 
     fn conj(&self, c: &Conj) -> bool
@@ -115,10 +123,12 @@ impl<'t> Look<'t> {
     fn slots(&self, slots: &[Option<Term>]) -> bool
         ensures { IsTrue result → Each (IsFixedSlot (image_by self.now.to.now) self.now.parameters) (map (option_map term_of) slots.now) }
     {
-        match slots {
-            [] => true,
-            [slot, rest @ ..] => self.slot(slot) && self.slots(rest),
+        for slot in slots {
+            if !self.slot(slot) {
+                return false;
+            }
         }
+        true
     }
 
     fn pattern(&self, x: &Pattern) -> bool
@@ -140,10 +150,12 @@ impl<'t> Look<'t> {
     fn queries(&self, qs: &[Query]) -> bool
         ensures { IsTrue result → AreFixedQueries (image_by self.now.to.now) self.now.parameters (map query_of qs.now) }
     {
-        match qs {
-            [] => true,
-            [q, rest @ ..] => self.query(q) && self.queries(rest),
+        for q in qs {
+            if !self.query(q) {
+                return false;
+            }
         }
+        true
     }
 
     fn target(&self, x: &Target) -> bool
@@ -165,10 +177,12 @@ impl<'t> Look<'t> {
     fn effects(&self, es: &[Effect]) -> bool
         ensures { IsTrue result → Each (IsFixedEffect (image_by self.now.to.now) self.now.parameters) (map effect_of es.now) }
     {
-        match es {
-            [] => true,
-            [e, rest @ ..] => self.effect(e) && self.effects(rest),
+        for e in es {
+            if !self.effect(e) {
+                return false;
+            }
         }
+        true
     }
 
     fn item(&self, x: &Item) -> bool
@@ -191,10 +205,12 @@ impl<'t> Look<'t> {
     fn adds(&self, all: &[Adds]) -> bool
         ensures { IsTrue result → Each (λ a. AreFixedQueries (image_by self.now.to.now) self.now.parameters a.given × IsFixedItem (image_by self.now.to.now) self.now.parameters a.item) (map add_of all.now) }
     {
-        match all {
-            [] => true,
-            [a, rest @ ..] => self.add(a) && self.adds(rest),
+        for a in all {
+            if !self.add(a) {
+                return false;
+            }
         }
+        true
     }
 
     fn schema(&self, sc: &Schema<'_>) -> bool

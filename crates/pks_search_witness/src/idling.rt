@@ -35,10 +35,12 @@ fn is_idle_effect(w: &World, e: &Effect) -> bool
 fn are_idle(w: &World, effects: &[Effect], i: &Instance) -> bool
     ensures { result ≡ list_all (is_idle (world_of w.now)) (map (effect_at (given_of i.now)) (map effect_of effects.now)) }
 {
-    match effects {
-        [] => true,
-        [e, rest @ ..] => is_idle_effect(w, &e.at(i)) && are_idle(w, rest, i),
+    for e in effects {
+        if !is_idle_effect(w, &e.at(i)) {
+            return false;
+        }
     }
+    true
 }
 
 /// Whether the ground action leaves the world as it is, as far as it is looked at.

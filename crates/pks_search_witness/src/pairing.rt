@@ -78,10 +78,12 @@ fn agrees_on(w: &World, u: &World, start: &Init) -> bool
 fn agree(w: &World, u: &World, items: &[InitItem]) -> bool
     ensures { result ≡ list_all (agree_on (world_of w.now) (world_of u.now)) (map (λ i. start_of i.start) items.now) }
 {
-    match items {
-        [] => true,
-        [item, rest @ ..] => agrees_on(w, u, &item.start) && agree(w, u, rest),
+    for item in items {
+        if !agrees_on(w, u, &item.start) {
+            return false;
+        }
     }
+    true
 }
 
 /// The twins of the turn: the world, and the one in which the literal is true, where the formula tells them apart.

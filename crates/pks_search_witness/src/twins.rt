@@ -86,10 +86,12 @@ fn finds_same(w: &World, u: &World, sense: &Sense) -> bool
 fn find_same(w: &World, u: &World, senses: &[Sense], i: &Instance) -> bool
     ensures { result ≡ list_all (finds_same (world_of w.now) (world_of u.now)) (map (sense_at (given_of i.now)) (map sense_of senses.now)) }
 {
-    match senses {
-        [] => true,
-        [sense, rest @ ..] => finds_same(w, u, &sense.at(i)) && find_same(w, u, rest, i),
+    for sense in senses {
+        if !finds_same(w, u, &sense.at(i)) {
+            return false;
+        }
     }
+    true
 }
 
 impl Twins {

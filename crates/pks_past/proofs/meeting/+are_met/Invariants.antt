@@ -1,5 +1,0 @@
-use Rattle.std.proofs.Common.{length}
-use Rattle.pks_past.proofs.meeting.+are_met.Given as goal
-
-abbrev pub decreases-are_met : goal.decreases-are_met
-decreases-are_met l = length l.aims.now

@@ -1,5 +1,0 @@
-use Rattle.std.proofs.Common.{length}
-use Rattle.pks_progress.proofs.kept.+is_untouched.Given as goal
-
-abbrev pub decreases-is_untouched : goal.decreases-is_untouched
-decreases-is_untouched l = length l.literals.now

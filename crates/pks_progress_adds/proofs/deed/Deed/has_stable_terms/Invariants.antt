@@ -1,0 +1,9 @@
+use Rattle.std.proofs.Common.{◌≡◌, drop}
+use Rattle.std.specs.List.{flat_map}
+use Rattle.pks_terms.specs.Progress.{parameters_in, arguments_stable}
+use Rattle.pks_terms.specs.Views.{terms_of}
+use Rattle.pks_progress_adds.specs.Deeds.{signature_in, five_in, normals_in, effects_in}
+use Rattle.pks_progress_adds.proofs.deed.Deed.has_stable_terms.Given as goal
+
+abbrev pub invariant-loop-t : goal.invariant-loop-t
+invariant-loop-t l = arguments_stable (signature_in l.self) (five_in l.self) (effects_in l.self) (normals_in l.self) (flat_map parameters_in (terms_of (drop l.t-index l.ts))) ≡ arguments_stable (signature_in l.self) (five_in l.self) (effects_in l.self) (normals_in l.self) (flat_map parameters_in (terms_of l.ts))
