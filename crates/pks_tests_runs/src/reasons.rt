@@ -402,3 +402,32 @@ const BY_ACTIONS: &[Reasoned] = &[
 fn what_actions_keep_and_tell_is_explained(rt: HostRuntime) -> Result<(), Fail> {
     all_so(rt.alloc(), BY_ACTIONS)
 }
+
+/// A light that has two lines at one moment, by the switch and kept from before. What keeps it further on rests on the first, which then
+/// stands for both: a line that nothing cites would not be accepted.
+const TWO_LINES: &str = "(pks 1)
+(domain (types t) (objects (t a b c d e f g h i j k)) (predicates (p t) (wired) (charged) (lit) (hot) (broken) (told))
+  (action switch (effects (when ((wired)) (set (lit)))) (knows (if ((k (wired))) (kf (lit)))))
+  (action test (pre (k (lit)))
+    (effects (when ((lit) (broken)) (set (hot))) (when ((broken)) (unset (lit))) (when ((charged)) (set (lit))))
+    (senses (sense (hot))) (knows (kw (hot)) (if ((k (charged))) (kf (lit)))))
+  (action warn (pre (k (hot))) (effects (set (told))) (knows (kf (told))))
+  (action praise (pre (k (not (hot))) (k (lit))) (effects (set (told))) (knows (kf (told)))))
+(problem (init (lcw (p _)) (kx (lit) (hot)) (kx (wired) (p a) (p b) (p c))
+    (kx (charged) (p a) (p b) (p c) (p d) (p e) (p f) (p g) (p h) (p i) (p j) (p k)))
+  (goal (k (told))))
+";
+
+const BY_FEWEST_LINES: &[Reasoned] = &[Reasoned(
+    "explain 4",
+    TWO_LINES,
+    &[
+        "\n7 moment 1 (lit) effect by 6\n8 moment 2 (not (hot)) side 1\n",
+        "\n9 moment 1 (not (broken)) cannot by 7 8\n10 moment 2 (lit) keep by 7 9\n",
+    ],
+)];
+
+#[test]
+fn a_fact_with_two_lines_is_told_once(rt: HostRuntime) -> Result<(), Fail> {
+    all_so(rt.alloc(), BY_FEWEST_LINES)
+}
