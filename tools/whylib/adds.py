@@ -20,7 +20,12 @@ class Change:
 def queries(names: Names, add: Form, action: Form) -> List[Form]:
     """The given queries: those of the add's `if` and of `pre`, without negated ones."""
     own = add.parts[1].parts if add.head() == 'if' and len(add.parts) > 1 else []
-    return [q for q in list(own) + list(names.section(action, 'pre')) if q.head() != 'not-derived']
+    return [q for q in own if q.head() != 'not-derived'] + asked(names, action)
+
+
+def asked(names: Names, action: Form) -> List[Form]:
+    """The queries of `pre`, without negated ones."""
+    return [q for q in names.section(action, 'pre') if q.head() != 'not-derived']
 
 
 def equal(one: Form, other: Form) -> bool:
@@ -328,15 +333,23 @@ def fact(names: Names, action: Form, item: Form, given: Sequence[Form], found: S
     return said
 
 
+BEHIND_BOTH = ('Which of the two it is hangs on a condition: a sense finds it out, in this action or a later one, since '
+               'senses see the world after the effects.')
+"""What is said where a later effect with a condition may undo one about the same thing."""
+
+ONE_TOO_MANY = 'Write the later effect first, or leave one out.'
+"""What is said where a later effect without a condition undoes one about the same thing."""
+
+
 def undone(early: Effect, late: Effect) -> List[str]:
     """What is said of an effect that a later one may undo."""
-    said = [f'Nearest: the effect `{early.form.text()}`. The later `{late.form.text()}` may undo '
-            'it, where their arguments are the same objects.']
     query = difference(early, late)
+    where = ', where their arguments are the same objects' if query else ''
+    said = [f'Nearest: the effect `{early.form.text()}`. The later `{late.form.text()}` may undo it{where}.']
     if query:
         said.append(f'Ask in `pre` that they differ: `{query}`.')
     else:
-        said.append('Write the later effect first, or leave one out.')
+        said.append(BEHIND_BOTH if late.conditions else ONE_TOO_MANY)
     return said
 
 

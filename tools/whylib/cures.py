@@ -83,10 +83,10 @@ def excerpt(line: str, cure: Cure, text: Text, number: int) -> List[str]:
     shown = line.strip()
     if len(shown) <= 100:
         return ['    ' + shown]
-    start = next(s for s, e in cure.places() if text.place(s)[0] <= number <= text.place(e)[0])
+    start, end = next((s, e) for s, e in cure.places() if text.place(s)[0] <= number <= text.place(e)[0])
     at = max(0, start - text.starts[number - 1])
-    first = max(0, at - 60)
-    return ['    ' + ('..' if first else '') + line[first:at + 60] + ('..' if at + 60 < len(line) else '')]
+    first, last = max(0, at - 60), max(at + 60, min(end - text.starts[number - 1], at + 160))
+    return ['    ' + ('..' if first else '') + line[first:last] + ('..' if last < len(line) else '')]
 
 
 class Patient:
@@ -278,7 +278,18 @@ class Patient:
         if head in grammar.SECTIONS.get(section.parent.head() or '', []) and head != 'action':
             said = self.rewriting.section(head, section.rest())
             if said and said != section.text():
-                yield self.instead(section, said)
+                yield self.part_by_part(section, head) or self.instead(section, said)
+
+    def part_by_part(self, section: Form, head: str) -> Optional[Cure]:
+        """A section with those parts alone replaced that are meant otherwise; None where it isn't read part by part."""
+        if head not in self.rewriting.rules() or section.head() != head:
+            return None
+        cure = Cure([])
+        for part in section.rest():
+            texts = self.rewriting.part(head, part)
+            if texts != [part.text()]:
+                cure = self.both(cure, self.instead(part, ' '.join(texts)) if texts else self.without(part))
+        return cure if cure.edits else None
 
     def undeclared(self) -> Iterator[Cure]:
         """203 and 301."""
@@ -359,13 +370,14 @@ class Patient:
     def filled(self, types: Sequence[str], given: Sequence[str]) -> Iterator[List[str]]:
         """The arguments with those that are missing, by their types."""
         own = self.names.params(self.action) if self.action else {}
+        is_pattern = self.form is not None and grammar.role(self.form) == 'pattern'
         for places in itertools.combinations(range(len(types)), len(given)):
             choices, left = [], list(given)
             for place, kind in enumerate(types):
                 if place in places:
                     choices.append([left.pop(0)])
                 else:
-                    choices.append([name for name, t in own.items() if t and self.names.fits(t, kind)]
+                    choices.append(['_'] if is_pattern else [name for name, t in own.items() if t and self.names.fits(t, kind)]
                                    or self.names.of_type(kind))
             yield from (list(chosen) for chosen in itertools.product(*choices))
 

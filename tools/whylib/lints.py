@@ -20,17 +20,19 @@ def literal_parts(literal: Form) -> Part:
     return None if atom.head() == '=' else (atom.head(), sign)
 
 
-def untold(names: Names) -> Iterator[Tuple[str, adds.Effect]]:
-    """Effects without a condition whose outcome the action doesn't tell."""
+def untold(names: Names) -> Iterator[Tuple[str, adds.Effect, Optional[adds.Effect]]]:
+    """Effects without a condition whose outcome the action doesn't tell, each with a later one that may undo it."""
     for name, action in names.actions.items():
         told = set()
         for add in names.section(action, 'knows'):
             item = add.parts[-1] if add.head() == 'if' else add
             told.add((item.head(), item.rest()[0].text()))
             told.update(('any', head) for head in heads(item))
-        for effect in adds.effects(names, action):
+        effects, given = adds.effects(names, action), adds.asked(names, action)
+        for at, effect in enumerate(effects):
             if not effect.conditions and ('any', effect.subject()) not in told:
-                yield name, effect
+                undoing = (late for late in effects[at + 1:] if adds.may_undo(names, effect, late, given))
+                yield name, effect, next(undoing, None)
 
 
 def untold_senses(names: Names) -> Iterator[Tuple[str, Form]]:
@@ -123,10 +125,10 @@ def never_known(names: Names) -> Tuple[List[Form], Dict[str, List[Form]]]:
 def remarks(names: Names) -> List[str]:
     """What to say of an accepted file; an empty list where nothing stands out."""
     said = [each.said() for each in uncounted.uncounted(names.domain.expression())]
-    for name, effect in untold(names):
+    for name, effect, late in untold(names):
         said.append(f'The action `{name}` has the effect `{effect.form.text()}`, and its `knows` '
                     f'says nothing of `{effect.subject()}`: the agent won\'t know of it. '
-                    f'{cure(effect)}')
+                    f'{cure(effect) if late is None else cure_undone(effect, late)}')
     for name, sense in untold_senses(names):
         said.append(f'The action `{name}` has `{sense.text()}`, and its `knows` says nothing of it: '
                     f'so it teaches nothing. Add {told_by(sense)}.')
@@ -153,12 +155,26 @@ def told_by(sense: Form) -> str:
 
 
 def cure(effect: adds.Effect) -> str:
+    """What to add, where an effect shall be known."""
+    return f'If it should, add {add_of(effect)}.'
+
+
+def cure_undone(effect: adds.Effect, late: adds.Effect) -> str:
+    """What to do, where an effect shall be known that a later one may undo."""
+    why = f'The later `{late.form.text()}` may undo it'
+    query = adds.difference(effect, late)
+    if query:
+        return f'{why}: if the agent should, ask in `pre` that they differ, `{query}`, and add {add_of(effect)}.'
+    return f'{why}, so it can\'t be told as it stands. {adds.BEHIND_BOTH if late.conditions else adds.ONE_TOO_MANY}'
+
+
+def add_of(effect: adds.Effect) -> str:
     """The add that tells of an effect."""
     target = effect.target[0].text()
     if effect.verb == 'set':
-        return f'If it should, add `(kf {target})`.'
+        return f'`(kf {target})`'
     if effect.verb == 'unset':
-        return f'If it should, add `(kf (not {target}))`.'
+        return f'`(kf (not {target}))`'
     if effect.verb == 'clear':
-        return f'If it should, add `(lcw {target})`.'
-    return f'If it should, add `(kf (= {target} {effect.target[1].text()}))`.'
+        return f'`(lcw {target})`'
+    return f'`(kf (= {target} {effect.target[1].text()}))`'

@@ -77,6 +77,15 @@ def value_form(names: Names, place: Form) -> List[str]:
         return [f'That its value will be known is written `(kv {own})`.']
     if verb in ('set', 'unset'):
         return [f'A value is given by `(assign {own} {value})`.']
+    if verb == 'lcw':
+        return ['A closed world is of facts. What a value isn\'t is said for each object, `(kf (not (= PLACE OBJECT)))`; '
+                'that it is one of some, `(kx (= PLACE OBJECT) ..)`.']
+    if verb == 'sense-all':
+        return ['Values are sensed one by one, `(sense-value PLACE)`.']
+    if verb == 'clear':
+        return ['A place always has a value: give it another one by `(assign PLACE TERM)`.']
+    if verb == 'kf' and place.parent.parent.head() == 'knows' and len(parts) == 1 + len(types):
+        return [f'That its value will be known is written `(kv {own})`, and what it is `(kf (= {own} {value}))`.']
     if verb == 'true':
         return [f'In a world its value stands in `(values ({own} {value}))`.']
     return [f'A literal about its value is `(= {own} {value})`.']

@@ -10,6 +10,7 @@ from pkslib import Form
 
 from . import grammar
 from .names import Names
+from .shape import members
 
 SECTION_WORDS = {
     'parameters': 'params', 'precondition': 'pre', 'preconditions': 'pre', 'effect': 'effects', 'observe': 'senses',
@@ -92,6 +93,12 @@ class Rewriting:
     def query(self, form: Form) -> List[str]:
         """A part of `pre`, of an `if` or of the goal."""
         head, inner = form.head(), form.rest()
+        if head in grammar.AIMS and len(inner) == 1:
+            return [f'({head} {text})' for text in self.query(inner[0])]
+        if head == 'lcw' and len(inner) == 1:
+            return [f'(k (not {text}))' for text in self.without_wildcards(inner[0])]
+        if head in ('k', 'kf') and len(inner) == 1 and self.equation(inner[0]):
+            return [f'(k {self.equation(inner[0])})']
         if head in ('kf', 'knows', 'known') and inner:
             return [f'(k {part.text()})' for part in inner]
         if head == 'k' and len(inner) == 2 and inner[0].is_list() and inner[1].word:
@@ -109,6 +116,8 @@ class Rewriting:
         head, inner = form.head(), form.rest()
         if head in NUMERIC:
             return []
+        if head == 'set' and len(inner) == 2 and inner[0].head() in self.names.functions:
+            return [f'(assign {inner[0].text()} {inner[1].text()})']
         if head == 'when' and len(inner) >= 2:
             return self.when(form)
         if head in ('set', 'unset') and len(inner) > 1 and all(part.is_list() for part in inner):
@@ -146,12 +155,19 @@ class Rewriting:
         head, inner = form.head(), form.rest()
         if head == 'if' and len(inner) == 2 and inner[0].head() in grammar.QUERIES + ['not-derived']:
             return [f'(if ({inner[0].text()}) {inner[1].text()})']
+        if head == 'if' and len(inner) == 2 and inner[0].parts and all(part.is_list() for part in inner[0].parts):
+            asked = ' '.join(text for part in inner[0].parts for text in self.query(part))
+            return [f'(if ({asked}) {text})' for text in self.item(inner[1])]
         if head == 'if' and len(inner) > 2:
             return [f'(if {inner[0].text()} {part.text()})' for part in inner[1:]]
         if head == 'kw' and len(inner) == 1 and inner[0].head() in ('or', 'and'):
             return ['(kw ' + ' '.join(part.text() for part in inner[0].rest()) + ')']
         if head == 'kv' and inner and inner[0].head() in self.names.predicates:
             return [f'(kw {inner[0].text()})']
+        if head in ('k', 'kf') and len(inner) == 1 and self.equation(inner[0]):
+            return [f'(kf {self.equation(inner[0])})']
+        if head in ('k', 'knows', 'known', 'kf') and len(inner) == 1 and self.is_place(inner[0]):
+            return [f'(kv {inner[0].text()})']
         if head in ('k', 'knows', 'known', 'kf') and inner:
             return [f'({"kw" if self.is_sensed(part) else "kf"} {part.text()})' for part in inner]
         if head in grammar.ITEMS + ['if'] or not self.is_fact(form):
@@ -161,6 +177,8 @@ class Rewriting:
     def sense(self, form: Form) -> List[str]:
         """A part of `senses`."""
         head, inner = form.head(), form.rest()
+        if head in ('k', 'kw', 'observe', 'sense') and len(inner) == 1 and self.is_place(inner[0]):
+            return [f'(sense-value {inner[0].text()})']
         if head in ('k', 'kw', 'observe') and inner:
             return ['(sense ' + ' '.join(part.text() for part in inner) + ')']
         if head == 'kv' and inner:
@@ -176,6 +194,12 @@ class Rewriting:
             return []
         if head == 'oneof':
             return ['(kx ' + ' '.join(part.text() for part in inner) + ')']
+        if head == 'kx' and members(form):
+            return [f'(kx {" ".join(members(form))})']
+        if head == 'kx' and len(inner) == 1 and len(self.without_wildcards(inner[0])) > 1:
+            return [f'(kx {" ".join(self.without_wildcards(inner[0]))})']
+        if head in ('k', 'kf') and len(inner) == 1 and self.equation(inner[0]):
+            return [f'(kf {self.equation(inner[0])})']
         if head in ('kx', 'k', 'knows', 'known') and len(inner) == 1:
             return [f'(kf {inner[0].text()})']
         if head == 'kf' and inner:
@@ -183,6 +207,21 @@ class Rewriting:
         if head in grammar.ITEMS + ['kx'] or not self.is_fact(form):
             return [form.text()]
         return [f'(kf {form.text()})']
+
+    def is_place(self, form: Form) -> bool:
+        """Whether a list is a place of a function, with all its arguments."""
+        head = form.head()
+        return head in self.names.functions and head not in self.names.predicates \
+            and len(form.rest()) == len(self.names.functions[str(head)][0])
+
+    def equation(self, form: Form) -> Optional[str]:
+        """Of a function with one argument too many, as if it were a predicate, the equation that is meant, or None."""
+        head = form.head()
+        if head not in self.names.functions or head in self.names.predicates \
+                or len(form.rest()) != 1 + len(self.names.functions[str(head)][0]):
+            return None
+        *place, value = [part.text() for part in form.parts]
+        return f'(= ({" ".join(place)}) {value})'
 
     def without_wildcards(self, literal: Form) -> List[str]:
         """A literal for each object at its wildcard."""
@@ -246,11 +285,17 @@ class Rewriting:
 
     def section(self, head: str, parts: List[Form]) -> Optional[str]:
         """A section with this head and these parts, or None where it has nothing to say."""
-        rules: Dict[str, Callable[[Form], List[str]]] = {
-            'pre': self.query, 'goal': self.query, 'effects': self.effect, 'senses': self.sense, 'knows': self.item,
-            'init': self.start}
-        if head in rules:
-            said = [text for part in parts for text in self.flat(part, rules[head])]
+        if head in self.rules():
+            said = [text for part in parts for text in self.part(head, part)]
         else:
             said = self.entries(head, parts)
         return f'({" ".join([head] + said)})' if said or head != 'goal' else None
+
+    def rules(self) -> Dict[str, Callable[[Form], List[str]]]:
+        """What a part becomes in each section whose parts stand each for itself."""
+        return {'pre': self.query, 'goal': self.query, 'effects': self.effect, 'senses': self.sense, 'knows': self.item,
+                'init': self.start}
+
+    def part(self, head: str, part: Form) -> List[str]:
+        """What stands in place of one part of such a section."""
+        return self.flat(part, self.rules()[head])

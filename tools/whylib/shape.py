@@ -70,7 +70,7 @@ def shape(text: Text, form: Optional[Form], names: Names) -> List[str]:
     parts = wrong_number(form)
     if parts:
         return parts
-    said = specific(form) or []
+    said = specific(form, names) or []
     return said if says_all(said) else said + expected(form, bool(said))
 
 
@@ -127,7 +127,7 @@ def expected(form: Form, hinted: bool) -> List[str]:
     return [] if hinted else ['This form isn\'t what the grammar has here.']
 
 
-def specific(form: Form) -> Optional[List[str]]:
+def specific(form: Form, names: Names) -> Optional[List[str]]:
     """A hint for this very form, or None."""
     kind, head = grammar.role(form), form.head()
     if grammar.role(form.parent) == 'fact' and form.parent.head() == 'not':
@@ -144,25 +144,32 @@ def specific(form: Form) -> Optional[List[str]]:
         return belongs(head, [])
     heads = grammar.allowed(kind)
     if heads and head:
-        return swapped(form, kind) or belongs(head, heads) or looks_like(form, kind, heads)
-    return literal_hint(form, kind) or word_hint(form, kind) or list_hint(form, kind)
+        return swapped(form, kind) or belongs(head, heads, kind) or looks_like(form, kind, heads, names)
+    return literal_hint(form, kind, names) or word_hint(form, kind) or list_hint(form, kind)
 
 
-def belongs(head: str, heads: Sequence[str]) -> Optional[List[str]]:
+def belongs(head: str, heads: Sequence[str], kind: Optional[str] = None) -> Optional[List[str]]:
     """Where a head may stand that is wrong here, or the head that looks like it."""
     if head.lower() in heads:
         return [f'Capital letters count: write `{head.lower()}`.']
-    return [f'`{head}` may stand only {WHERE[head]}.'] if head in WHERE else None
+    if head not in WHERE:
+        return None
+    asked = [] if head != 'lcw' or kind not in QUERIES else [
+        'No query asks for a closed world: ask of each fact that it is known to be false, `(k (not (p a)))`.']
+    return [f'`{head}` may stand only {WHERE[head]}.'] + asked
 
 
-def looks_like(form: Form, kind: str, heads: Sequence[str]) -> Optional[List[str]]:
+def looks_like(form: Form, kind: str, heads: Sequence[str], names: Names) -> Optional[List[str]]:
     """For a list that may be a literal, or have a misspelled head."""
-    said = literal_hint(form, kind) or []
+    said = literal_hint(form, kind, names) or []
     close = near(form.head(), heads)
     if close and len(form.head()) > 2:
         said = [f'Is `{close}` meant in place of `{form.head()}`?'] + said
     return said or None
 
+
+QUERIES = ('query', 'plain', 'aim')
+"""The kinds of forms that ask."""
 
 SWAPS = {('add', 'k'): 'kf', ('item', 'k'): 'kf', ('start', 'k'): 'kf', ('query', 'kf'): 'k',
          ('plain', 'kf'): 'k', ('aim', 'kf'): 'k', ('sense', 'k'): 'sense',
@@ -192,29 +199,31 @@ def swapped(form: Form, kind: str) -> Optional[List[str]]:
     return [f'Here it is `({own} {inner})`: {why}']
 
 
-def literal_hint(form: Form, kind: Optional[str]) -> Optional[List[str]]:
+def literal_hint(form: Form, kind: Optional[str], names: Names) -> Optional[List[str]]:
     """Where a literal stands and a query, an effect, a sense or an item should."""
     head = form.head()
-    if kind in ('query', 'plain', 'aim', 'start', 'add', 'item') and head in ('knows', 'known'):
+    if kind in (*QUERIES, 'start', 'add', 'item') and head in ('knows', 'known'):
         inner = ' '.join(p.text() for p in form.rest()) or '..'
-        own = 'k' if kind in ('query', 'plain', 'aim') else 'kf'
+        own = 'k' if kind in QUERIES else 'kf'
         return [f'That something is known is written `({own} {inner})`.']
-    if kind in ('query', 'plain', 'aim') and head == 'not' and form.rest() \
-            and form.rest()[0].head() not in grammar.QUERIES:
+    if kind in QUERIES and head == 'not' and form.rest() and form.rest()[0].head() not in grammar.QUERIES:
         inner = form.rest()[0].text()
-        return [f'To ask that it is known to be false write `(k (not {inner}))`; to ask that it '
-                f'isn\'t known to be true, `(not-derived (k {inner}))`.']
-    if kind in ('query', 'plain', 'aim') and head == 'not':
+        return [f'To ask that it is known to be false write `(k (not {inner}))`'
+                + (f'; to ask that it isn\'t known to be true, `(not-derived (k {inner}))`.' if kind == 'query' else '.')]
+    if kind in QUERIES and head == 'not':
         inner = form.rest()[0].text() if form.rest() else '..'
         known = form.rest()[0].rest()[0].text() if form.rest() and form.rest()[0].rest() else '..'
-        return [f'To ask that it is known to be false write `(k (not {known}))`; to ask that it isn\'t known, '
-                f'`(not-derived {inner})`.']
+        return [f'To ask that it is known to be false write `(k (not {known}))`'
+                + (f'; to ask that it isn\'t known, `(not-derived {inner})`.' if kind == 'query' else
+                   '. That something isn\'t known can\'t be asked for here.')]
     if kind in ('effect', 'target') and head == 'not':
         inner = form.rest()[0].text() if form.rest() else '..'
         return [f'To make an atom false write `(unset {inner})`.']
     if kind == 'atom' and head == 'not':
         inner = form.rest()[0].text() if form.rest() else '..'
         return [f'`set` makes true and `unset` makes false: write `(unset {inner})`.']
+    if kind == 'sense' and head in names.functions and head not in names.predicates:
+        return [f'A value is sensed by `(sense-value {form.text()})`.']
     wraps = {'query': 'k', 'plain': 'k', 'aim': 'k', 'effect': 'set', 'target': 'set',
              'sense': 'sense', 'add': 'kf', 'item': 'kf', 'start': 'kf'}
     if kind in wraps and grammar.is_literal(form):
@@ -259,10 +268,21 @@ def word_hint(form: Form, kind: Optional[str]) -> Optional[List[str]]:
         return ['The parameter stands first, then its type: `(?x room)`.']
     if kind in ('parameter', 'objects', 'predicates', 'functions'):
         return ['Each entry stands in parentheses of its own.']
+    if kind == 'literal' and form.parent.head() == 'kx' and members(form.parent):
+        return [f'Each member of a group is a literal of its own: `(kx {" ".join(members(form.parent))})`.']
     if kind in ('fact', 'place', 'atom', 'literal', 'pattern'):
         return [f'`{word}` needs parentheses of its own: `({word})`, with its arguments if it has '
                 'any.']
     return None
+
+
+def members(group: Form) -> List[str]:
+    """The literals that are meant where a group has a place and its values, or a predicate and its arguments."""
+    first, *others = group.rest() or [group]
+    if not others or not all(part.word for part in others):
+        return []
+    about = f'(= {first.text()} {{}})' if first.is_list() else f'({first.text()} {{}})'
+    return [about.format(part.word) for part in others]
 
 
 def list_hint(form: Form, kind: Optional[str]) -> Optional[List[str]]:
@@ -288,7 +308,9 @@ def number(form: Form) -> Optional[List[str]]:
         said = [f'This list has {count(len(form.rest()), "part")} behind `{head}`; it is '
                 f'{grammar.SHAPES[head]}.']
         parts = form.rest()
-        if head == 'kx' and len(parts) == 1:
+        if head == 'kx' and len(parts) == 1 and any(part.word == '_' for part in parts[0].parts or []):
+            said.append('A wildcard stands in patterns alone: name each member.')
+        elif head == 'kx' and len(parts) == 1:
             said.append(f'If this is the only one that can be, it is so: `(kf {parts[0].text()})`. Else name the others too.')
         if head in VALUED and len(parts) == 2 and parts[0].is_list() and parts[1].word:
             said.append('A value is written '

@@ -1,0 +1,19 @@
+; a closed world that a goal asks for
+; says: No query asks for a closed world
+; says: (k (not (loaded c1 rome))) (k (not (loaded c2 rome)))
+; says: With it the file is accepted.
+(pks 1)
+(domain
+  (types crate town)
+  (objects (crate c1 c2) (town paris rome))
+  (predicates (loaded crate town) (fragile crate) (delivered crate))
+  (functions (label crate town))
+  (action read-label (params (?c crate))
+    (senses (sense-value (label ?c))) (knows (kv (label ?c))))
+  (action load (params (?c crate) (?t town))
+    (pre (kv (label ?c)))
+    (effects (set (loaded ?c ?t)) (when ((= (label ?c) ?t)) (set (delivered ?c))))
+    (knows (kf (loaded ?c ?t)) (if ((k (= (label ?c) ?t))) (kf (delivered ?c))))))
+(problem
+  (init (lcw (loaded _ _)))
+  (goal (lcw (loaded _ rome)) (k (delivered c1))))

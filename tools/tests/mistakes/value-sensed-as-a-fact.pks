@@ -1,0 +1,19 @@
+; a value that is sensed as a fact is
+; says: A value is sensed by `(sense-value (label ?c))`.
+; says: (senses (sense-value (label ?c)))
+; says: With it the file is accepted.
+(pks 1)
+(domain
+  (types crate town)
+  (objects (crate c1 c2) (town paris rome))
+  (predicates (loaded crate town) (fragile crate) (delivered crate))
+  (functions (label crate town))
+  (action read-label (params (?c crate))
+    (senses (sense (label ?c))) (knows (kv (label ?c))))
+  (action load (params (?c crate) (?t town))
+    (pre (kv (label ?c)))
+    (effects (set (loaded ?c ?t)) (when ((= (label ?c) ?t)) (set (delivered ?c))))
+    (knows (kf (loaded ?c ?t)) (if ((k (= (label ?c) ?t))) (kf (delivered ?c))))))
+(problem
+  (init (lcw (loaded _ _)))
+  (goal (k (delivered c1))))

@@ -1,0 +1,19 @@
+; a value that is sensed, and told by `kf`
+; says: That its value will be known is written `(kv (label ?c))`
+; says: (knows (kv (label ?c))))
+; says: With it the file is accepted.
+(pks 1)
+(domain
+  (types crate town)
+  (objects (crate c1 c2) (town paris rome))
+  (predicates (loaded crate town) (fragile crate) (delivered crate))
+  (functions (label crate town))
+  (action read-label (params (?c crate))
+    (senses (sense-value (label ?c))) (knows (kf (label ?c))))
+  (action load (params (?c crate) (?t town))
+    (pre (kv (label ?c)))
+    (effects (set (loaded ?c ?t)) (when ((= (label ?c) ?t)) (set (delivered ?c))))
+    (knows (kf (loaded ?c ?t)) (if ((k (= (label ?c) ?t))) (kf (delivered ?c))))))
+(problem
+  (init (lcw (loaded _ _)))
+  (goal (k (delivered c1))))
