@@ -56,9 +56,24 @@ def need_literal(file: File, literal: Expression) -> None:
         return
     terms = 2 if head == '=' else len(file.predicates.get(str(head), ())) if head in file.predicates else -1
     if isinstance(literal, str) or len(literal) - 1 != terms:
-        raise NoWorld(f'`{written(literal)}` is no literal of the file')
+        raise NoWorld(f'`{written(literal)}` is no literal of the file{_instead(file, literal)}')
     for term in literal[1:]:
         _need_term(file, term)
+
+
+def _instead(file: File, literal: Expression) -> str:
+    """What is said of a list that is no literal of the file, behind a colon."""
+    if isinstance(literal, str) or not literal or not isinstance(literal[0], str):
+        return ''
+    head = literal[0]
+    if head in file.functions:
+        count = len(file.functions[head].arguments)
+        value = written(literal[1 + count]) if len(literal) == 2 + count else 'VALUE'
+        return f': a value is said by `(= {written(literal[:1 + count])} {value})`'
+    if head not in file.predicates:
+        return ''
+    declared = written((head, *file.predicates[head]))
+    return f': `{head}` is declared as `{declared}`'
 
 
 def _need_pattern(file: File, pattern: Expression) -> None:
@@ -365,7 +380,8 @@ def fitting_world(file: File, wanted: Sequence[Literal] = ()) -> World:
     found = next(_Fitting().worlds(_Partial(file), _asked(file, wanted)), None)
     if found is None:
         said = ' and '.join(f'`{written(literal)}`' for literal in wanted)
-        raise NoWorld(f'no world fits the start{" and " + said if said else ""}')
+        own = ' and '.join(f'`{_item(need)}`' for need in _contrary(file, wanted))
+        raise NoWorld(f'no world fits the start{" and " + said if said else ""}{", since `init` has " + own if own else ""}')
     values = {}
     for place in file.places():
         options = found.options(place)
@@ -373,6 +389,29 @@ def fitting_world(file: File, wanted: Sequence[Literal] = ()) -> World:
             raise NoWorld(f'no object may be the value of `{written(place)}`')
         values[place] = found.values.get(place, options[0])
     return World((atom for atom, is_true in found.truth.items() if is_true), values)
+
+
+MOST_TRIED = 100
+"""So many items of a start are left out one by one, to find those that are against something."""
+
+
+def _contrary(file: File, wanted: Sequence[Literal]) -> List[Need]:
+    """Items of the start that no world fits together with these literals, none too many; none where they are many."""
+    left = needs(file)
+    if len(left) > MOST_TRIED:
+        return []
+    for need in list(left):
+        rest = [other for other in left if other is not need]
+        if next(_Fitting().worlds(_Partial(file), [*map(Known, wanted), *rest]), None) is None:
+            left = rest
+    return left
+
+
+def _item(need: Need) -> str:
+    """An item of the start as it is written."""
+    if isinstance(need, Group):
+        return written(('kx', *need.members))
+    return written(('kf', need.literal) if isinstance(need, Known) else ('lcw', need.pattern))
 
 
 class Choices(NamedTuple):
