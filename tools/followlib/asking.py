@@ -97,15 +97,25 @@ class Asker:
 
     def is_news(self, text: str) -> bool:
         """Whether a known literal says something, and that of the file."""
-        sides = text[len('(= '):-1].split(' ')
-        is_trivial = text.startswith('(= ') and len(sides) == 2 and sides[0] == sides[1]
-        return not (is_trivial or self.names.is_own(text))
+        return not (is_trivial(text) or self.names.is_own(text))
 
     def told(self, end: Sequence[str], queries: List_) -> FrozenSet[Expression]:
         """The queries whose answer stands among the literals that are known at the end."""
         pattern = re.compile(rf'\({self.names.said} {self.names.kind}-(\d+)\)')
         found = (pattern.fullmatch(text) for text in end)
         return frozenset(queries[int(match[1])] for match in found if match)
+
+
+SAME = re.compile(r'\(= (.+) \1\)')
+"""That something equals itself."""
+
+DIFFERENT = re.compile(r'\(not \(= [^() ]+ [^() ]+\)\)')
+"""That two objects differ: a term in parentheses is a value, and any other one an object."""
+
+
+def is_trivial(text: str) -> bool:
+    """Whether a literal says no more than that something equals itself, or that two objects differ."""
+    return bool(SAME.fullmatch(text) or DIFFERENT.fullmatch(text))
 
 
 def tested(question: Question) -> FrozenSet[Expression]:

@@ -47,6 +47,8 @@ def read_meant(text: str) -> Tree:
     The first line `plan depth D` may be missing. Where the text ends, and on a side that it leaves out, stands Stop.
     """
     lines = _Lines(text)
+    if lines.peek(0).startswith('(pks'):
+        raise lines.fault('this is a file for the planner, and here a plan is wanted, as `./pks plan` prints it')
     tree = _body(lines, 0)
     if lines.at < len(lines.lines):
         line, before = lines.lines[lines.at][1], lines.lines[lines.at - 1][1] if lines.at else ''

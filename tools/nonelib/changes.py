@@ -32,11 +32,13 @@ class Rank(enum.IntEnum):
     FEWER_VALUES = 26
     SIGN = 27
     OTHER_WAY = 28
-    FIND_OUT = 29
-    START = 30
-    START_MORE = 31
-    QUERY_GUARD = 32
-    QUERY = 33
+    VALUE_BEFORE = 29
+    FIND_OUT = 30
+    START = 31
+    START_MORE = 32
+    CONTRARY = 33
+    QUERY_GUARD = 34
+    QUERY = 35
     GOAL = 40
 
 
@@ -305,6 +307,48 @@ def finder(file: File, head: str) -> Action:
 # The start
 
 MOST_ITEMS = 80
+
+
+def values_before(file: File) -> Iterator[Change]:
+    """Where effects under conditions assign values to a place of which the start says nothing: a value before."""
+    for action in file.actions:
+        places: Dict[List_, List[Expression]] = {}
+        for effect in action.effects:
+            if effect[0] == 'when' and target(effect)[0] == 'assign':
+                place = located(target(effect)[1], action.parameters)
+                assert not isinstance(place, str)
+                places.setdefault(place, []).append(target(effect)[2])
+        for place, assigned in places.items():
+            if not any(place[0] in words_of(item) for item in file.init):
+                yield from value_before(file, action, place, assigned)
+
+
+def value_before(file: File, action: Action, place: List_, assigned: Sequence[Expression]) -> Iterator[Change]:
+    """A value that none of the effects assigns, known at the start; an object more where they assign them all."""
+    kind = file.results[str(place[0])]
+    other = next((name for name in file.of_type(kind) if name not in assigned), None)
+    declared: Tuple[Expression, ...] = ()
+    if other is None:
+        other = next(name for name in ('none', *(f'none{n}' for n in range(len(file.kinds) + 1))) if name not in file.kinds)
+        declared = ((kind, other),)
+    items = tuple(('kf', ('=', each, other)) for each in itertools.islice(instances(file, place), MOST_ITEMS))
+    more = 'declare in `objects` a value that it doesn\'t assign, and ' if declared else ''
+    yield Change(Rank.VALUE_BEFORE, replace(file, objects=file.objects + declared).with_init(*items),
+                 f'{more}in `init` add', texts((*declared, *items)),
+                 f'`{action.name}` assigns `{place[0]}` by conditions. The value tells which of them held only where it is '
+                 f'known that it was another one before, and `init` says nothing of `{place[0]}`.')
+
+
+def contraries(file: File) -> Iterator[Change]:
+    """Each fact of the start turned into its contrary, but for what the goal asks."""
+    goal = {part for aim in file.goal for part in aim[1:]}
+    facts = [item for item in file.init if item[0] == 'kf' and atom_of(item[1])[0] != '=']
+    for item in facts[:MOST_ITEMS]:
+        contrary = ('kf', negated(item[1]))
+        if contrary[1] not in goal:
+            changed = replace(file, init=tuple(contrary if own == item else own for own in file.init))
+            yield Change(Rank.CONTRARY, changed, f'in `init` write, in place of {written(item)},', (written(contrary),),
+                         '`init` says what keeps the goal from being had; it may be that it isn\'t so.')
 
 
 def starts(file: File) -> Iterator[Change]:

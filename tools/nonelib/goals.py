@@ -18,6 +18,8 @@ class Goals:
     """A set of goals that can't be had, of which each smaller one that was asked can."""
     without: Optional[Dict[Expression, Outcome]] = None
     """What comes of the whole goal without one of its parts."""
+    is_least: bool = True
+    """Whether each question for a smaller set ended."""
 
 
 def with_goal(file: File, goal: List_) -> File:
@@ -53,13 +55,15 @@ def least(file: File, depth: int, asking: Asking, seconds: float, goals: Goals) 
         return None
     for aim in file.goal:
         rest = tuple(a for a in kept if a != aim)
-        if rest and asking.ask(with_goal(file, rest), depth, seconds).is_none:
-            kept = rest
+        if rest:
+            outcome = asking.ask(with_goal(file, rest), depth, seconds)
+            goals.is_least &= outcome.ended
+            kept = rest if outcome.is_none else kept
     return kept
 
 
-def said(goals: Goals, depth: int) -> List[str]:
-    """What is printed of the goals."""
+def said(goals: Goals, depth: int, is_hopeless: bool) -> List[str]:
+    """What is printed of the goals; it may be known that there is no plan of any depth."""
     lines = ['Which goals can be had:']
     width = max(len(written(aim)) for aim in goals.alone)
     for aim, outcome in goals.alone.items():
@@ -68,6 +72,12 @@ def said(goals: Goals, depth: int) -> List[str]:
         lines.append(f'{written(goals.least[0])} can\'t be had to depth {depth}, even alone.')
     elif goals.least:
         lines.append(f'These can\'t be had together to depth {depth}: {" ".join(map(written, goals.least))}')
+        if not goals.is_least:
+            lines.append('Whether fewer of them can isn\'t known, the search didn\'t end in its time.')
+        depths = [goals.alone[aim].depth or 0 for aim in goals.least]
+        if sum(depths) > depth and not is_hopeless:
+            lines.append(f'Alone they take {" and ".join(map(str, depths))} steps, one after another {sum(depths)}: it may be '
+                         f'that {depth} is too small a depth.')
     for aim, outcome in (goals.without or {}).items():
         if outcome.depth is not None:
             lines.append(f'Without {written(aim)} there is a plan of depth {outcome.depth} for the rest.')

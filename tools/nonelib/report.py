@@ -27,7 +27,11 @@ def report(found: Found, depth: int) -> List[str]:
         lines += ['', *entry_lines(number, entry)]
     if not entries:
         lines += ['', 'No single change that was asked makes a plan.']
-    for part in (goals.said(found.goals, depth) if found.goals else [], found.lines):
+    if found.open:
+        lines += ['', *wrapped(f'Of {found.open} more changes it isn\'t known whether there is a plan with one, the search '
+                               'didn\'t end in its time: a greater --seconds may find more.', '', '')]
+    hopeless = any(change.rank == Rank.DEPTH and outcome.is_none for change, outcome in found.outcomes.items())
+    for part in (goals.said(found.goals, depth, hopeless) if found.goals else [], found.lines):
         lines += ['', *(line for text in part for line in indented(text))]
     return lines
 
@@ -84,7 +88,7 @@ def place(change: Change, outcome: Outcome) -> Tuple[int, int, int]:
     what is taken for granted at the start the least comes first: that from which the way to the goal is longest.
     """
     rank = change.rank if outcome.depth is not None or change.always else max(change.rank, Rank.SIGN)
-    rank = Rank.START if rank == Rank.START_MORE else rank
+    rank = Rank.START if rank in (Rank.START_MORE, Rank.CONTRARY) else rank
     depth = outcome.depth or 0
     return rank, int(outcome.depth is not None and rank == Rank.SIGN), -depth if rank >= Rank.START else depth
 

@@ -42,6 +42,8 @@ class Found:
     goals: Optional[Goals] = None
     lines: List[str] = field(default_factory=list)
     """What would make the goals known."""
+    open: int = 0
+    """How many changes weren't asked to their end that are as likely as what was found."""
 
     def cures(self) -> List[Change]:
         """The changes that have a plan."""
@@ -66,8 +68,10 @@ class Search:
         yield from changes.sensed_apart(self.file)
         yield from changes.guards(self.file)
         yield from changes.signs(self.file)
+        yield from changes.values_before(self.file)
         yield from changes.found_out(self.file)
         yield from changes.starts(self.file)
+        yield from changes.contraries(self.file)
         yield from changes.queries_out(self.file)
 
     def run(self) -> Optional[Found]:
@@ -132,7 +136,10 @@ class Search:
         for number in range(3):
             self.ask_round(found, by_rank, number)
             if self.is_over(found):
-                return
+                break
+        best = min((change.rank for change in found.cures()), default=Rank.GOAL)
+        if len(found.cures()) < MOST_FOUND:
+            found.open = sum(change.rank <= best and not self.is_settled(found, change) for change in by_rank)
 
     def ask_round(self, found: Found, changes: Sequence[Change], number: int) -> None:
         """Asks changes, two at a time; the file itself deeper as soon as it is known to have no plan of its depth."""
