@@ -336,7 +336,26 @@ const ASSIGNED_TWICE: &str = "(pks 1)
 (problem (init (kf (q a)) (kf (q b)) (kf (q c))) (goal (k (done)) (k (q (f)))))
 ";
 
+/// A group of which a member has a place whose value changes. With the value put in it is kept, and so tells of the other member.
+const SWAPPED_GROUP: &str = "(pks 1)
+(domain (types t) (objects (t a b)) (predicates (p t) (q) (told)) (functions (f t))
+  (action turn (effects (assign (f) b)) (knows (kf (= (f) b))))
+  (action look (pre (k (= (f) b))) (senses (sense (p a))) (knows (kw (p a))))
+  (action say (pre (k (q))) (effects (set (told))) (knows (kf (told))))
+  (action hush (pre (k (p a))) (effects (set (told))) (knows (kf (told)))))
+(problem (init (kf (= (f) a)) (kx (p (f)) (q))) (goal (k (told))))
+";
+
 const BY_ACTIONS: &[Reasoned] = &[
+    Reasoned(
+        "explain 4",
+        SWAPPED_GROUP,
+        &[
+            "moment 0 (kx (p a) (q)) swap by",
+            "moment 2 (kx (p a) (q)) keep by",
+            "moment 2 (q) only by",
+        ],
+    ),
     Reasoned(
         "explain 3",
         ASSIGNED_TWICE,

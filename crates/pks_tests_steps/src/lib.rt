@@ -7,6 +7,8 @@ mod clashing;
 #[cfg(test)]
 mod domains;
 #[cfg(test)]
+mod marks;
+#[cfg(test)]
 mod occurrences;
 #[cfg(test)]
 mod plans;
