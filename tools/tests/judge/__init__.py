@@ -12,5 +12,6 @@ program, nor any of the ways in which that saves work. A module stands for a rul
     worlds                      RULES 3 and 16, by trying all worlds
     generator, templates        the problems, by chance and around one rule each
     alike, past                 problems of which objects are alike, or whose past stays open
+    owing                       problems whose plans owe proofs by reasons that chance takes
     comparison, programs        what is compared, and with what
 """
