@@ -1,4 +1,9 @@
 //! Lines for literals that hold.
+ghost use Rattle.std.specs.Prelude.{◌≡◌, IfOk, IsNone, IsTrue};
+ghost use Rattle.std.specs.Option.{IsSome};
+ghost use Rattle.pks_terms.specs.Reasons.{is_same};
+ghost use Rattle.pks_terms.specs.Views.{literal_of, signature_of};
+ghost use Rattle.pks_explain_moment.specs.Standing.{stands, holds_plainly, normal_literal, ends_standing};
 
 use crate::table::LineTable;
 use pks_explain_moment::{LiteralRewrite, MomentLines, is_evident, missing_as_memory, push};
@@ -13,7 +18,10 @@ impl LineTable<'_> {
         alloc: Global,
         at: &mut MomentLines,
         l: &Literal,
-    ) -> Result<Option<u32>, AllocError> {
+    ) -> Result<Option<u32>, AllocError>
+        ensures found { IsTrue (is_same (signature_of self.old.signature.now) (literal_of l.now)) → IfOk result (λ line. IsSome line) }
+        ensures none { IfOk result (λ line. IsNone line → (self.new ≡ self.old) × (at.new ≡ at.old)) }
+    {
         if !is_evident(self.signature, l) {
             return Ok(None);
         }
@@ -27,7 +35,10 @@ impl LineTable<'_> {
         alloc: Global,
         at: &mut MomentLines,
         l: &Literal,
-    ) -> Result<Option<u32>, AllocError> {
+    ) -> Result<Option<u32>, AllocError>
+        ensures found { IsTrue (stands (signature_of self.old.signature.now) at.old (literal_of l.now)) → IfOk result (λ line. IsSome line) }
+        ensures none { IfOk result (λ line. IsNone line → (self.new ≡ self.old) × (at.new ≡ at.old)) }
+    {
         match at.line_of(l) {
             Some(line) => Ok(Some(line)),
             None => self.evident_line(alloc, at, l),
@@ -56,7 +67,9 @@ impl LineTable<'_> {
         alloc: Global,
         at: &mut MomentLines,
         chain: &[LiteralRewrite],
-    ) -> Result<Option<u32>, AllocError> {
+    ) -> Result<Option<u32>, AllocError>
+        ensures found { IsTrue (ends_standing (signature_of self.old.signature.now) at.old chain.now) → IfOk result (λ line. IsSome line) }
+    {
         let [link, rest @ ..] = chain else {
             return Ok(None);
         };
@@ -79,18 +92,22 @@ impl LineTable<'_> {
         alloc: Global,
         at: &mut MomentLines,
         l: &Literal,
-    ) -> Result<Option<u32>, AllocError> {
+    ) -> Result<Option<u32>, AllocError>
+        ensures found { IsTrue (stands (signature_of self.old.signature.now) at.old (normal_literal at.old (literal_of l.now))) → IfOk result (λ line. IsSome line) }
+    {
         let chain = at.chain_down(alloc, l)?;
         self.climb(alloc, at, chain.as_slice())
     }
 
-    /// The line of a literal whose normal form has one or is evident.
+    /// The line of a literal that has one, or whose normal form has one or is evident: for each of these there is one.
     pub(crate) fn show_plainly(
         &mut self,
         alloc: Global,
         at: &mut MomentLines,
         l: &Literal,
-    ) -> Result<Option<u32>, AllocError> {
+    ) -> Result<Option<u32>, AllocError>
+        ensures found { IsTrue (holds_plainly (signature_of self.old.signature.now) at.old (literal_of l.now)) → IfOk result (λ line. IsSome line) }
+    {
         match at.line_of(l) {
             Some(line) => Ok(Some(line)),
             None => self.show_down(alloc, at, l),

@@ -1,4 +1,10 @@
 //! What holds at a moment. `docs/RULES.md` has the rule.
+ghost use Rattle.std.specs.Prelude.{◌≡◌, false, [], ◌∷◌};
+ghost use Rattle.pks_terms.specs.Reasons.{is_same};
+ghost use Rattle.pks_terms.specs.Syntax.{Equality};
+ghost use Rattle.pks_terms.specs.Databases.{is_evident};
+ghost use Rattle.pks_terms.specs.Views.{term_of, literal_of, signature_of};
+ghost use Rattle.pks_explain_moment.specs.Standing.{stands, holds_plainly};
 
 use crate::moment::MomentLines;
 use crate::placing::unequal;
@@ -11,16 +17,22 @@ use pks_terms::term::{Term, are_two_objects, front};
 /// The greatest number of arguments of an atom.
 pub(crate) const MOST_ARGUMENTS: usize = 3;
 
-fn are_evidently_different(s: &Signature, left: &Term, right: &Term) -> bool {
+fn are_evidently_different(s: &Signature, left: &Term, right: &Term) -> bool
+    ensures { result ≡ is_evident (signature_of s.now) Equality (term_of left.now ∷ term_of right.now ∷ []) false }
+{
     match (left, right) {
         (Term::Obj(d), Term::Obj(e)) => *d != *e,
+        (Term::Obj(d), Term::App { fun, .. }) => is_foreign(s, *fun, *d),
         (Term::App { fun, .. }, Term::Obj(d)) => is_foreign(s, *fun, *d),
         _ => false,
     }
 }
 
 /// Whether the literal is so of terms alone. It takes no memory.
-pub fn is_evident(s: &Signature, l: &Literal) -> bool {
+#[tactic(auto, unfolding(pks_terms::specs::Orders::term_eq))]
+pub fn is_evident(s: &Signature, l: &Literal) -> bool
+    ensures { result ≡ is_same (signature_of s.now) (literal_of l.now) }
+{
     match &l.atom {
         Atom::Pred(_) => false,
         Atom::Eq { left, right } => {
@@ -50,14 +62,18 @@ fn fixed_at(p: &Pattern, a: &PredAtom, position: usize) -> Option<(Term, Term)> 
 }
 
 impl MomentLines {
-    /// Whether the normal form of the literal has a line or is evident.
-    fn holds_normally(&self, s: &Signature, normal: &Literal) -> bool {
-        self.line_of(normal).is_some() || is_evident(s, normal)
+    /// Whether the literal has a line or is evident.
+    fn stands(&self, s: &Signature, l: &Literal) -> bool
+        ensures { result ≡ stands (signature_of s.now) self.now (literal_of l.now) }
+    {
+        self.line_of(l).is_some() || is_evident(s, l)
     }
 
-    /// Whether the literal or its normal form has a line, or that is evident.
-    fn holds_plainly(&self, s: &Signature, l: &Literal) -> bool {
-        self.line_of(l).is_some() || self.holds_normally(s, &self.normal_literal(l))
+    /// Whether the literal has a line, or its normal form has one or is evident.
+    fn holds_plainly(&self, s: &Signature, l: &Literal) -> bool
+        ensures { result ≡ holds_plainly (signature_of s.now) self.now (literal_of l.now) }
+    {
+        self.line_of(l).is_some() || self.stands(s, &self.normal_literal(l))
     }
 
     /// Whether the terms are known to be different. It takes no memory.

@@ -1,4 +1,7 @@
 //! What stands at one moment, in maps whose versions share their memory.
+ghost use Rattle.std.specs.Prelude.{◌≡◌};
+ghost use Rattle.pks_terms.specs.Views.{inner_of, literal_of};
+ghost use Rattle.pks_explain_moment.specs.Standing.{line_of, valued};
 
 use crate::index::LineIndex;
 use crate::pushing::both;
@@ -165,7 +168,10 @@ impl MomentLines {
     }
 
     /// The number of the line that says so, if there is one.
-    pub fn line_of(&self, l: &Literal) -> Option<u32> {
+    #[tactic(auto, using(crate::proofs::Views::found_get))]
+    pub fn line_of(&self, l: &Literal) -> Option<u32>
+        ensures { result ≡ line_of self.now (literal_of l.now) }
+    {
         match self.stated.known.get(l) {
             Some(line) => Some(*line),
             None => self.stated.shown.get(l).copied(),
@@ -173,7 +179,9 @@ impl MomentLines {
     }
 
     /// The value of the application to objects, by the line of their equation.
-    pub(crate) fn valued(&self, place: &Inner) -> Option<Valued> {
+    pub(crate) fn valued(&self, place: &Inner) -> Option<Valued>
+        ensures { result ≡ valued self.now (inner_of place.now) }
+    {
         self.occurring.values.get(place).copied()
     }
 

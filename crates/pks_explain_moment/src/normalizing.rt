@@ -1,10 +1,16 @@
 //! Normal forms at a moment, with the equations that lead to them. `docs/RULES.md` has the rule.
+ghost use Rattle.std.specs.Prelude.{◌≡◌, ℕ, map, Some, IfOk, OnOk};
+ghost use Rattle.pks_terms.specs.Views.{inner_of, term_of, arguments_in, literal_of};
+ghost use Rattle.pks_query_lookup.specs.Reading.{first_inners};
+ghost use Rattle.pks_explain_moment.specs.Standing.{inner_normal, applied, normal, normal_literal, last_of};
 
 use crate::moment::{MomentLines, Valued};
 use crate::placing::{
-    SPOTS_OF_LITERAL, SPOTS_OF_TERM, equal, place_at, place_of, with_object, with_term, with_terms,
+    SPOTS_OF_LITERAL, SPOTS_OF_TERM, equal, place_at, with_object, with_term, with_terms,
 };
 use crate::pushing::push;
+use pks_query_lookup::normals::objects;
+use pks_terms::ids::FnId;
 use pks_terms::literal::{Arguments, Literal};
 use pks_terms::term::{Inner, Term};
 use std::alloc::{AllocError, Global};
@@ -59,6 +65,23 @@ fn moved(l: &Literal, x: &Move) -> LiteralRewrite {
     }
 }
 
+/// Puts the literal in the place of the last one of the chain.
+#[tactic(auto, using(crate::proofs::Chains::last_of_push))]
+fn end_in(chain: &mut Vec<LiteralRewrite>, l: Literal) -> Result<(), AllocError>
+    ensures { OnOk result (last_of chain.new.items ≡ Some (literal_of l)) }
+{
+    let equation = match chain.pop() {
+        Some(last) => last.equation,
+        None => 0,
+    };
+    let end = LiteralRewrite {
+        literal: l,
+        equation,
+    };
+    push(chain, end)?;
+    Ok(())
+}
+
 /// The literal as it is.
 pub(crate) fn first_of_chain(l: &Literal) -> LiteralRewrite {
     LiteralRewrite {
@@ -99,52 +122,65 @@ impl NormalForm {
 }
 
 impl MomentLines {
-    fn normal_inner(&self, t: &Inner) -> Inner {
+    fn normal_inner(&self, t: &Inner) -> Inner
+        ensures { inner_of result ≡ inner_normal self.now (inner_of t.now) }
+    {
         match self.valued(t) {
             Some(by) => Inner::Obj(by.value),
             None => *t,
         }
     }
 
-    fn normal_inners(&self, args: &[Inner; 2]) -> [Inner; 2] {
+    fn normal_inners(&self, args: &[Inner; 2]) -> [Inner; 2]
+        ensures { (n : ℕ) → first_inners n result ≡ map (inner_normal self.now) (first_inners n args.now) }
+    {
         [self.normal_inner(&args[0]), self.normal_inner(&args[1])]
     }
 
-    fn value_of(&self, t: &Term) -> Option<Term> {
-        let by = self.valued(&place_of(t)?)?;
-        Some(Term::Obj(by.value))
-    }
-
-    fn value_or_itself(&self, t: Term) -> Term {
-        match self.value_of(&t) {
-            Some(u) => u,
-            None => t,
+    /// The application, or its value where it has one.
+    fn applied(&self, fun: FnId, n: u8, args: [Inner; 2]) -> Term
+        ensures { term_of result ≡ applied self.now fun.0 (first_inners n args) }
+    {
+        let Some(own) = objects(n, &args) else {
+            return Term::App { fun, n, args };
+        };
+        match self.valued(&Inner::App { fun, n, args: own }) {
+            Some(by) => Term::Obj(by.value),
+            None => Term::App { fun, n, args },
         }
     }
 
     /// The normal form of a term.
-    pub(crate) fn normal(&self, t: &Term) -> Term {
+    pub(crate) fn normal(&self, t: &Term) -> Term
+        ensures { term_of result ≡ normal self.now (term_of t.now) }
+    {
         match t {
             Term::Obj(_) | Term::Param(_) => *t,
-            Term::App { fun, n, args } => self.value_or_itself(Term::App {
-                fun: *fun,
-                n: *n,
-                args: self.normal_inners(args),
-            }),
+            Term::App { fun, n, args } => self.applied(*fun, *n, self.normal_inners(args)),
         }
     }
 
-    /// The normal form of a literal.
-    pub(crate) fn normal_literal(&self, l: &Literal) -> Literal {
-        let given = l.atom.arguments();
-        with_terms(
-            l,
-            &[
+    /// The normal forms of arguments.
+    fn normal_arguments(&self, given: &Arguments) -> Arguments
+        ensures count { result.n ≡ given.now.n }
+        ensures terms { arguments_in result ≡ map (normal self.now) (arguments_in given.now) }
+    {
+        Arguments {
+            n: given.n,
+            items: [
                 self.normal(&given.items[0]),
                 self.normal(&given.items[1]),
                 self.normal(&given.items[2]),
             ],
-        )
+        }
+    }
+
+    /// The normal form of a literal.
+    pub(crate) fn normal_literal(&self, l: &Literal) -> Literal
+        ensures { literal_of result ≡ normal_literal self.now (literal_of l.now) }
+    {
+        l.atom
+            .with(&self.normal_arguments(&l.atom.arguments()), l.positive)
     }
 
     /// The replacement at this spot of the term.
@@ -216,15 +252,14 @@ impl MomentLines {
         Ok(())
     }
 
-    /// The literal, and what it becomes on its way to its normal form. The error is want of memory.
-    pub fn chain_down(
-        &self,
-        alloc: Global,
-        l: &Literal,
-    ) -> Result<Vec<LiteralRewrite>, AllocError> {
+    /// The literal, and what it becomes on its way to its normal form, which is the last. The error is want of memory.
+    pub fn chain_down(&self, alloc: Global, l: &Literal) -> Result<Vec<LiteralRewrite>, AllocError>
+        ensures { IfOk result (λ chain. last_of chain.items ≡ Some (normal_literal self.now (literal_of l.now))) }
+    {
         let mut chain = Vec::new(alloc);
         push(&mut chain, first_of_chain(l))?;
         self.put_links(l, &mut chain)?;
+        end_in(&mut chain, self.normal_literal(l))?;
         Ok(chain)
     }
 

@@ -1,10 +1,13 @@
 //! Single items put behind others.
+ghost use Rattle.std.specs.Prelude.{◌≡◌, OnOk, [], ◌∷◌, ◌++◌};
 
 use std::alloc::{AllocError, Global};
 use std::collections::{BTreeMap, BTreeSet};
 
 /// Puts the item behind the others. The error is want of memory.
-pub fn push<T: Drop>(to: &mut Vec<T>, item: T) -> Result<(), AllocError> {
+pub fn push<T: Drop>(to: &mut Vec<T>, item: T) -> Result<(), AllocError>
+    ensures { OnOk result (to.new.items ≡ to.old.items ++ item ∷ []) }
+{
     to.push(item)?;
     Ok(())
 }
