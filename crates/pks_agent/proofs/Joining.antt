@@ -1,11 +1,14 @@
 -- Parts of a dialogue, joined.
-use Rattle.std.proofs.Common.{◌≡◌, ℕ, ◌+◌, ◌<◌, ◌≤◌, Bool, true, false, cond, List, [], ◌∷◌, ◌++◌, take, length, Option, Some, None, Result, Ok, Err, IfSome, refl, sym, ap, ◌∙◌, subst, arith, append-nil, append_assoc}
+use Rattle.std.proofs.Common.{◌≡◌, ℕ, suc, ◌+◌, ◌<◌, ◌≤◌, Bool, true, false, cond, List, [], ◌∷◌, ◌++◌, take, drop, length, inl, inr, Option, Some, None, Result, Ok, Err, IfSome, refl, sym, ap, ◌∙◌, subst, arith, append-nil, append_assoc}
 use Rattle.std.specs.Prelude.{codes}
+use Rattle.std.specs.List.{flat_map}
+use Rattle.std.specs.Result.{IsErrAnd}
 use Rattle.std.specs.Option.{option_map_or}
 use Rattle.std.specs.Io.KnownBytes.{Appends}
 use Rattle.std.proofs.Math.Seq.{take-append-add}
 use Rattle.std.proofs.lemmas.List.{take-append-le, length-append}
 use Rattle.std.proofs.lemmas.Bool.{leb-true, le-leb}
+use Rattle.std.proofs.lemmas.Grind.{flat_map-append}
 use Rattle.pks_io.specs.Writing.{AppendsFront}
 use Rattle.pks_terms.specs.Actions.{Instance}
 use Rattle.pks_terms.specs.Signatures.{Signature, range_of}
@@ -16,12 +19,12 @@ use Rattle.pks_terms.specs.Talk.{Talked, Said, Question, Statement, Over, Unfit,
 use Rattle.pks_exec.specs.Runs.{ending_of}
 use Rattle.pks_exec.specs.declared.runs.End.{End}
 use Rattle.pks_agent.specs.declared.peers.PeerFault.{PeerFault}
+use Rattle.pks_agent.specs.declared.peers.PeerFault.TheVariants.{Send, Receive}
 use Rattle.pks_agent.specs.declared.ends.TalkEnd.{TalkEnd as Stop}
 use Rattle.pks_agent.specs.declared.ends.TalkEnd.TheVariants.{Misfit, Silent, Failed}
-use Rattle.pks_terms.specs.Sets.{Each}
-use Rattle.pks_agent.specs.Bounds.{IsShortLine}
-use Rattle.pks_agent.specs.Hearing.{Stay, HasPeerCause, IsServed}
-use Rattle.pks_agent.specs.Leading.{Led, IsSafe, TalkServed, Moment, IsLed, LeadsOn, EndsIn, Leads, each_behind, stating, doing}
+use Rattle.pks_agent.specs.Bounds.{IsShortLine, asked_in}
+use Rattle.pks_agent.specs.Hearing.{Stay, StayBehind, LeavesBehindUnfit, HasPeerCause, IsServed}
+use Rattle.pks_agent.specs.Leading.{BreaksOff, Led, IsSafe, TalkServed, Moment, IsLed, LeadsOn, EndsIn, Leads, each_behind, stating, doing}
 use Rattle.pks_agent.specs.Asking.{Answered, IsAsked}
 use Rattle.pks_agent.specs.Rooms.{IsSpoken, argument_count}
 use Rattle.pks_agent.proofs.Causing.{cause_behind, cause_ends, cause_unfit, cause_well, cause_failed, cause_still}
@@ -54,11 +57,45 @@ front_first old new xs ys (n, few, a) = (
 
 -- ---- one line, and what is led behind it
 
-led_behind : (old mid new : Option Text) (left : Option (List Text)) (result : Result End Stop) (said : Said) (talked : Talked) → Appends old mid (line (said_text said)) → Led mid new left result talked → Led old new left result (saying said talked)
-led_behind old mid new left (Ok end) said talked a led = (led.0, appends_more old mid new (line (said_text said)) (talked_text talked) a led.1, led.2)
-led_behind old mid new left (Err (Misfit k)) said talked a led = (led.0, appends_more old mid new (line (said_text said)) (talked_text talked) a led.1)
-led_behind old mid new left (Err (Silent k)) said talked a led = (led.0, appends_more old mid new (line (said_text said)) (talked_text talked) a led.1)
-led_behind old mid new left (Err (Failed fault)) said talked a led = front_behind old mid new (line (said_text said)) (talked_text talked) a led
+-- the line asks for the answers that come first, and for no others
+abbrev Asks : Said → List Text → List Text → Type 0
+Asks said first rest = (lines : List Said) → drop (asked_in (said ∷ lines)) (first ++ rest) ≡ drop (asked_in lines) rest
+
+question_asks : (question next : Text) (rest : List Text) → Asks (Question question) (next ∷ []) rest
+question_asks question next rest lines = let one : 1 + asked_in lines ≡ suc (asked_in lines) = omega arith in ap (λ n. drop n (next ∷ rest)) one
+
+module _ (old mid new : Option Text) (first rest : List Text) (left : Option (List Text)) where
+  led_behind : (result : Result End Stop) (said : Said) (talked : Talked) → Asks said first rest → Appends old mid (line (said_text said)) → Led mid new rest left result talked → Led old new (first ++ rest) left result (saying said talked)
+  led_behind (Ok end) said talked asks a led = (led.0, appends_more old mid new (line (said_text said)) (talked_text talked) a led.1, led.2)
+  led_behind (Err (Misfit k)) said talked asks a led =
+      let (given, unfit, all, ends) = led.2 in
+      (led.0, appends_more old mid new (line (said_text said)) (talked_text talked) a led.1, (first ++ given, unfit, ap (λ (l : List Text). first ++ l) all ∙ sym (append_assoc first given (unfit ∷ talked.left)), ends))
+  led_behind (Err (Silent k)) said talked asks a led = (led.0, appends_more old mid new (line (said_text said)) (talked_text talked) a led.1, led.2)
+  led_behind (Err (Failed Send)) said talked asks a led = record {
+    before = said ∷ led.before;
+    said = led.said;
+    after = led.after;
+    lines = ap (λ (l : List Said). said ∷ l) led.lines;
+    mid = led.mid;
+    whole = appends_more old mid led.mid (line (said_text said)) (flat_map (λ x. line (said_text x)) led.before) a led.whole;
+    front = led.front;
+    stay = led.stay ∙ ap (λ l. Some l) (sym (asks led.before));
+  }
+  led_behind (Err (Failed Receive)) said talked asks a led = front_behind old mid new (line (said_text said)) (talked_text talked) a led
+
+-- what was said before the fault is a front of all lines
+pub front_broken : (old new : Option Text) (answers : List Text) (left : Option (List Text)) (talked : Talked) → BreaksOff old new answers left talked → AppendsFront old new (talked_text talked)
+front_broken old new answers left talked b =
+    let told = flat_map (λ x. line (said_text x)) b.before in
+    let last = line (said_text b.said) in
+    let behind = flat_map (λ x. line (said_text x)) b.after in
+    let all : talked_text talked ≡ (told ++ last) ++ behind = ap (flat_map (λ x. line (said_text x))) b.lines ∙ flat_map-append (λ x. line (said_text x)) b.before (b.said ∷ b.after) ∙ sym (append_assoc told last behind) in
+    subst (AppendsFront old new) (sym all) (front_first old new (told ++ last) behind (front_behind old b.mid new told last b.whole b.front))
+
+-- at this line
+led_first : (old new : Option Text) (answers : List Text) (left : Option (List Text)) (fault : PeerFault) (said : Said) (talked : Talked) → AppendsFront old new (line (said_text said)) → StayBehind fault answers left → Led old new answers left (Err (Failed fault)) (saying said talked)
+led_first old new answers left Send said talked front stay = record { before = []; said = said; after = talked.lines; lines = refl; mid = old; whole = appends_none old; front = front; stay = stay }
+led_first old new answers left Receive said talked front stay = front_first old new (line (said_text said)) (talked_text talked) front
 
 -- one call fewer is left, and one line more
 safe_behind : (sure sure' : ℕ) (result : Result End Stop) (said : Said) (talked : Talked) → sure ≤ sure' + 1 → IsSafe sure' result talked → IsSafe sure result (saying said talked)
@@ -70,6 +107,13 @@ safe_behind sure sure' (Err (Failed fault)) said talked fewer safe = λ each. le
 -- the call for the line failed
 safe_first : (sure : ℕ) (fault : PeerFault) (said : Said) (talked : Talked) → (IsShortLine (said_text said) → sure ≡ 0) → IsSafe sure (Err (Failed fault)) (saying said talked)
 safe_first sure fault said talked none = λ each. let zero_left = none each.0 in omega (arith, zero_left)
+
+-- ---- results
+
+-- what is so of this error is so of the result that has it
+pub so_of_error : {A B : Type 0} (P : Result A B → Type 0) (result : Result A B) (error : B) → IsErrAnd result (λ e. e ≡ error) → P (Err error) → P result
+so_of_error P (Ok x) error is so = absurd is
+so_of_error P (Err e) error is so = subst (λ x. P (Err x)) (sym is) so
 
 -- ---- a question
 
@@ -93,14 +137,14 @@ module _ {Y : Type 0} (reads : Text → Option Y) (question : Text) (k : ℕ) (m
     kept = behind.kept ∙ a.kept;
   }
     where
-      on : (before : Option (List Text)) → IfSome before (Answered {X = X} m m' question k answer (Ok x)) → IfSome before (λ answers. Led m.said m''.said m''.answers result (asking reads question go k answers))
+      on : (before : Option (List Text)) → IfSome before (Answered {X = X} m m' question k answer (Ok x)) → IfSome before (λ answers. Led m.said m''.said answers m''.answers result (asking reads question go k answers))
       on None h = tt
       on (Some []) h = absurd h
       on (Some (next ∷ rest)) h =
-          let next_led : Led m'.said m''.said m''.answers result (go y (k + 1) rest) = subst (λ o. IfSome o (λ answers. Led m'.said m''.said m''.answers result (go y (k + 1) answers))) h.2 behind.led in
-          subst (λ o. Led m.said m''.said m''.answers result (saying (Question question) (option_map_or (λ x. go x (k + 1) rest) o (record { lines = []; end = Unfit k; left = rest }))))
+          let next_led : Led m'.said m''.said rest m''.answers result (go y (k + 1) rest) = subst (λ o. IfSome o (λ answers. Led m'.said m''.said answers m''.answers result (go y (k + 1) answers))) h.2 behind.led in
+          subst (λ o. Led m.said m''.said (next ∷ rest) m''.answers result (saying (Question question) (option_map_or (λ x. go x (k + 1) rest) o (record { lines = []; end = Unfit k; left = rest }))))
           (sym (told_fit answer next h.0 few ∙ fit))
-          (led_behind m.said m'.said m''.said m''.answers result (Question question) (go y (k + 1) rest) h.1 next_led)
+          (led_behind m.said m'.said m''.said (next ∷ []) rest m''.answers result (Question question) (go y (k + 1) rest) (question_asks question next rest) h.1 next_led)
 
       safely : (before : Option (List Text)) → IfSome before (Answered {X = X} m m' question k answer (Ok x)) → IfSome before (λ answers. IsSafe m.sure result (asking reads question go k answers))
       safely None h = tt
@@ -111,11 +155,11 @@ module _ {Y : Type 0} (reads : Text → Option Y) (question : Text) (k : ℕ) (m
           (sym (told_fit answer next h.0 few ∙ fit))
           (safe_behind m.sure m'.sure result (Question question) (go y (k + 1) rest) a.served next_safe)
 
-  unfit_led : (go : Y → GoesOn) (next : Text) (rest : List Text) → Appends m.said m'.said (line question) → told_by reads next ≡ None → Led m.said m'.said m'.answers (Err (Misfit k)) (asking reads question go k (next ∷ rest))
-  unfit_led go next rest said none =
-      subst (λ o. Led m.said m'.said m'.answers (Err (Misfit k)) (saying (Question question) (option_map_or (λ x. go x (k + 1) rest) o (record { lines = []; end = Unfit k; left = rest }))))
+  unfit_led : (go : Y → GoesOn) (next : Text) (rest : List Text) → Appends m.said m'.said (line question) → told_by reads next ≡ None → LeavesBehindUnfit next rest m'.answers → Led m.said m'.said (next ∷ rest) m'.answers (Err (Misfit k)) (asking reads question go k (next ∷ rest))
+  unfit_led go next rest said none ends =
+      subst (λ o. Led m.said m'.said (next ∷ rest) m'.answers (Err (Misfit k)) (saying (Question question) (option_map_or (λ x. go x (k + 1) rest) o (record { lines = []; end = Unfit k; left = rest }))))
       (sym none)
-      (refl, appends_more m.said m'.said m'.said (line question) [] said (appends_none m'.said))
+      (refl, appends_more m.said m'.said m'.said (line question) [] said (appends_none m'.said), ([], next, refl, ends))
 
   -- its answer was taken and isn't fit
   pub asked_unfit : {X : Type 0} (answer : Text) (x : X) → IsAsked {X = X} m m' question k answer (Ok x) → length answer ≤ 64 → reads answer ≡ None → EndsIn (asking reads question) k (Misfit k) m m'
@@ -126,20 +170,16 @@ module _ {Y : Type 0} (reads : Text → Option Y) (question : Text) (k : ℕ) (m
     kept = a.kept;
   }
     where
-      ends : (before : Option (List Text)) → IfSome before (Answered {X = X} m m' question k answer (Ok x)) → IfSome before (λ answers. Led m.said m'.said m'.answers (Err (Misfit k)) (asking reads question go k answers))
+      ends : (before : Option (List Text)) → IfSome before (Answered {X = X} m m' question k answer (Ok x)) → IfSome before (λ answers. Led m.said m'.said answers m'.answers (Err (Misfit k)) (asking reads question go k answers))
       ends None h = tt
       ends (Some []) h = absurd h
-      ends (Some (next ∷ rest)) h = unfit_led go next rest h.1 (told_fit answer next h.0 few ∙ none)
+      ends (Some (next ∷ rest)) h = unfit_led go next rest h.1 (told_fit answer next h.0 few ∙ none) (inl h.2)
 
       all_some : (before : Option (List Text)) → IfSome before (λ answers. Unit {0})
       all_some None = tt
       all_some (Some answers) = tt
 
   -- a question begins with its line
-  begins : (go : Y → GoesOn) (answers : List Text) → (rest : Text) × (talked_text (asking reads question go k answers) ≡ line question ++ rest)
-  begins go [] = ([], refl)
-  begins go (next ∷ rest) = (_, refl)
-
   opens : (go : Y → GoesOn) (answers : List Text) → (talked : Talked) × (asking reads question go k answers ≡ saying (Question question) talked)
   opens go [] = (record { lines = []; end = Missing k; left = [] }, refl)
   opens go (next ∷ rest) = (option_map_or (λ x. go x (k + 1) rest) (told_by reads next) (record { lines = []; end = Unfit k; left = rest }), refl)
@@ -153,17 +193,17 @@ module _ {Y : Type 0} (reads : Text → Option Y) (question : Text) (k : ℕ) (m
     kept = a.kept;
   }
     where
-      ends : (before : Option (List Text)) (end : Stop) → IfSome before (Answered {X = X} m m' question k answer (Err end)) → IfSome before (λ answers. Led m.said m'.said m'.answers (Err end) (asking reads question go k answers))
+      ends : (before : Option (List Text)) (end : Stop) → IfSome before (Answered {X = X} m m' question k answer (Err end)) → IfSome before (λ answers. Led m.said m'.said answers m'.answers (Err end) (asking reads question go k answers))
       ends None end h = tt
       ends (Some []) (Misfit j) h = absurd h
       ends (Some (next ∷ rest)) (Misfit j) h =
-          subst (λ n. Led m.said m'.said m'.answers (Err (Misfit n)) (asking reads question go k (next ∷ rest))) (sym h.0)
-          (unfit_led go next rest h.2 (ap (λ b. cond b (reads next) None) (not_short next h.1)))
-      ends (Some []) (Silent j) h = (ap Missing (sym h.0), appends_more m.said m'.said m'.said (line question) [] h.1 (appends_none m'.said))
+          subst (λ n. Led m.said m'.said (next ∷ rest) m'.answers (Err (Misfit n)) (asking reads question go k (next ∷ rest))) (sym h.0)
+          (unfit_led go next rest h.2 (ap (λ b. cond b (reads next) None) (not_short next h.1)) (inr (h.1, h.3)))
+      ends (Some []) (Silent j) h = (ap Missing (sym h.0), appends_more m.said m'.said m'.said (line question) [] h.1 (appends_none m'.said), h.2)
       ends (Some (next ∷ rest)) (Silent j) h = absurd h
       ends (Some answers) (Failed fault) h =
-          let text = begins go answers in
-          subst (AppendsFront m.said m'.said) (sym text.1) (front_first m.said m'.said (line question) text.0 h)
+          let asked = opens go answers in
+          subst (Led m.said m'.said answers m'.answers (Err (Failed fault))) (sym asked.1) (led_first m.said m'.said answers m'.answers fault (Question question) asked.0 h.0 h.1)
 
       safely : (before : Option (List Text)) (end : Stop) → TalkServed {X = X} m.sure m'.sure question (Err end) → IfSome before (λ answers. IsSafe m.sure (Err end) (asking reads question go k answers))
       safely None end served = tt
@@ -252,25 +292,29 @@ module _ (m m' : Moment) (text : Text) (k : ℕ) where
     kept = behind.kept ∙ same;
   }
     where
-      on : (before : Option (List Text)) → Stay before m'.answers → IfSome before (λ answers. Led m.said m''.said m''.answers result (stating text (go tt) k answers))
+      on : (before : Option (List Text)) → Stay before m'.answers → IfSome before (λ answers. Led m.said m''.said answers m''.answers result (stating text (go tt) k answers))
       on None s = tt
-      on (Some answers) s = led_behind m.said m'.said m''.said m''.answers result (Statement text) (go tt k answers) said (subst (λ o. IfSome o (λ answers. Led m'.said m''.said m''.answers result (go tt k answers))) s behind.led)
+      on (Some answers) s = led_behind m.said m'.said m''.said [] answers m''.answers result (Statement text) (go tt k answers) (λ lines. refl) said (subst (λ o. IfSome o (λ answers. Led m'.said m''.said answers m''.answers result (go tt k answers))) s behind.led)
 
       safely : (before : Option (List Text)) → Stay before m'.answers → IfSome before (λ answers. IsSafe m.sure result (stating text (go tt) k answers))
       safely None s = tt
       safely (Some answers) s = safe_behind m.sure m'.sure result (Statement text) (go tt k answers) served.well (subst (λ o. IfSome o (λ answers. IsSafe m'.sure result (go tt k answers))) s behind.safe)
 
-  pub told_ends : {X : Type 0} (fault : PeerFault) → HasPeerCause {X = X} m.sends m'.sends m.receipts m'.receipts (Err fault) → AppendsFront m.said m'.said (line text) → IsServed {X = X} m.sure m'.sure text (Err fault) → m'.kept ≡ m.kept → EndsIn {Y = Unit {0}} (λ go. stating text (go tt)) k (Failed fault) m m'
-  told_ends fault cause said served same go = record {
-    led = ends m.answers;
+  pub told_ends : {X : Type 0} (fault : PeerFault) → HasPeerCause {X = X} m.sends m'.sends m.receipts m'.receipts (Err fault) → AppendsFront m.said m'.said (line text) → Stay m.answers m'.answers → IsServed {X = X} m.sure m'.sure text (Err fault) → m'.kept ≡ m.kept → EndsIn {Y = Unit {0}} (λ go. stating text (go tt)) k (Failed fault) m m'
+  told_ends fault cause said stay served same go = record {
+    led = ends m.answers stay;
     safe = safely m.answers;
     cause = cause_failed m.sends m'.sends m.receipts m'.receipts fault cause;
     kept = same;
   }
     where
-      ends : (before : Option (List Text)) → IfSome before (λ answers. Led m.said m'.said m'.answers (Err (Failed fault)) (stating text (go tt) k answers))
-      ends None = tt
-      ends (Some answers) = front_first m.said m'.said (line text) (talked_text (go tt k answers)) said
+      stays : (fault : PeerFault) (answers : List Text) → m'.answers ≡ Some answers → StayBehind fault answers m'.answers
+      stays Send answers s = s
+      stays Receive answers s = tt
+
+      ends : (before : Option (List Text)) → Stay before m'.answers → IfSome before (λ answers. Led m.said m'.said answers m'.answers (Err (Failed fault)) (stating text (go tt) k answers))
+      ends None s = tt
+      ends (Some answers) s = led_first m.said m'.said answers m'.answers fault (Statement text) (go tt k answers) said (stays fault answers s)
 
       safely : (before : Option (List Text)) → IfSome before (λ answers. IsSafe m.sure (Err (Failed fault)) (stating text (go tt) k answers))
       safely None = tt
@@ -289,7 +333,7 @@ module _ (end : End) (k : ℕ) (m m' : Moment) where
     kept = refl;
   }
     where
-      still : (now : Option (List Text)) → IfSome now (λ answers. Led m'.said m'.said now (Ok end) (over tt k answers))
+      still : (now : Option (List Text)) → IfSome now (λ answers. Led m'.said m'.said answers now (Ok end) (over tt k answers))
       still None = tt
       still (Some answers) = (refl, appends_none m'.said, refl)
 

@@ -1,5 +1,5 @@
 -- The lines of an input: its file and its answers.
-use Rattle.std.proofs.Common.{◌≡◌, ◌<◌, ◌+◌, ℕ, suc, Bool, true, false, cond, ◌&&◌, List, [], ◌∷◌, ◌++◌, length, Option, Some, None, option_map, refl, sym, ap, ◌∙◌, subst, true≢false, arith}
+use Rattle.std.proofs.Common.{◌≡◌, ◌<◌, ◌+◌, ℕ, suc, inl, inr, Bool, true, false, cond, ◌&&◌, List, [], ◌∷◌, ◌++◌, length, Option, Some, None, option_map, refl, sym, ap, ◌∙◌, subst, true≢false, arith}
 use Rattle.std.specs.Prelude.{nat_eq}
 use Rattle.std.specs.List.{filter, flat_map}
 use Rattle.std.specs.Option.{option_map_or}
@@ -7,6 +7,7 @@ use Rattle.std.proofs.lemmas.Bool.{eqb-true}
 use Rattle.pks_terms.specs.Printed.{Text, line}
 use Rattle.pks_terms.specs.Jobs.{same_text}
 use Rattle.pks_terms.specs.Talk.{with_byte, lines_of, cut, file_text, answers_in, line_feeds, stop_line}
+use Rattle.pks_agent.specs.Hearing.{LeavesEnd}
 use Rattle.pks_agent.specs.Streams.{before, parts_from, parts_at_stop, has_no_feed}
 
 -- ---- the file and what stands behind it
@@ -140,13 +141,18 @@ line_last c (d ∷ bytes) h =
     lines_past c (d ∷ bytes) parts.0 ∙ ap (with_byte c) (line_last d bytes parts.1)
 
 -- past these bytes
-pub line_longer : (bytes : Text) (b : ℕ) (rest : Text) → has_no_feed bytes ≡ true → nat_eq b 10 ≡ false → (first : Text) × (others : List Text) × (lines_of (bytes ++ b ∷ rest) ≡ first ∷ others) × (length bytes < length first)
+pub line_longer : (bytes : Text) (b : ℕ) (rest : Text) → has_no_feed bytes ≡ true → nat_eq b 10 ≡ false
+    → (first : Text) × (others : List Text) × (lines_of (bytes ++ b ∷ rest) ≡ first ∷ others) × (length bytes < length first) × LeavesEnd first others (Some (lines_of rest))
 line_longer [] b rest h e = by_lines (lines_of rest) (lines_past b rest e)
   where
-    by_lines : (lines : List Text) → lines_of (b ∷ rest) ≡ with_byte b lines → (first : Text) × (others : List Text) × (lines_of (b ∷ rest) ≡ first ∷ others) × (0 < length first)
-    by_lines [] f = (b ∷ [], [], f, omega arith)
-    by_lines (x ∷ xs) f = (b ∷ x, xs, f, omega arith)
+    by_lines : (lines : List Text) → lines_of (b ∷ rest) ≡ with_byte b lines → (first : Text) × (others : List Text) × (lines_of (b ∷ rest) ≡ first ∷ others) × (0 < length first) × LeavesEnd first others (Some lines)
+    by_lines [] f = (b ∷ [], [], f, omega arith, inl refl)
+    by_lines (x ∷ xs) f = (b ∷ x, xs, f, omega arith, inr (b ∷ [], x, refl, refl))
 line_longer (c ∷ bytes) b rest h e =
     let parts = no_feed_parts c bytes h in
     let later = line_longer bytes b rest parts.1 e in
-    (c ∷ later.0, later.1, lines_past c (bytes ++ b ∷ rest) parts.0 ∙ ap (with_byte c) later.2, omega (arith, later.3))
+    (c ∷ later.0, later.1, lines_past c (bytes ++ b ∷ rest) parts.0 ∙ ap (with_byte c) later.2, omega (arith, later.3), end_behind c later.0 later.1 (Some (lines_of rest)) later.4)
+  where
+    end_behind : (c : ℕ) (first : Text) (others : List Text) (left : Option (List Text)) → LeavesEnd first others left → LeavesEnd (c ∷ first) others left
+    end_behind c first others left (inl none) = inl none
+    end_behind c first others left (inr (front, end, e, is)) = inr (c ∷ front, end, ap (λ (t : Text). c ∷ t) e, is)

@@ -15,7 +15,7 @@ use Rattle.pks_agent.specs.declared.peers.Heard.{Heard}
 use Rattle.pks_agent.specs.declared.peers.Heard.TheVariants as heard
 use Rattle.pks_agent.specs.declared.peers.PeerFault.{PeerFault}
 use Rattle.pks_agent.specs.declared.peers.PeerFault.TheVariants.{Send, Receive}
-use Rattle.pks_agent.specs.Hearing.{Hears, TakesNext, IsLongNext}
+use Rattle.pks_agent.specs.Hearing.{Hears, TakesNext, CutsLong}
 use Rattle.pks_agent.specs.Streams.{ahead_of, coming, ReadsFile, ReadsFront, before, parts_from, parts_at_stop, Finds, FindsStop, Appended, HasRead, HasFile, has_no_feed, answers_behind, answers_coming}
 use Rattle.pks_agent.proofs.Lines.{or_none, file_is, answers_are, line_first, line_last, line_longer}
 
@@ -266,13 +266,13 @@ heard_line held b (Some bytes) None no_feed e h = absurd h
 heard_line held b (Some bytes) (Some rest) no_feed e h =
     taken (lines_of (held ++ bytes)) (lines_of rest) held (ap (λ l. lines_of (held ++ l)) h ∙ line_first held b rest no_feed e)
 
-pub heard_long : (held answer : Text) (b : ℕ) (old mid new : Option Text) → has_no_feed held ≡ true → nat_eq b 10 ≡ false → 64 ≤ length held → Consumes old mid (b ∷ []) → Hears (answers_behind held old) (answers_coming new) answer (Ok heard.Long)
-heard_long held answer b None mid new no_feed e full h = tt
-heard_long held answer b (Some bytes) None new no_feed e full h = absurd h
-heard_long held answer b (Some bytes) (Some rest) new no_feed e full h =
+pub heard_long : (held answer : Text) (b : ℕ) (old new : Option Text) → has_no_feed held ≡ true → nat_eq b 10 ≡ false → 64 ≤ length held → Consumes old new (b ∷ []) → Hears (answers_behind held old) (answers_coming new) answer (Ok heard.Long)
+heard_long held answer b None new no_feed e full h = tt
+heard_long held answer b (Some bytes) None no_feed e full h = absurd h
+heard_long held answer b (Some bytes) (Some rest) no_feed e full h =
     let longer = line_longer held b rest no_feed e in
     let long : 64 < length longer.0 = omega (arith, full, longer.3) in
-    subst (λ l. IsLongNext (Some l)) (sym (ap (λ l. lines_of (held ++ l)) h ∙ longer.2)) long
+    subst (λ l. CutsLong (Some l) (Some (lines_of rest))) (sym (ap (λ l. lines_of (held ++ l)) h ∙ longer.2)) (long, longer.4)
 
 pub heard_more : (held held' answer : Text) (b : ℕ) (old mid new : Option Text) (result : Result Heard PeerFault) → held' ≡ held ++ b ∷ [] → Consumes old mid (b ∷ []) → Hears (answers_behind held' mid) (answers_coming new) answer result → Hears (answers_behind held old) (answers_coming new) answer result
 heard_more held held' answer b None mid new (Ok heard.Line) e h hears = tt

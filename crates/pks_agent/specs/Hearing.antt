@@ -1,5 +1,5 @@
 -- What a peer says and hears.
-use Rattle.std.specs.Prelude.{ℕ, ◌≡◌, ◌≤◌, ◌<◌, ◌+◌, List, [], ◌∷◌, length, Option, Some, None, Result, Ok, Err, IfErr, OnOk, OnErr}
+use Rattle.std.specs.Prelude.{ℕ, ◌≡◌, ◌≤◌, ◌<◌, ◌+◌, ◌⊎◌, List, [], ◌∷◌, ◌++◌, length, Option, Some, None, Result, Ok, Err, IfErr, OnOk, OnErr}
 use Rattle.pks_io.specs.Causes.{Rose}
 use Rattle.pks_terms.specs.Printed.{Text}
 use Rattle.pks_agent.specs.declared.peers.Heard.{Heard}
@@ -18,11 +18,19 @@ TakesNext None new answer = Unit {0}
 TakesNext (Some []) new answer = ⊥
 TakesNext (Some (next ∷ rest)) new answer = (answer ≡ next) × (new ≡ Some rest)
 
--- where they are told, the next of them has more than 64 bytes
-abbrev pub IsLongNext : Option (List Text) → Type 0
-IsLongNext None = Unit {0}
-IsLongNext (Some []) = ⊥
-IsLongNext (Some (next ∷ rest)) = 64 < length next
+-- the answer was taken, or a front of it, so that its end stands before the others
+abbrev pub LeavesEnd : Text → List Text → Option (List Text) → Type 0
+LeavesEnd answer others left = (left ≡ Some others) ⊎ ((front : Text) × (end : Text) × (answer ≡ front ++ end) × (left ≡ Some (end ∷ others)))
+
+-- an answer that isn't fit was taken, or a front of it where it has more than 64 bytes
+abbrev pub LeavesBehindUnfit : Text → List Text → Option (List Text) → Type 0
+LeavesBehindUnfit answer others left = (left ≡ Some others) ⊎ ((64 < length answer) × LeavesEnd answer others left)
+
+-- where they are told, the next of them has more than 64 bytes, and was taken, or a front of it
+abbrev pub CutsLong : Option (List Text) → Option (List Text) → Type 0
+CutsLong None new = Unit {0}
+CutsLong (Some []) new = ⊥
+CutsLong (Some (next ∷ rest)) new = (64 < length next) × LeavesEnd next rest new
 
 -- where they are told, none is left
 abbrev pub IsNoneLeft : Option (List Text) → Option (List Text) → Type 0
@@ -32,10 +40,15 @@ IsNoneLeft (Some answers) new = (answers ≡ []) × (new ≡ Some [])
 -- what came of a question: the next answer was taken, is too long, or is missing; where sending failed the answers stay
 abbrev pub Hears : Option (List Text) → Option (List Text) → Text → Result Heard PeerFault → Type 0
 Hears old new answer (Ok Line) = TakesNext old new answer
-Hears old new answer (Ok Long) = IsLongNext old
+Hears old new answer (Ok Long) = CutsLong old new
 Hears old new answer (Ok End) = IsNoneLeft old new
 Hears old new answer (Err Send) = Stay old new
 Hears old new answer (Err Receive) = Unit {0}
+
+-- where sending failed, these are the answers that are left
+abbrev pub StayBehind : PeerFault → List Text → Option (List Text) → Type 0
+StayBehind Send answers left = left ≡ Some answers
+StayBehind Receive answers left = Unit {0}
 
 -- the count of such faults rose
 abbrev pub FaultRose : ℕ → ℕ → ℕ → ℕ → PeerFault → Type 0

@@ -1,27 +1,45 @@
 -- How a dialogue over a peer is led.
-use Rattle.std.specs.Prelude.{ℕ, ◌≡◌, ◌≤◌, ◌<◌, ◌+◌, List, ◌++◌, length, Option, Some, Result, Ok, Err, IfSome, IfErr, OnOk}
+use Rattle.std.specs.Prelude.{ℕ, ◌≡◌, ◌≤◌, ◌<◌, ◌+◌, List, [], ◌∷◌, ◌++◌, drop, length, Option, Some, Result, Ok, Err, IfSome, IfErr, OnOk}
 use Rattle.std.specs.Borrow.{GName}
+use Rattle.std.specs.List.{flat_map}
 use Rattle.std.specs.Io.KnownBytes.{Appends}
 use Rattle.pks_io.specs.Writing.{AppendsFront}
 use Rattle.pks_terms.specs.Sets.{Each}
 use Rattle.pks_terms.specs.Syntax.{Inner}
 use Rattle.pks_terms.specs.Actions.{Instance}
 use Rattle.pks_terms.specs.Signatures.{Signature}
-use Rattle.pks_terms.specs.Printed.{Text, Names}
-use Rattle.pks_terms.specs.Talk.{Talked, Over, Unfit, Missing, Statement, said_text, talked_text, GoesOn, saying, asking_each, do_text}
+use Rattle.pks_terms.specs.Printed.{Text, Names, line}
+use Rattle.pks_terms.specs.Talk.{Talked, Over, Unfit, Missing, Said, Statement, said_text, talked_text, GoesOn, saying, asking_each, do_text}
 use Rattle.pks_exec.specs.Runs.{ending_of}
 use Rattle.pks_exec.specs.declared.runs.End.{End}
-use Rattle.pks_agent.specs.Bounds.{IsShortLine}
-use Rattle.pks_agent.specs.Hearing.{FaultRose, BothStand, OtherStands}
+use Rattle.pks_agent.specs.Bounds.{IsShortLine, asked_in}
+use Rattle.pks_agent.specs.Hearing.{LeavesBehindUnfit, FaultRose, BothStand, OtherStands}
 use Rattle.pks_agent.specs.declared.ends.TalkEnd.{TalkEnd}
 use Rattle.pks_agent.specs.declared.ends.TalkEnd.TheVariants.{Misfit, Silent, Failed}
+use Rattle.pks_agent.specs.declared.peers.PeerFault.TheVariants.{Send, Receive}
 
--- what a dialogue said and how it ended, by the text said before and after and by the answers that are left: its lines, or after a fault a front of them
-abbrev pub Led : Option Text → Option Text → Option (List Text) → Result End TalkEnd → Talked → Type 0
-Led old new left (Ok end) talked = (talked.end ≡ Over (ending_of end)) × Appends old new (talked_text talked) × (left ≡ Some talked.left)
-Led old new left (Err (Misfit k)) talked = (talked.end ≡ Unfit k) × Appends old new (talked_text talked)
-Led old new left (Err (Silent k)) talked = (talked.end ≡ Missing k) × Appends old new (talked_text talked)
-Led old new left (Err (Failed fault)) talked = AppendsFront old new (talked_text talked)
+-- one of the answers isn't fit: it was taken, or a front of it where it is too long, and the others stand behind it
+abbrev pub LeavesUnfit : List Text → List Text → Option (List Text) → Type 0
+LeavesUnfit answers others left = (given : List Text) × (unfit : Text) × (answers ≡ given ++ unfit ∷ others) × LeavesBehindUnfit unfit others left
+
+-- sending failed at a line: those before it were said, of itself a front, and the answers that are left are those that the lines before it didn't ask for
+pub record BreaksOff (old new : Option Text) (answers : List Text) (left : Option (List Text)) (talked : Talked) : Type 0 where
+  pub before : List Said
+  pub said : Said
+  pub after : List Said
+  pub lines : talked.lines ≡ before ++ said ∷ after
+  pub mid : Option Text
+  pub whole : Appends old mid (flat_map (λ x. line (said_text x)) before)
+  pub front : AppendsFront mid new (line (said_text said))
+  pub stay : left ≡ Some (drop (asked_in before) answers)
+
+-- what a dialogue said and how it ended, by the text said before and after and by the answers before and those that are left: its lines, or after a fault a front of them
+abbrev pub Led : Option Text → Option Text → List Text → Option (List Text) → Result End TalkEnd → Talked → Type 0
+Led old new answers left (Ok end) talked = (talked.end ≡ Over (ending_of end)) × Appends old new (talked_text talked) × (left ≡ Some talked.left)
+Led old new answers left (Err (Misfit k)) talked = (talked.end ≡ Unfit k) × Appends old new (talked_text talked) × LeavesUnfit answers talked.left left
+Led old new answers left (Err (Silent k)) talked = (talked.end ≡ Missing k) × Appends old new (talked_text talked) × (left ≡ Some [])
+Led old new answers left (Err (Failed Send)) talked = BreaksOff old new answers left talked
+Led old new answers left (Err (Failed Receive)) talked = AppendsFront old new (talked_text talked)
 
 -- where the peer failed, the count of such faults rose
 abbrev pub EndRose : ℕ → ℕ → ℕ → ℕ → TalkEnd → Type 0
@@ -76,7 +94,7 @@ moment answers said sends receipts kept sure peer = record { answers = answers p
 
 -- the dialogue that comes of the answers was led, a fault has its cause, and the peer borrows the same places
 pub record IsLed (m m' : Moment) (result : Result End TalkEnd) (talk : List Text → Talked) : Type 0 where
-  pub led : IfSome m.answers (λ answers. Led m.said m'.said m'.answers result (talk answers))
+  pub led : IfSome m.answers (λ answers. Led m.said m'.said answers m'.answers result (talk answers))
   pub safe : IfSome m.answers (λ answers. IsSafe m.sure result (talk answers))
   pub cause : HasTalkCause m.sends m'.sends m.receipts m'.receipts result
   pub kept : m'.kept ≡ m.kept

@@ -178,7 +178,8 @@ fn walk_case<P: Peer>(
 /// Where the peer tells its answers, the text said is the lines of the dialogue that comes of them, or where the peer failed a front of
 /// these. `Misfit` comes exactly where the answer with its number isn't fit or is too long, `Silent` exactly where it is missing, `Failed` only
 /// where that count of the peer's faults rose, which stands still else, and only where a line has more than 8,192 bytes or there are more
-/// lines than calls of the peer that surely don't fail. Where the dialogue comes to its end, the answers that are left are those that it doesn't take.
+/// lines than calls of the peer that surely don't fail. The answers that are left are those that the dialogue doesn't take; of one that is
+/// too long the end may be left, and where sending failed they are those that no line before asked for.
 #[tactic(auto, unfolding(pks_terms::specs::Talk::talk))]
 pub fn converse<P: Peer>(
     p: &Problem<'_>,
@@ -188,7 +189,7 @@ pub fn converse<P: Peer>(
 ) -> Result<End, TalkEnd>
     requires objects { length p.now.signature.objects ≤ 65536 }
     requires room { IsRoomOf (names_of p.now) (tree_of t.now) room.old }
-    ensures led { IfSome (P.answers peer.old) (λ answers. Led (P.said peer.old) (P.said peer.new) (P.answers peer.new) result (talk (signature_of p.now.signature) (names_of p.now) (tree_of t.now) answers)) }
+    ensures led { IfSome (P.answers peer.old) (λ answers. Led (P.said peer.old) (P.said peer.new) answers (P.answers peer.new) result (talk (signature_of p.now.signature) (names_of p.now) (tree_of t.now) answers)) }
     ensures safe { IfSome (P.answers peer.old) (λ answers. IsSafe (P.sure peer.old) result (talk (signature_of p.now.signature) (names_of p.now) (tree_of t.now) answers)) }
     ensures cause { HasTalkCause (P.sends peer.old) (P.sends peer.new) (P.receipts peer.old) (P.receipts peer.new) result }
     ensures kept { P.kept peer.new ≡ P.kept peer.old }

@@ -1,5 +1,5 @@
 //! The laws of dialogues, each the clause of a function that does nothing.
-ghost use Rattle.std.specs.Prelude.{◌≡◌, ◌≤◌, [], List, ◌++◌, Result, Err};
+ghost use Rattle.std.specs.Prelude.{◌≡◌, ◌≤◌, [], List, ◌++◌, Option, Result, Err};
 ghost use Rattle.pks_terms.specs.Answers.{unjustified};
 ghost use Rattle.pks_terms.specs.Handed.{IsTreeOf};
 ghost use Rattle.pks_terms.specs.Knowledge.{AtGoal, Good, run_of};
@@ -13,14 +13,14 @@ ghost use Rattle.pks_terms.specs.Valid.{IsValid};
 ghost use Rattle.pks_terms.specs.Worlds.{World};
 ghost use Rattle.pks_plan.specs.Naming.{AreNamesOf};
 ghost use Rattle.pks_exec.specs.declared.runs.End.{End};
-ghost use Rattle.pks_agent.specs.Leading.{IsSafe};
+ghost use Rattle.pks_agent.specs.Leading.{Led, IsSafe};
 ghost use Rattle.pks_agent.specs.Memory.{peer_failing, peer_calls, peer_sure};
 ghost use Rattle.pks_agent.specs.declared.memory.MemPeer.{MemPeer};
 ghost use Rattle.pks_agent.specs.declared.peers.PeerFault.{PeerFault};
 ghost use Rattle.pks_agent.specs.declared.ends.TalkEnd.{TalkEnd};
 ghost use Rattle.pks_agent.specs.Along.{AreShort, LeadsAlong};
 ghost use Rattle.pks_agent.specs.Bounds.{IsWithin, IsShortTalk, HasShortNames, HasSmallTests, HasSmallFormulas, Begins, StandFirst};
-ghost use Rattle.pks_agent.specs.Fitting.{IsFront, ComesOfFit};
+ghost use Rattle.pks_agent.specs.Fitting.{IsFront, ComesOfFit, TakesFit};
 
 /// Where the answers are what is so in a world, the actions that are told and the end are those of the run in it.
 pub fn answers_of_a_world_lead_along_its_run()
@@ -65,6 +65,13 @@ pub fn what_was_told_begins_a_good_run()
 /// the lines of the dialogue with these answers alone, or a front of them. The others change nothing of it.
 pub fn lines_come_of_fit_answers()
     ensures { (s : Signature) (names : Names) (t : Tree) (answers : List Text) (text : Text) → IsFront text (talked_text (talk s names t answers)) → (fit : List Text) × ComesOfFit s names t answers fit text }
+{}
+
+/// However a dialogue was led, what was said comes of the first answers, each of which was fit, and behind them these are left: all others, but for
+/// one that is refused, of which the end may be left where it has more than 64 bytes; where receiving failed it isn't known which.
+pub fn answers_behind_the_fit_ones_are_left()
+    ensures { (s : Signature) (names : Names) (t : Tree) (answers : List Text) (old new : Option Text) (left : Option (List Text)) (result : Result End TalkEnd) → Led old new answers left result (talk s names t answers) →
+        TakesFit s names t answers old new left result }
 {}
 
 /// Where a compatible world begins with these answers, the actions and the end that are told by them begin those of the run of the plan in

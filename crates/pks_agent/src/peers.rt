@@ -23,7 +23,7 @@ pub enum PeerFault {
 pub enum Heard {
     /// The next answer was taken.
     Line,
-    /// The next answer has more than 64 bytes.
+    /// The next answer has more than 64 bytes; it was taken, or a front of it.
     Long,
     /// No answer is left.
     End,
@@ -61,7 +61,7 @@ pub trait Peer {
 
     /// Says the line and a line feed, and takes the next answer. `Long` comes exactly where that has more than 64
     /// bytes, `End` exactly where none is left. Where sending fails a front of the text was said and the answers
-    /// stay; after `Long` and where receiving fails nothing is known of the answers that are left.
+    /// stay; after `Long` the end of that answer may be left before the others; where receiving fails nothing is known of those left.
     fn ask(&mut self, text: &[u8], into: &mut Answer) -> Result<Heard, PeerFault>
         ensures ok { OnOk result (Appends (said self.old) (said self.new) (line text.now)) }
         ensures err { OnErr result (AppendsFront (said self.old) (said self.new) (line text.now)) }

@@ -101,7 +101,7 @@ fn converse_on<S: Source, K: Sink>(
     requires objects { length p.now.signature.objects ≤ 65536 }
     requires room { IsRoomOf (names_of p.now) (tree_of t.now) room.old }
     ensures led { IfSome (answers_coming (coming wire.old.ahead (S.left wire.old.source.now))) (λ answers. Led (K.written wire.old.sink.now) (K.written wire.new.sink.now)
-        (answers_coming (coming wire.new.ahead (S.left wire.new.source.now))) result (talk (signature_of p.now.signature) (names_of p.now) (tree_of t.now) answers)) }
+        answers (answers_coming (coming wire.new.ahead (S.left wire.new.source.now))) result (talk (signature_of p.now.signature) (names_of p.now) (tree_of t.now) answers)) }
     ensures cause { HasTalkCause (K.faults wire.old.sink.now) (K.faults wire.new.sink.now) (S.faults wire.old.source.now) (S.faults wire.new.source.now) result }
     ensures few { length (ahead_of wire.new.ahead) ≤ 512 }
     ensures same_source { wire.new.source.ghost_name ≡ wire.old.source.ghost_name }
@@ -116,8 +116,9 @@ fn converse_on<S: Source, K: Sink>(
 /// then from the source.
 ///
 /// Where the source tells the bytes that are left, the text that is written is the lines of the dialogue that comes of these answers,
-/// or after a fault a front of these. `Failed` comes only where the count of that side rose, which stands still else. At the end of the
-/// dialogue what was read ahead of the answers that it takes, at most 512 bytes, and what the source has left are the other answers.
+/// or after a fault a front of these. `Failed` comes only where the count of that side rose, which stands still else. What was read ahead, at
+/// most 512 bytes, and what the source has left are then the other answers; of one that is too long the end may be left, where writing
+/// failed they are those that no line before asked for, and where reading failed nothing is known of them.
 pub fn converse_over<S: Source, K: Sink>(
     p: &Problem<'_>,
     t: &Tree,
@@ -128,10 +129,8 @@ pub fn converse_over<S: Source, K: Sink>(
 ) -> Result<End, TalkEnd>
     requires objects { length p.now.signature.objects ≤ 65536 }
     requires room { IsRoomOf (names_of p.now) (tree_of t.now) room.old }
-    ensures led { IfSome (answers_coming (coming ahead (S.left source.old))) (λ answers. (kept : ReadAhead) × Led (K.written sink.old) (K.written sink.new)
-        (answers_coming (coming kept (S.left source.new))) result (talk (signature_of p.now.signature) (names_of p.now) (tree_of t.now) answers)) }
-    ensures few { IfSome (answers_coming (coming ahead (S.left source.old))) (λ answers. (kept : ReadAhead) × (length (ahead_of kept) ≤ 512) × Led (K.written sink.old) (K.written sink.new)
-        (answers_coming (coming kept (S.left source.new))) result (talk (signature_of p.now.signature) (names_of p.now) (tree_of t.now) answers)) }
+    ensures led { IfSome (answers_coming (coming ahead (S.left source.old))) (λ answers. (kept : ReadAhead) × (length (ahead_of kept) ≤ 512) × Led (K.written sink.old) (K.written sink.new)
+        answers (answers_coming (coming kept (S.left source.new))) result (talk (signature_of p.now.signature) (names_of p.now) (tree_of t.now) answers)) }
     ensures cause { HasTalkCause (K.faults sink.old) (K.faults sink.new) (S.faults source.old) (S.faults source.new) result }
 {
     let mut wire = Wire::over(ahead, source, sink);

@@ -7,7 +7,7 @@ use Rattle.pks_terms.specs.Jobs.{Agent}
 use Rattle.pks_terms.specs.Valid.{IsValid}
 use Rattle.pks_terms.specs.Trees.{Tree, IsBest}
 use Rattle.pks_terms.specs.Printed.{Text, Refusal, refusal_text}
-use Rattle.pks_terms.specs.Talk.{Talked, TalkEnd as Talk, Over, Unfit, Missing, lines_of, talked_text, file_text, stop_line, IsOver, RefusesAnswer, answer_refusal}
+use Rattle.pks_terms.specs.Talk.{Talked, TalkEnd as Talk, Over, Unfit, Missing, lines_of, talked_text, answers_in, file_text, stop_line, IsOver, RefusesAnswer, answer_refusal}
 use Rattle.pks_terms.specs.Answers as answers
 use Rattle.pks_terms.specs.Answers.{Reading, ReadAs, Faulty, File, IsAccepted, IsDone, IsTalkRefused, IsUnplanned, RefusesFile, NoneApplies, talk_in, PrintsTalk, PrintsTalkRefused}
 use Rattle.pks_exec.specs.declared.runs.End.{End}
@@ -15,19 +15,20 @@ use Rattle.pks_agent.specs.declared.ahead.ReadAhead.{ReadAhead}
 use Rattle.pks_agent.specs.declared.ends.TalkEnd.{TalkEnd}
 use Rattle.pks_agent.specs.declared.ends.TalkEnd.TheVariants.{Misfit, Silent, Failed}
 use Rattle.pks_agent.specs.declared.peers.PeerFault.TheVariants.{Send, Receive}
-use Rattle.pks_agent.specs.Fitting.{IsFront}
-use Rattle.pks_agent.specs.Leading.{Led, HasTalkCause}
+use Rattle.pks_agent.specs.Fitting.{ComesOfFit, LeavesRefused, LeavesBehind, TakesFit}
+use Rattle.pks_agent.specs.Leading.{BreaksOff, Led, HasTalkCause}
 use Rattle.pks_agent.specs.Streams.{ahead_of, coming, answers_coming}
-use Rattle.pks_agent.proofs.Joining.{appends_more, front_behind, front_first}
+use Rattle.pks_agent.proofs.Fitting.{takes_fit}
+use Rattle.pks_agent.proofs.Joining.{appends_more, front_behind, front_first, front_broken}
 use Rattle.pks_agent.proofs.AlongRuns.{plan_led}
 use Rattle.pks_plan.specs.Naming.{AreNamesOf}
 use Rattle.pks_reader.specs.Inputs.{Reads, IsRead}
 use Rattle.pks_run_answer.proofs.Lasting.{best_is_good}
 use Rattle.pks_run_answer.proofs.OneReply.{all_justified, one_refusal, one_tree, none_or_tree, one_unplanned}
 use Rattle.pks_run.proofs.ShortNames.{read_short}
-use Rattle.pks_run.specs.Answer.{AnswersJob, IsAnswered, IsReplyTo, LeadsFront, LeavesAnswers}
-use Rattle.pks_run.proofs.Telling.{told_well, front_of, whole_front}
-use Rattle.pks_run.specs.Leads.{HasCauses, line_refused, WritesRefusal, Concludes, IsWellLed, WritesTold, TellsWell, TellsBest, Converses}
+use Rattle.pks_run.specs.Answer.{AnswersJob, IsAnswered, IsReplyTo, LeadsFront, OfAnswersLeft, LeavesAnswers}
+use Rattle.pks_run.proofs.Telling.{told_well}
+use Rattle.pks_run.specs.Leads.{HasCauses, line_refused, WritesRefusal, Concludes, IsWellLed, WritesTold, LeavesTold, TellsWell, TellsBest, Converses}
 use Rattle.pks_run.specs.declared.status.Status.{Status}
 use Rattle.pks_run.specs.declared.status.Status.TheVariants.{Done, NoPlan, Words, Refused, ReadFault, WriteFault, Memory}
 
@@ -241,20 +242,20 @@ module _ (n : ℕ) (input : Text) (f : File) (read : IsRead (file_text input) f)
         -- what comes of its end
         module _ (old mid new left : Option Text) (writes writes' stop : ℕ) (stop_is : stop ≡ stop_line input) where
           -- what was told of it was told of the best plan of the accepted input
-          told_here : (s : Status) (x : Text) → IsFront x (talked_text talked) → WritesTold input talked x old new s → TellsBest n input old new s
-          told_here s x front written = λ g u accepted best_u.
+          told_here : (s : Status) (fit : List Text) (x : Text) (comes : ComesOfFit f.problem.signature f.names t (answers_in input) fit x) → WritesTold input talked x old new s → OfAnswersLeft (LeavesTold comes.first.0 s) left → TellsBest n input old new left s
+          told_here s fit x comes written leaves = λ g u accepted best_u.
               let same : g ≡ f = this_file g accepted.reads in
               let best_here : IsBest f.problem n (Some u) = subst (λ (h : File). IsBest h.problem n (Some u)) same best_u in
-              subst (λ (h : File). TellsWell h u input old new s) (sym same) (subst (λ (v : Tree). TellsWell f v input old new s) (one_tree f.problem n t u best best_here) (told_well n input f t accepts best old new s x front written))
+              subst (λ (h : File). TellsWell h u input old new left s) (sym same) (subst (λ (v : Tree). TellsWell f v input old new left s) (one_tree f.problem n t u best best_here) (told_well n input f t accepts best old new left s fit x comes written leaves))
 
-          left_out : (kept : ReadAhead) (others : List Text) → answers_coming (coming kept left) ≡ Some others → option_map (λ bytes. lines_of (ahead_of kept ++ bytes)) left ≡ Some others
-          left_out kept others e = by_left left e
+          left_out : (P : Option (List Text) → Type 0) (kept : ReadAhead) → length (ahead_of kept) ≤ 512 → P (answers_coming (coming kept left)) → OfAnswersLeft P left
+          left_out P kept few so = (ahead_of kept, few, by_left left so)
             where
-              by_left : (l : Option Text) → answers_coming (coming kept l) ≡ Some others → option_map (λ bytes. lines_of (ahead_of kept ++ bytes)) l ≡ Some others
-              by_left None e = e
-              by_left (Some bytes) e = e
+              by_left : (l : Option Text) → P (answers_coming (coming kept l)) → P (option_map (λ bytes. lines_of (ahead_of kept ++ bytes)) l)
+              by_left None so = so
+              by_left (Some bytes) so = so
 
-          whole : (s : Status) (x : Text) → TalkAnswers input talked s x → Appends old new x → (s ≡ Done → LeavesAnswers n input left) → TellsBest n input old new s → Converses n input old new left s
+          whole : (s : Status) (x : Text) → TalkAnswers input talked s x → Appends old new x → (s ≡ Done → LeavesAnswers n input left) → TellsBest n input old new left s → Converses n input old new left s
           whole s x a appends taken told = record {
             answered = λ h. (x, talked_reply s x a, appends);
             front = λ e. answered_fault s (is_answered s a) e;
@@ -272,7 +273,7 @@ module _ (n : ℕ) (input : Text) (f : File) (read : IsRead (file_text input) f)
               is_answered WriteFault a = absurd a
               is_answered Memory a = absurd a
 
-          broken : (s : Status) → (IsAnswered s → ⊥) → LeadsFront n input old new → TellsBest n input old new s → Converses n input old new left s
+          broken : (s : Status) → (IsAnswered s → ⊥) → LeadsFront n input old new → TellsBest n input old new left s → Converses n input old new left s
           broken s cut front told = record {
             answered = λ h. absurd (cut h);
             front = λ e. front;
@@ -282,12 +283,13 @@ module _ (n : ℕ) (input : Text) (f : File) (read : IsRead (file_text input) f)
           }
 
           -- a fault cut it short
-          cut_short : (s : Status) → (IsAnswered s → ⊥) → ((x : Text) → Appends old new x → WritesTold input talked x old new s) → AppendsFront old new (talked_text talked) → Converses n input old new left s
-          cut_short s cut written front = broken s cut (some_front old new front) (told_here s (take front.0 (talked_text talked)) (front_of (talked_text talked) front.0) (written (take front.0 (talked_text talked)) front.2))
+          cut_short : (s : Status) → (IsAnswered s → ⊥) → AppendsFront old new (talked_text talked) → TellsBest n input old new left s → Converses n input old new left s
+          cut_short s cut front told = broken s cut (some_front old new front) told
 
           -- an answer was refused
-          refusing : (k code : ℕ) (s : Status) → RefusesAnswer input talked.end (answer_refusal input k code) → Appends old mid (talked_text talked) → WritesRefusal (line_refused (stop + k) code) mid new writes writes' s → Converses n input old new left s
-          refusing k code s refuses said written = by_status s (subst (λ i. WritesRefusal (line_refused (i + k) code) mid new writes writes' s) stop_is written)
+          refusing : (k code : ℕ) (s : Status) (fit : List Text) (x : Text) (comes : ComesOfFit f.problem.signature f.names t (answers_in input) fit x) → x ≡ talked_text talked → RefusesAnswer input talked.end (answer_refusal input k code) → Appends old mid (talked_text talked)
+              → OfAnswersLeft (LeavesRefused comes.first.0) left → WritesRefusal (line_refused (stop + k) code) mid new writes writes' s → Converses n input old new left s
+          refusing k code s fit x comes all refuses said leaves written = by_status s (subst (λ i. WritesRefusal (line_refused (i + k) code) mid new writes writes' s) stop_is written)
             where
               r : Refusal
               r = answer_refusal input k code
@@ -295,30 +297,48 @@ module _ (n : ℕ) (input : Text) (f : File) (read : IsRead (file_text input) f)
               by_status : (s : Status) → WritesRefusal (refusal_text r) mid new writes writes' s → Converses n input old new left s
               by_status Refused w =
                   let appends = appends_more old mid new (talked_text talked) (refusal_text r) said w.0 in
-                  whole Refused (talked_text talked ++ refusal_text r) (r, refuses, refl) appends (λ e. refused_is e) (told_here Refused (talked_text talked) (whole_front (talked_text talked)) (refl, (r, refuses, appends)))
+                  whole Refused (talked_text talked ++ refusal_text r) (r, refuses, refl) appends (λ e. refused_is e)
+                  (told_here Refused fit x comes (all, (r, refuses, subst (λ (y : Text). Appends old new (y ++ refusal_text r)) (sym all) appends)) leaves)
               by_status WriteFault w =
                   let front = front_behind old mid new (talked_text talked) (refusal_text r) said w.0 in
                   broken WriteFault (λ h. h) (Refused, talked_text talked ++ refusal_text r, talk_answers Refused (talked_text talked ++ refusal_text r) (r, refuses, refl), front)
-                  (told_here WriteFault (talked_text talked) (whole_front (talked_text talked)) (inr (refl, (r, refuses, front))))
+                  (told_here WriteFault fit x comes (inr (all, (r, refuses, subst (λ (y : Text). AppendsFront old new (y ++ refusal_text r)) (sym all) front))) (leaves.0, leaves.1, inr leaves.2))
               by_status Done w = absurd w
               by_status NoPlan w = absurd w
               by_status Words w = absurd w
               by_status ReadFault w = absurd w
               by_status Memory w = absurd w
 
-          pub comes_to : (ended : Result End TalkEnd) (s : Status) (kept : ReadAhead) → length (ahead_of kept) ≤ 512 → Led old mid (answers_coming (coming kept left)) ended talked → Concludes ended stop mid new writes writes' s → Converses n input old new left s
-          comes_to (Ok end) s kept few led ends =
-              let is_over = subst IsOver (sym led.0) tt in
-              let appends = subst (λ m. Appends old m (talked_text talked)) (sym ends.1) led.1 in
-              subst (λ t. Converses n input old new left t) (sym ends.0)
-              (whole Done (talked_text talked) (is_over, refl) appends (λ e. (f, accepts, (t, best, (ahead_of kept, few, left_out kept talked.left led.2))))
-              (told_here Done (talked_text talked) (whole_front (talked_text talked)) (refl, is_over, appends)))
-          comes_to (Err (Misfit k)) s kept few led ends = refusing k 320 s (subst (λ end. RefusesAnswer input end (answer_refusal input k 320)) (sym led.0) refl) led.1 ends
-          comes_to (Err (Silent k)) s kept few led ends = refusing k 321 s (subst (λ end. RefusesAnswer input end (answer_refusal input k 321)) (sym led.0) refl) led.1 ends
-          comes_to (Err (Failed Send)) s kept few led ends =
-              subst (λ t. Converses n input old new left t) (sym ends.0) (cut_short WriteFault (λ h. h) (λ x appends. inl appends) (subst (λ m. AppendsFront old m (talked_text talked)) (sym ends.1) led))
-          comes_to (Err (Failed Receive)) s kept few led ends =
-              subst (λ t. Converses n input old new left t) (sym ends.0) (cut_short ReadFault (λ h. h) (λ x appends. appends) (subst (λ m. AppendsFront old m (talked_text talked)) (sym ends.1) led))
+          module _ (kept : ReadAhead) (few : length (ahead_of kept) ≤ 512) where
+            abbrev LedHere : Result End TalkEnd → Type 0
+            LedHere ended = Led old mid (answers_in input) (answers_coming (coming kept left)) ended talked
+
+            takes : (ended : Result End TalkEnd) → LedHere ended → TakesFit f.problem.signature f.names t (answers_in input) old mid (answers_coming (coming kept left)) ended
+            takes ended led = takes_fit f.problem.signature f.names t (answers_in input) old mid (answers_coming (coming kept left)) ended led
+
+            pub comes_to : (ended : Result End TalkEnd) (s : Status) → LedHere ended → Concludes ended stop mid new writes writes' s → Converses n input old new left s
+            comes_to (Ok end) s led ends =
+                let is_over = subst IsOver (sym led.0) tt in
+                let appends = subst (λ m. Appends old m (talked_text talked)) (sym ends.1) led.1 in
+                let taken = takes (Ok end) led in
+                subst (λ t. Converses n input old new left t) (sym ends.0)
+                (whole Done (talked_text talked) (is_over, refl) appends (λ e. (f, accepts, (t, best, left_out (λ answers. answers ≡ Some talked.left) kept few led.2)))
+                (told_here Done taken.fit taken.text taken.comes (taken.whole, is_over, subst (λ m. Appends old m taken.text) (sym ends.1) taken.appends) (left_out (LeavesTold taken.comes.first.0 Done) kept few taken.left_is)))
+            comes_to (Err (Misfit k)) s led ends =
+                let taken = takes (Err (Misfit k)) led in
+                refusing k 320 s taken.fit taken.text taken.comes taken.whole (subst (λ end. RefusesAnswer input end (answer_refusal input k 320)) (sym led.0) refl) led.1 (left_out (LeavesRefused taken.comes.first.0) kept few taken.left_is) ends
+            comes_to (Err (Silent k)) s led ends =
+                let taken = takes (Err (Silent k)) led in
+                refusing k 321 s taken.fit taken.text taken.comes taken.whole (subst (λ end. RefusesAnswer input end (answer_refusal input k 321)) (sym led.0) refl) led.1 (left_out (LeavesRefused taken.comes.first.0) kept few taken.left_is) ends
+            comes_to (Err (Failed Send)) s led ends =
+                let taken = takes (Err (Failed Send)) led in
+                let front = front_broken old mid (answers_in input) (answers_coming (coming kept left)) talked led in
+                subst (λ t. Converses n input old new left t) (sym ends.0) (cut_short WriteFault (λ h. h) (subst (λ m. AppendsFront old m (talked_text talked)) (sym ends.1) front)
+                (told_here WriteFault taken.fit taken.text taken.comes (inl (subst (λ m. Appends old m taken.text) (sym ends.1) taken.appends)) (left_out (LeavesTold taken.comes.first.0 WriteFault) kept few (inl taken.left_is))))
+            comes_to (Err (Failed Receive)) s led ends =
+                let taken = takes (Err (Failed Receive)) led in
+                subst (λ t. Converses n input old new left t) (sym ends.0) (cut_short ReadFault (λ h. h) (subst (λ m. AppendsFront old m (talked_text talked)) (sym ends.1) led)
+                (told_here ReadFault taken.fit taken.text taken.comes (subst (λ m. Appends old m taken.text) (sym ends.1) taken.appends) (left_out (LeavesTold taken.comes.first.0 ReadFault) kept few tt)))
 
 -- ---- causes
 

@@ -68,7 +68,7 @@ memory_conversed n input old left = record {
   front = λ cut. memory_or_fault cut;
   taken = λ done. memory_done done;
   led = λ done. memory_done done;
-  told = memory_told n input old;
+  told = memory_told n input old left;
 }
   where
     memory_done : {A : Type 0} → Memory ≡ Done → A
@@ -88,7 +88,7 @@ unread_led n input old left = record {
   front = λ cut. read_or_write cut;
   taken = λ done. read_done done;
   led = λ done. read_done done;
-  told = unread_told n input old;
+  told = unread_told n input old left;
 }
   where
     read_done : {A : Type 0} → ReadFault ≡ Done → A

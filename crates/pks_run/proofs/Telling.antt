@@ -1,6 +1,5 @@
 -- What a dialogue told comes of the answers that were read and fit, and its plan is good.
-use Rattle.std.proofs.Common.{◌≡◌, ◌⊎◌, ◌∙◌, List, [], ◌∷◌, ◌++◌, ℕ, take, drop, Option, Some, None, inl, inr, refl, sym, ap, subst, append-nil}
-use Rattle.std.proofs.lemmas.List.{take-append-drop}
+use Rattle.std.proofs.Common.{◌≡◌, ◌⊎◌, ◌∙◌, List, [], ◌∷◌, ◌++◌, ℕ, Option, Some, None, inl, inr, refl, sym, ap, subst, append-nil, arith}
 use Rattle.std.specs.Io.KnownBytes.{Appends}
 use Rattle.pks_io.specs.Writing.{AppendsFront}
 use Rattle.pks_terms.specs.Jobs.{Agent}
@@ -11,7 +10,7 @@ use Rattle.pks_terms.specs.Printed.{Text, Names}
 use Rattle.pks_terms.specs.Talk.{talk, answers_in, file_text, talked_text, world_answers}
 use Rattle.pks_terms.specs.Answers.{File, IsAccepted, talk_in}
 use Rattle.pks_plan.specs.Naming.{AreNamesOf}
-use Rattle.pks_agent.specs.Fitting.{IsFront}
+use Rattle.pks_agent.specs.Fitting.{ComesOfFit}
 use Rattle.pks_agent.proofs.AlongRuns.{plan_led}
 use Rattle.pks_agent.proofs.Beginning.{begins_run}
 use Rattle.pks_agent.proofs.Fitting.{comes_of_fit}
@@ -28,7 +27,8 @@ use Rattle.pks_reader.proofs.Firsts.{faultless, meaning_first}
 use Rattle.pks_reader.proofs.Parted.{of_version}
 use Rattle.pks_run_answer.proofs.OneReply.{all_justified}
 use Rattle.pks_run.proofs.ShortNames.{read_short}
-use Rattle.pks_run.specs.Leads.{LeadsToGoal, WritesTold, TellsWell, TellsBest}
+use Rattle.pks_run.specs.Answer.{OfAnswersLeft}
+use Rattle.pks_run.specs.Leads.{LeadsToGoal, WritesTold, LeavesTold, TellsWell, TellsBest}
 use Rattle.pks_run.specs.declared.status.Status.{Status}
 use Rattle.pks_run.specs.declared.status.Status.TheVariants.{ReadFault, Memory}
 
@@ -57,23 +57,23 @@ read_valid input f r =
 -- ---- what was told
 
 module _ (n : ℕ) (input : Text) where
-  -- any front of the dialogue of the best plan is told well
-  pub told_well : (f : File) (t : Tree) → IsAccepted Reads (Agent n) input f → IsBest f.problem n (Some t) → (old new : Option Text) (status : Status) (text : Text) → IsFront text (talked_text (talk_in f input t))
-      → WritesTold input (talk_in f input t) text old new status → TellsWell f t input old new status
-  told_well f t accepted best old new status text front written =
+  -- what comes of the answers that are fit in the dialogue of the best plan is told well
+  pub told_well : (f : File) (t : Tree) → IsAccepted Reads (Agent n) input f → IsBest f.problem n (Some t) → (old new left : Option Text) (status : Status) (fit : List Text) (text : Text) (comes : ComesOfFit f.problem.signature f.names t (answers_in input) fit text)
+      → WritesTold input (talk_in f input t) text old new status → OfAnswersLeft (LeavesTold comes.first.0 status) left → TellsWell f t input old new left status
+  told_well f t accepted best old new left status fit text comes written leaves =
       let names = f.names in
       let read = read_valid (file_text input) f accepted.reads in
       let led = plan_led f.problem names read.0 read.1 (read_short (file_text input) f accepted.reads) t in
-      let comes = comes_of_fit f.problem.signature names t (answers_in input) text front in
       record {
-        fit = comes.0;
+        fit = fit;
         text = text;
-        comes = comes.1;
+        comes = comes;
         written = written;
+        leaves = leaves;
         leads = λ w fits. let l = led w (all_justified (Agent n) f accepted.fine) best.0.0 fits in record { along = l.0; good = l.1; goal = l.2 };
         begins = λ w fits first.
             let l = led w (all_justified (Agent n) f accepted.fine) best.0.0 fits in
-            begins_run f.problem names t w l.0 comes.0 first.0 [] (sym (append-nil (world_answers f.problem names t w) ∙ first.1));
+            begins_run f.problem names t w l.0 fit first.0 [] (sym (append-nil (world_answers f.problem names t w) ∙ first.1));
       }
 
   appends_nothing : (old : Option Text) → Appends old old []
@@ -81,16 +81,13 @@ module _ (n : ℕ) (input : Text) where
   appends_nothing (Some o) = sym (append-nil o)
 
   -- where memory was wanting nothing was told
-  pub memory_told : (old : Option Text) → TellsBest n input old old Memory
-  memory_told old = λ f t accepted best. told_well f t accepted best old old Memory [] (talked_text (talk_in f input t), refl) (refl, appends_nothing old)
+  pub memory_told : (old left : Option Text) → TellsBest n input old old left Memory
+  memory_told old left = λ f t accepted best.
+      let comes = comes_of_fit f.problem.signature f.names t (answers_in input) [] (talked_text (talk_in f input t), refl) in
+      told_well f t accepted best old old left Memory comes.0 [] comes.1 (refl, appends_nothing old) ([], omega arith, tt)
 
   -- nor was it where reading the file failed
-  pub unread_told : (old : Option Text) → TellsBest n input old old ReadFault
-  unread_told old = λ f t accepted best. told_well f t accepted best old old ReadFault [] (talked_text (talk_in f input t), refl) (appends_nothing old)
-
--- a front of a text stands first in it
-pub front_of : (text : Text) (k : ℕ) → IsFront (take k text) text
-front_of text k = (drop k text, sym (take-append-drop k text))
-
-pub whole_front : (text : Text) → IsFront text text
-whole_front text = ([], sym (append-nil text))
+  pub unread_told : (old left : Option Text) → TellsBest n input old old left ReadFault
+  unread_told old left = λ f t accepted best.
+      let comes = comes_of_fit f.problem.signature f.names t (answers_in input) [] (talked_text (talk_in f input t), refl) in
+      told_well f t accepted best old old left ReadFault comes.0 [] comes.1 (appends_nothing old) ([], omega arith, tt)

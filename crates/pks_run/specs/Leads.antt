@@ -17,9 +17,9 @@ use Rattle.pks_agent.specs.declared.ends.TalkEnd.TheVariants.{Misfit, Silent, Fa
 use Rattle.pks_agent.specs.declared.peers.PeerFault.TheVariants.{Send, Receive}
 use Rattle.pks_agent.specs.Along.{LeadsAlong}
 use Rattle.pks_agent.specs.Bounds.{StandFirst}
-use Rattle.pks_agent.specs.Fitting.{ComesOfFit}
+use Rattle.pks_agent.specs.Fitting.{ComesOfFit, LeavesRefused}
 use Rattle.pks_reader.specs.Inputs.{Reads}
-use Rattle.pks_run.specs.Answer.{IsAnswered, IsReplyTo, LeadsFront, LeavesAnswers}
+use Rattle.pks_run.specs.Answer.{IsAnswered, IsReplyTo, LeadsFront, OfAnswersLeft, LeavesAnswers}
 use Rattle.pks_run.specs.declared.status.Status.{Status}
 use Rattle.pks_run.specs.declared.status.Status.TheVariants.{Done, NoPlan, Words, Refused, ReadFault, WriteFault, Memory}
 
@@ -90,18 +90,29 @@ WritesTold input talked text old new Memory = (text ≡ []) × Appends old new t
 WritesTold input talked text old new NoPlan = ⊥
 WritesTold input talked text old new Words = ⊥
 
--- what was told of a plan comes of the answers that were read and fit, and that plan leads to its goal in each compatible world; where these answers are the first in it, what they make told begins the run in it
-pub record TellsWell (f : File) (t : Tree) (input : Text) (old new : Option Text) (status : Status) : Type 0 where
+-- of the answers behind the fit ones these are left: where the dialogue came to its end, or a line wasn't written, all; where one is refused those behind it, and of one that is too long perhaps the end; where reading failed it isn't known which
+abbrev pub LeavesTold : List Text → Status → Option (List Text) → Type 0
+LeavesTold rest Done left = left ≡ Some rest
+LeavesTold rest Refused left = LeavesRefused rest left
+LeavesTold rest WriteFault left = (left ≡ Some rest) ⊎ LeavesRefused rest left
+LeavesTold rest ReadFault left = Unit {0}
+LeavesTold rest Memory left = Unit {0}
+LeavesTold rest NoPlan left = ⊥
+LeavesTold rest Words left = ⊥
+
+-- what was told of a plan comes of the answers that were read and fit, and those behind them are left; that plan leads to its goal in each compatible world, and where these answers are the first in it, what they make told begins the run in it
+pub record TellsWell (f : File) (t : Tree) (input : Text) (old new left : Option Text) (status : Status) : Type 0 where
   pub fit : List Text
   pub text : Text
   pub comes : ComesOfFit f.problem.signature f.names t (answers_in input) fit text
   pub written : WritesTold input (talk_in f input t) text old new status
+  pub leaves : OfAnswersLeft (LeavesTold comes.first.0 status) left
   pub leads : (w : World) → IsCompatible f.problem w → LeadsToGoal f.problem f.names t w
   pub begins : (w : World) → IsCompatible f.problem w → StandFirst fit (world_answers f.problem f.names t w) → StandFirst (statements (talk f.problem.signature f.names t fit)) (run_statements f.names (run_of f.problem t w))
 
 -- so of the best plan, where the input is accepted and has one
-abbrev pub TellsBest : ℕ → Text → Option Text → Option Text → Status → Type 0
-TellsBest n input old new status = (f : File) (t : Tree) → IsAccepted Reads (Agent n) input f → IsBest f.problem n (Some t) → TellsWell f t input old new status
+abbrev pub TellsBest : ℕ → Text → Option Text → Option Text → Option Text → Status → Type 0
+TellsBest n input old new left status = (f : File) (t : Tree) → IsAccepted Reads (Agent n) input f → IsBest f.problem n (Some t) → TellsWell f t input old new left status
 
 -- ---- the whole dialogue
 
@@ -111,7 +122,7 @@ pub record Converses (n : ℕ) (input : Text) (old new left : Option Text) (stat
   pub front : (status ≡ WriteFault) ⊎ (status ≡ ReadFault) → LeadsFront n input old new
   pub taken : status ≡ Done → LeavesAnswers n input left
   pub led : status ≡ Done → IsWellLed n input
-  pub told : TellsBest n input old new status
+  pub told : TellsBest n input old new left status
 
 -- so whether its file was read or not, but for a front after a fault of reading
 pub record Leads (n : ℕ) (input : Text) (old new left : Option Text) (status : Status) : Type 0 where
@@ -119,4 +130,4 @@ pub record Leads (n : ℕ) (input : Text) (old new left : Option Text) (status :
   pub front : status ≡ WriteFault → LeadsFront n input old new
   pub taken : status ≡ Done → LeavesAnswers n input left
   pub led : status ≡ Done → IsWellLed n input
-  pub told : TellsBest n input old new status
+  pub told : TellsBest n input old new left status

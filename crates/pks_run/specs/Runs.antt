@@ -24,7 +24,7 @@ pub record Runs {S K : Type 0} (left : S → Option Text) (reads : S → ℕ) (w
   pub end : (job : Job) → AskFor given job → (IsBench job → ⊥) → (IsDialogue job → ⊥) → (status ≡ Done) ⊎ (status ≡ NoPlan) → IsAtEnd (left source')
   pub taken : (n : ℕ) → AskFor given (Agent n) → status ≡ Done → IfSome (left source) (λ input. LeavesAnswers n input (left source'))
   pub led : (n : ℕ) → AskFor given (Agent n) → status ≡ Done → IfSome (left source) (IsWellLed n)
-  pub told : (n : ℕ) → AskFor given (Agent n) → IfSome (left source) (λ input. TellsBest n input (written sink) (written sink') status)
+  pub told : (n : ℕ) → AskFor given (Agent n) → IfSome (left source) (λ input. TellsBest n input (written sink) (written sink') (left source') status)
   pub read_fault : status ≡ ReadFault → Rose (reads source) (reads source') × ((job : Job) × AskFor given job × (IsBench job → ⊥)) × (AskNoDialogue given → sink' ≡ sink)
   pub read_front : status ≡ ReadFault → (sink' ≡ sink) ⊎ IfSome (left source) (λ input. WritesFront given input (written sink) (written sink'))
   pub write_fault : status ≡ WriteFault → Rose (writes sink) (writes sink') × IfSome (left source) (λ input. WritesFront given input (written sink) (written sink'))

@@ -34,4 +34,4 @@ returns-else-push-clause-hears g t c =
     let held = answer_text c.args.into.now in
     let b = c.in-Ok-Some.byte in
     let took : Consumes old new (b ∷ []) = subst (λ o. GivesByte old new (Ok o)) c.in-Ok-Some.field-0-is c.in-Ok-Some.ensures.byte in
-    heard_long held held b old new new c.requires.no_feed (ne_eqb b 10 c.if-byte-eq10.false) (c.push.ensures.full c.if-push.false) took
+    heard_long held held b old new c.requires.no_feed (ne_eqb b 10 c.if-byte-eq10.false) (c.push.ensures.full c.if-push.false) took

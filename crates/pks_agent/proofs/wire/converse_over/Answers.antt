@@ -14,19 +14,15 @@ some_kept : (o : Option (List Text)) (P : ReadAhead → List Text → Type 0) (k
 some_kept None P kept few h = tt
 some_kept (Some answers) P kept few h = (kept, few, h)
 
-forget_few : (o : Option (List Text)) (P : ReadAhead → List Text → Type 0) → IfSome o (λ answers. (x : ReadAhead) × (length (ahead_of x) ≤ 512) × P x answers) → IfSome o (λ answers. (x : ReadAhead) × P x answers)
-forget_few None P h = tt
-forget_few (Some answers) P (kept, few, h) = (kept, h)
-
 -- led from what was read ahead and a source to a sink, as these are left
 abbrev LedBy : {S K : Type 0} → (S → Option Text) → (K → Option Text) → Result End TalkEnd → (List Text → Talked) → ReadAhead → S → K → S → K → Type 0
 LedBy left written result talked a s k s' k' =
-    IfSome (answers_coming (coming a (left s))) (λ answers. (x : ReadAhead) × (length (ahead_of x) ≤ 512) × Led (written k) (written k') (answers_coming (coming x (left s'))) result (talked answers))
+    IfSome (answers_coming (coming a (left s))) (λ answers. (x : ReadAhead) × (length (ahead_of x) ≤ 512) × Led (written k) (written k') answers (answers_coming (coming x (left s'))) result (talked answers))
 
 -- what a wire holds is what it was given, and what it leaves
 led_over : {S K : Type 0} (left : S → Option Text) (written : K → Option Text) (result : Result End TalkEnd) (talked : List Text → Talked) (a a' kept : ReadAhead) (s s' after after' : S) (k k' end end' : K)
     → a' ≡ a → s' ≡ s → k' ≡ k → after' ≡ after → end' ≡ end → length (ahead_of kept) ≤ 512
-    → IfSome (answers_coming (coming a' (left s'))) (λ answers. Led (written k') (written end') (answers_coming (coming kept (left after'))) result (talked answers))
+    → IfSome (answers_coming (coming a' (left s'))) (λ answers. Led (written k') (written end') answers (answers_coming (coming kept (left after'))) result (talked answers))
     → LedBy left written result talked a s k after end
 led_over left written result talked a a' kept s s' after after' k k' end end' e₁ e₂ e₃ e₄ e₅ few led =
     subst (λ z. LedBy left written result talked a s k after z) e₅
@@ -34,19 +30,11 @@ led_over left written result talked a a' kept s s' after after' k k' end end' e�
     (subst (λ z. LedBy left written result talked a s z after' end') e₃
     (subst (λ z. LedBy left written result talked a z k' after' end') e₂
     (subst (λ z. LedBy left written result talked z s' k' after' end') e₁
-    (some_kept (answers_coming (coming a' (left s'))) (λ x answers. Led (written k') (written end') (answers_coming (coming x (left after'))) result (talked answers)) kept few led)))))
+    (some_kept (answers_coming (coming a' (left s'))) (λ x answers. Led (written k') (written end') answers (answers_coming (coming x (left after'))) result (talked answers)) kept few led)))))
 
-pub returns-clause-few : goal.returns-clause-few
-returns-clause-few g c =
+pub returns-clause-led : goal.returns-clause-led
+returns-clause-led g c =
     led_over g.S.Source.left g.K.Sink.written c.converse_on.result (λ answers. talk (signature_of c.args.p.now.signature) (names_of c.args.p.now) (tree_of c.args.t.now) answers)
     c.args.ahead c.over-wire.result.ahead c.converse_on.new.wire.ahead c.args.source.now c.over-wire.result.source.now _ c.converse_on.new.wire.source.now
     c.args.sink.now c.over-wire.result.sink.now _ c.converse_on.new.wire.sink.now
     c.over-wire.ensures.ahead c.over-wire.ensures.source c.over-wire.ensures.sink (search rules) (search rules) c.converse_on.ensures.few c.converse_on.ensures.led
-
-pub returns-clause-led : goal.returns-clause-led
-returns-clause-led g c =
-    let few = led_over g.S.Source.left g.K.Sink.written c.converse_on.result (λ answers. talk (signature_of c.args.p.now.signature) (names_of c.args.p.now) (tree_of c.args.t.now) answers)
-    c.args.ahead c.over-wire.result.ahead c.converse_on.new.wire.ahead c.args.source.now c.over-wire.result.source.now _ c.converse_on.new.wire.source.now
-    c.args.sink.now c.over-wire.result.sink.now _ c.converse_on.new.wire.sink.now
-    c.over-wire.ensures.ahead c.over-wire.ensures.source c.over-wire.ensures.sink (search rules) (search rules) c.converse_on.ensures.few c.converse_on.ensures.led in
-    forget_few _ (λ x answers. Led _ _ (answers_coming (coming x _)) c.converse_on.result (talk (signature_of c.args.p.now.signature) (names_of c.args.p.now) (tree_of c.args.t.now) answers)) few

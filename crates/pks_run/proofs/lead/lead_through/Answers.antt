@@ -23,12 +23,12 @@ returns-in-Ok-clause-told g c = λ input has.
     let read : IsRead (file_text input) f = subst (λ x. IsRead x f) has.file c.requires.read in
     let one : (x : Reading) → Reads (file_text input) x → x ≡ ReadAs f = subst (λ y. (x : Reading) → Reads y x → x ≡ ReadAs f) has.file c.requires.one in
     let well = well_led n input f read one c.requires.fine t c.requires.best c.requires.whole.valid.says (names_of_valid c.args.f.now.problem c.requires.whole.valid) in
-    let led : (kept : ReadAhead) × (length (ahead_of kept) ≤ 512) × Led old mid (answers_coming (coming kept left)) c.converse_over-ended.result (talk f.problem.signature f.names t (answers_in input)) =
-    subst (λ o. IfSome o (λ answers. (kept : ReadAhead) × (length (ahead_of kept) ≤ 512) × Led old mid (answers_coming (coming kept left)) c.converse_over-ended.result (talk f.problem.signature f.names t answers)))
-    (answers_to_come input (coming c.args.opening.ahead (g.S.Source.left c.args.source.now)) c.args.opening.text.now has) c.converse_over-ended.ensures.few in
+    let led : (kept : ReadAhead) × (length (ahead_of kept) ≤ 512) × Led old mid (answers_in input) (answers_coming (coming kept left)) c.converse_over-ended.result (talk f.problem.signature f.names t (answers_in input)) =
+    subst (λ o. IfSome o (λ answers. (kept : ReadAhead) × (length (ahead_of kept) ≤ 512) × Led old mid answers (answers_coming (coming kept left)) c.converse_over-ended.result (talk f.problem.signature f.names t answers)))
+    (answers_to_come input (coming c.args.opening.ahead (g.S.Source.left c.args.source.now)) c.args.opening.text.now has) c.converse_over-ended.ensures.led in
     let stop : c.line_column_behind-stop.result.0 ≡ stop_line input = ap (λ p. p.0) c.line_column_behind-stop.ensures ∙ stop_counted c.args.opening.text.now input has.file in
     comes_to n input f read one c.requires.fine t c.requires.best c.requires.whole.valid.says well old mid (g.K.Sink.written c.conclude.new.sink) left (g.K.Sink.faults c.converse_over-ended.new.sink)
-    (g.K.Sink.faults c.conclude.new.sink) c.line_column_behind-stop.result.0 stop c.converse_over-ended.result c.conclude.result led.0 led.1 led.2 c.conclude.ensures
+    (g.K.Sink.faults c.conclude.new.sink) c.line_column_behind-stop.result.0 stop led.0 led.1 c.converse_over-ended.result c.conclude.result led.2 c.conclude.ensures
 
 pub returns-in-Err-clause-told : goal.returns-in-Err-clause-told
 returns-in-Err-clause-told g c = λ input has. memory_conversed c.args.opening.depth input (g.K.Sink.written c.args.sink.now) (g.S.Source.left c.args.source.now)

@@ -1,6 +1,6 @@
-use Rattle.std.proofs.Common.{◌≡◌, ◌<◌, ◌+◌, ◌∷◌, ◌∙◌, Some, drop, length, refl, sym, subst, arith}
+use Rattle.std.proofs.Common.{◌≡◌, ◌<◌, ◌+◌, [], ◌∷◌, ◌∙◌, Some, drop, length, inr, refl, sym, subst, arith}
 use Rattle.pks_agent.specs.Answers.{answer_text}
-use Rattle.pks_agent.specs.Hearing.{IsLongNext, TakesNext}
+use Rattle.pks_agent.specs.Hearing.{CutsLong, TakesNext}
 use Rattle.pks_agent.specs.Rooms.{texts_in}
 use Rattle.pks_agent.proofs.Serving.{next_is}
 use Rattle.pks_agent.proofs.memory.MemPeer.take.Goals as goal
@@ -12,7 +12,7 @@ returns-then-len-gt64-clause-hears c =
     let next : drop i (texts_in c.args.self.now.answers) ≡ answer.items ∷ drop (i + 1) (texts_in c.args.self.now.answers) =
     subst (λ xs. drop i (texts_in xs) ≡ answer.items ∷ drop (i + 1) (texts_in xs)) c.as_slice.ensures (next_is c.as_slice.result.now i answer c.in-Some.ensures.lookup.3.0 c.in-Some.ensures.lookup.1) in
     let long : 64 < length answer.items = omega (arith, c.if-len-gt64.true, c.len.ensures) in
-    subst (λ l. IsLongNext (Some l)) (sym next) long
+    subst (λ l. CutsLong (Some l) (Some l)) (sym next) (long, inr ([], answer.items, refl, refl))
 
 pub returns-else-len-gt64-clause-hears : goal.returns-else-len-gt64-clause-hears
 returns-else-len-gt64-clause-hears c =
