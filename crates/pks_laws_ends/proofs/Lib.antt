@@ -1,3 +1,4 @@
 pub mod Families
 pub mod Ended
 pub mod Regionless
+pub mod Looks

@@ -8,6 +8,7 @@ ghost use Rattle.pks_terms.specs.Settling.{History, At, last_moment};
 ghost use Rattle.pks_terms.specs.Trees.{Tree, Derives, IsBestAt};
 ghost use Rattle.pks_terms.specs.Valid.{IsValid};
 ghost use Rattle.pks_terms.specs.Versions.{IsNow};
+ghost use Rattle.pks_laws_forget.specs.Looks.{IsLook, AreWithout};
 ghost use Rattle.pks_laws_forget.specs.Transparent.{AreSetsAlong};
 ghost use Rattle.pks_laws_ends.specs.Ends.{IsAtObjects, KeepsAtObjects, IsAlong, AddsNoRegion, HasObjectGroups, HaveSameEnds};
 
@@ -34,4 +35,9 @@ pub fn equal_ends_without_regions_give_equal_trees()
 pub fn equal_ends_without_regions_give_equal_plans()
     ensures { (p : Problem) (h g : History) (n : ℕ) (o : Option Tree) → IsValid p → Each IsNow p.goal → AddsNoRegion p → AreMomentsOf p h → AreSetsAlong h → IsAlong HasObjectGroups h → AreMomentsOf p g → AreSetsAlong g → IsAlong HasObjectGroups g →
         last_moment h ≡ last_moment g → HaveSameEnds p h g → (IsBestAt p (At h) n o ↔ IsBestAt p (At g) n o) }
+{}
+
+/// A history without some moments before looks has the same last databases and the same ends.
+pub fn looks_keep_ends()
+    ensures { (p : Problem) (h g : History) → IsValid p → AreMomentsOf p h → AreSetsAlong h → AreWithout (IsLook p) h.start h.steps g.start g.steps → (last_moment h ≡ last_moment g) × HaveSameEnds p h g }
 {}
