@@ -28,7 +28,7 @@ use Rattle.pks_run_answer.proofs.OneReply.{all_justified, one_refusal, one_tree,
 use Rattle.pks_run.proofs.ShortNames.{read_short}
 use Rattle.pks_run.specs.Answer.{AnswersJob, IsAnswered, IsReplyTo, LeadsFront, OfAnswersLeft, LeavesAnswers}
 use Rattle.pks_run.proofs.Telling.{told_well}
-use Rattle.pks_run.specs.Leads.{HasCauses, line_refused, WritesRefusal, Concludes, IsWellLed, WritesTold, LeavesTold, TellsWell, TellsBest, Converses}
+use Rattle.pks_run.specs.Leads.{HasCauses, line_refused, WritesRefusal, Concludes, IsWellLed, WritesTold, TellsWell, TellsBest, Converses}
 use Rattle.pks_run.specs.declared.status.Status.{Status}
 use Rattle.pks_run.specs.declared.status.Status.TheVariants.{Done, NoPlan, Words, Refused, ReadFault, WriteFault, Memory}
 
@@ -242,11 +242,11 @@ module _ (n : ℕ) (input : Text) (f : File) (read : IsRead (file_text input) f)
         -- what comes of its end
         module _ (old mid new left : Option Text) (writes writes' stop : ℕ) (stop_is : stop ≡ stop_line input) where
           -- what was told of it was told of the best plan of the accepted input
-          told_here : (s : Status) (fit : List Text) (x : Text) (comes : ComesOfFit f.problem.signature f.names t (answers_in input) fit x) → WritesTold input talked x old new s → OfAnswersLeft (LeavesTold comes.first.0 s) left → TellsBest n input old new left s
-          told_here s fit x comes written leaves = λ g u accepted best_u.
+          told_here : (s : Status) (fit : List Text) (x : Text) (comes : ComesOfFit f.problem.signature f.names t (answers_in input) fit x) → WritesTold input talked x comes.first.0 old new left s → TellsBest n input old new left s
+          told_here s fit x comes written = λ g u accepted best_u.
               let same : g ≡ f = this_file g accepted.reads in
               let best_here : IsBest f.problem n (Some u) = subst (λ (h : File). IsBest h.problem n (Some u)) same best_u in
-              subst (λ (h : File). TellsWell h u input old new left s) (sym same) (subst (λ (v : Tree). TellsWell f v input old new left s) (one_tree f.problem n t u best best_here) (told_well n input f t accepts best old new left s fit x comes written leaves))
+              subst (λ (h : File). TellsWell h u input old new left s) (sym same) (subst (λ (v : Tree). TellsWell f v input old new left s) (one_tree f.problem n t u best best_here) (told_well n input f t accepts best old new left s fit x comes written))
 
           left_out : (P : Option (List Text) → Type 0) (kept : ReadAhead) → length (ahead_of kept) ≤ 512 → P (answers_coming (coming kept left)) → OfAnswersLeft P left
           left_out P kept few so = (ahead_of kept, few, by_left left so)
@@ -298,11 +298,11 @@ module _ (n : ℕ) (input : Text) (f : File) (read : IsRead (file_text input) f)
               by_status Refused w =
                   let appends = appends_more old mid new (talked_text talked) (refusal_text r) said w.0 in
                   whole Refused (talked_text talked ++ refusal_text r) (r, refuses, refl) appends (λ e. refused_is e)
-                  (told_here Refused fit x comes (all, (r, refuses, subst (λ (y : Text). Appends old new (y ++ refusal_text r)) (sym all) appends)) leaves)
+                  (told_here Refused fit x comes (all, (r, refuses, subst (λ (y : Text). Appends old new (y ++ refusal_text r)) (sym all) appends), leaves))
               by_status WriteFault w =
                   let front = front_behind old mid new (talked_text talked) (refusal_text r) said w.0 in
                   broken WriteFault (λ h. h) (Refused, talked_text talked ++ refusal_text r, talk_answers Refused (talked_text talked ++ refusal_text r) (r, refuses, refl), front)
-                  (told_here WriteFault fit x comes (inr (all, (r, refuses, subst (λ (y : Text). AppendsFront old new (y ++ refusal_text r)) (sym all) front))) (leaves.0, leaves.1, inr leaves.2))
+                  (told_here WriteFault fit x comes (inr ((all, (mid, subst (Appends old mid) (sym all) said, (r, refuses, w.0))), leaves)))
               by_status Done w = absurd w
               by_status NoPlan w = absurd w
               by_status Words w = absurd w
@@ -323,7 +323,7 @@ module _ (n : ℕ) (input : Text) (f : File) (read : IsRead (file_text input) f)
                 let taken = takes (Ok end) led in
                 subst (λ t. Converses n input old new left t) (sym ends.0)
                 (whole Done (talked_text talked) (is_over, refl) appends (λ e. (f, accepts, (t, best, left_out (λ answers. answers ≡ Some talked.left) kept few led.2)))
-                (told_here Done taken.fit taken.text taken.comes (taken.whole, is_over, subst (λ m. Appends old m taken.text) (sym ends.1) taken.appends) (left_out (LeavesTold taken.comes.first.0 Done) kept few taken.left_is)))
+                (told_here Done taken.fit taken.text taken.comes (taken.whole, is_over, subst (λ m. Appends old m taken.text) (sym ends.1) taken.appends, left_out (λ answers. answers ≡ Some taken.comes.first.0) kept few taken.left_is)))
             comes_to (Err (Misfit k)) s led ends =
                 let taken = takes (Err (Misfit k)) led in
                 refusing k 320 s taken.fit taken.text taken.comes taken.whole (subst (λ end. RefusesAnswer input end (answer_refusal input k 320)) (sym led.0) refl) led.1 (left_out (LeavesRefused taken.comes.first.0) kept few taken.left_is) ends
@@ -334,11 +334,11 @@ module _ (n : ℕ) (input : Text) (f : File) (read : IsRead (file_text input) f)
                 let taken = takes (Err (Failed Send)) led in
                 let front = front_broken old mid (answers_in input) (answers_coming (coming kept left)) talked led in
                 subst (λ t. Converses n input old new left t) (sym ends.0) (cut_short WriteFault (λ h. h) (subst (λ m. AppendsFront old m (talked_text talked)) (sym ends.1) front)
-                (told_here WriteFault taken.fit taken.text taken.comes (inl (subst (λ m. Appends old m taken.text) (sym ends.1) taken.appends)) (left_out (LeavesTold taken.comes.first.0 WriteFault) kept few (inl taken.left_is))))
+                (told_here WriteFault taken.fit taken.text taken.comes (inl (subst (λ m. Appends old m taken.text) (sym ends.1) taken.appends, left_out (λ answers. answers ≡ Some taken.comes.first.0) kept few taken.left_is))))
             comes_to (Err (Failed Receive)) s led ends =
                 let taken = takes (Err (Failed Receive)) led in
                 subst (λ t. Converses n input old new left t) (sym ends.0) (cut_short ReadFault (λ h. h) (subst (λ m. AppendsFront old m (talked_text talked)) (sym ends.1) led)
-                (told_here ReadFault taken.fit taken.text taken.comes (subst (λ m. Appends old m taken.text) (sym ends.1) taken.appends) (left_out (LeavesTold taken.comes.first.0 ReadFault) kept few tt)))
+                (told_here ReadFault taken.fit taken.text taken.comes (subst (λ m. Appends old m taken.text) (sym ends.1) taken.appends)))
 
 -- ---- causes
 

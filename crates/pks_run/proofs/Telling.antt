@@ -1,5 +1,5 @@
 -- What a dialogue told comes of the answers that were read and fit, and its plan is good.
-use Rattle.std.proofs.Common.{◌≡◌, ◌⊎◌, ◌∙◌, List, [], ◌∷◌, ◌++◌, ℕ, Option, Some, None, inl, inr, refl, sym, ap, subst, append-nil, arith}
+use Rattle.std.proofs.Common.{◌≡◌, ◌⊎◌, ◌∙◌, List, [], ◌∷◌, ◌++◌, ℕ, Option, Some, None, inl, inr, refl, sym, ap, subst, append-nil}
 use Rattle.std.specs.Io.KnownBytes.{Appends}
 use Rattle.pks_io.specs.Writing.{AppendsFront}
 use Rattle.pks_terms.specs.Jobs.{Agent}
@@ -27,8 +27,7 @@ use Rattle.pks_reader.proofs.Firsts.{faultless, meaning_first}
 use Rattle.pks_reader.proofs.Parted.{of_version}
 use Rattle.pks_run_answer.proofs.OneReply.{all_justified}
 use Rattle.pks_run.proofs.ShortNames.{read_short}
-use Rattle.pks_run.specs.Answer.{OfAnswersLeft}
-use Rattle.pks_run.specs.Leads.{LeadsToGoal, WritesTold, LeavesTold, TellsWell, TellsBest}
+use Rattle.pks_run.specs.Leads.{LeadsToGoal, WritesTold, TellsWell, TellsBest}
 use Rattle.pks_run.specs.declared.status.Status.{Status}
 use Rattle.pks_run.specs.declared.status.Status.TheVariants.{ReadFault, Memory}
 
@@ -59,8 +58,8 @@ read_valid input f r =
 module _ (n : ℕ) (input : Text) where
   -- what comes of the answers that are fit in the dialogue of the best plan is told well
   pub told_well : (f : File) (t : Tree) → IsAccepted Reads (Agent n) input f → IsBest f.problem n (Some t) → (old new left : Option Text) (status : Status) (fit : List Text) (text : Text) (comes : ComesOfFit f.problem.signature f.names t (answers_in input) fit text)
-      → WritesTold input (talk_in f input t) text old new status → OfAnswersLeft (LeavesTold comes.first.0 status) left → TellsWell f t input old new left status
-  told_well f t accepted best old new left status fit text comes written leaves =
+      → WritesTold input (talk_in f input t) text comes.first.0 old new left status → TellsWell f t input old new left status
+  told_well f t accepted best old new left status fit text comes written =
       let names = f.names in
       let read = read_valid (file_text input) f accepted.reads in
       let led = plan_led f.problem names read.0 read.1 (read_short (file_text input) f accepted.reads) t in
@@ -69,7 +68,6 @@ module _ (n : ℕ) (input : Text) where
         text = text;
         comes = comes;
         written = written;
-        leaves = leaves;
         leads = λ w fits. let l = led w (all_justified (Agent n) f accepted.fine) best.0.0 fits in record { along = l.0; good = l.1; goal = l.2 };
         begins = λ w fits first.
             let l = led w (all_justified (Agent n) f accepted.fine) best.0.0 fits in
@@ -84,10 +82,10 @@ module _ (n : ℕ) (input : Text) where
   pub memory_told : (old left : Option Text) → TellsBest n input old old left Memory
   memory_told old left = λ f t accepted best.
       let comes = comes_of_fit f.problem.signature f.names t (answers_in input) [] (talked_text (talk_in f input t), refl) in
-      told_well f t accepted best old old left Memory comes.0 [] comes.1 (refl, appends_nothing old) ([], omega arith, tt)
+      told_well f t accepted best old old left Memory comes.0 [] comes.1 (refl, appends_nothing old)
 
   -- nor was it where reading the file failed
   pub unread_told : (old left : Option Text) → TellsBest n input old old left ReadFault
   unread_told old left = λ f t accepted best.
       let comes = comes_of_fit f.problem.signature f.names t (answers_in input) [] (talked_text (talk_in f input t), refl) in
-      told_well f t accepted best old old left ReadFault comes.0 [] comes.1 (appends_nothing old) ([], omega arith, tt)
+      told_well f t accepted best old old left ReadFault comes.0 [] comes.1 (appends_nothing old)

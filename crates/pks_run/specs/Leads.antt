@@ -80,33 +80,30 @@ pub record IsWellLed (n : ℕ) (input : Text) : Type 0 where
 
 -- ---- what was told, however the call ends
 
--- the text was written: whole where the dialogue came to its end; whole, and then the refusal of the next answer, where one is refused; and where the call was cut short as it is, or with a front of that refusal
-abbrev pub WritesTold : Text → Talked → Text → Option Text → Option Text → Status → Type 0
-WritesTold input talked text old new Done = (text ≡ talked_text talked) × IsOver talked.end × Appends old new text
-WritesTold input talked text old new Refused = (text ≡ talked_text talked) × ((r : Refusal) × RefusesAnswer input talked.end r × Appends old new (text ++ refusal_text r))
-WritesTold input talked text old new WriteFault = Appends old new text ⊎ ((text ≡ talked_text talked) × ((r : Refusal) × RefusesAnswer input talked.end r × AppendsFront old new (text ++ refusal_text r)))
-WritesTold input talked text old new ReadFault = Appends old new text
-WritesTold input talked text old new Memory = (text ≡ []) × Appends old new text
-WritesTold input talked text old new NoPlan = ⊥
-WritesTold input talked text old new Words = ⊥
+-- all these answers are left
+abbrev pub LeavesAll : List Text → Option Text → Type 0
+LeavesAll rest left = OfAnswersLeft (λ answers. answers ≡ Some rest) left
 
--- of the answers behind the fit ones these are left: where the dialogue came to its end, or a line wasn't written, all; where one is refused those behind it, and of one that is too long perhaps the end; where reading failed it isn't known which
-abbrev pub LeavesTold : List Text → Status → Option (List Text) → Type 0
-LeavesTold rest Done left = left ≡ Some rest
-LeavesTold rest Refused left = LeavesRefused rest left
-LeavesTold rest WriteFault left = (left ≡ Some rest) ⊎ LeavesRefused rest left
-LeavesTold rest ReadFault left = Unit {0}
-LeavesTold rest Memory left = Unit {0}
-LeavesTold rest NoPlan left = ⊥
-LeavesTold rest Words left = ⊥
+-- the text is that of the whole dialogue and was written, and behind it a front of the refusal of the next answer
+abbrev pub WritesRefusedFront : Text → Talked → Text → Option Text → Option Text → Type 0
+WritesRefusedFront input talked text old new = (text ≡ talked_text talked) × ((mid : Option Text) × Appends old mid text × ((r : Refusal) × RefusesAnswer input talked.end r × AppendsFront mid new (refusal_text r)))
+
+-- what was written, and which of the answers behind the fit ones are then left: at the end of the dialogue the whole text, and all; where the next one is refused the whole text and that refusal, and those behind it, before them perhaps the end of one that is too long; where writing failed the text as it is and all, or the whole text with a front of that refusal and those behind it; where reading failed the text as it is, and where memory was wanting nothing, and it isn't known which are left
+abbrev pub WritesTold : Text → Talked → Text → List Text → Option Text → Option Text → Option Text → Status → Type 0
+WritesTold input talked text rest old new left Done = (text ≡ talked_text talked) × IsOver talked.end × Appends old new text × LeavesAll rest left
+WritesTold input talked text rest old new left Refused = (text ≡ talked_text talked) × ((r : Refusal) × RefusesAnswer input talked.end r × Appends old new (text ++ refusal_text r)) × OfAnswersLeft (LeavesRefused rest) left
+WritesTold input talked text rest old new left WriteFault = (Appends old new text × LeavesAll rest left) ⊎ (WritesRefusedFront input talked text old new × OfAnswersLeft (LeavesRefused rest) left)
+WritesTold input talked text rest old new left ReadFault = Appends old new text
+WritesTold input talked text rest old new left Memory = (text ≡ []) × Appends old new text
+WritesTold input talked text rest old new left NoPlan = ⊥
+WritesTold input talked text rest old new left Words = ⊥
 
 -- what was told of a plan comes of the answers that were read and fit, and those behind them are left; that plan leads to its goal in each compatible world, and where these answers are the first in it, what they make told begins the run in it
 pub record TellsWell (f : File) (t : Tree) (input : Text) (old new left : Option Text) (status : Status) : Type 0 where
   pub fit : List Text
   pub text : Text
   pub comes : ComesOfFit f.problem.signature f.names t (answers_in input) fit text
-  pub written : WritesTold input (talk_in f input t) text old new status
-  pub leaves : OfAnswersLeft (LeavesTold comes.first.0 status) left
+  pub written : WritesTold input (talk_in f input t) text comes.first.0 old new left status
   pub leads : (w : World) → IsCompatible f.problem w → LeadsToGoal f.problem f.names t w
   pub begins : (w : World) → IsCompatible f.problem w → StandFirst fit (world_answers f.problem f.names t w) → StandFirst (statements (talk f.problem.signature f.names t fit)) (run_statements f.names (run_of f.problem t w))
 
