@@ -148,7 +148,7 @@ fn add_line(line: &mut Vec<u8>, action: &[u8], object: &[u8]) -> Result<(), Allo
     Ok(())
 }
 
-/// A line with room for that of each action: it is as long as the longest.
+/// A line with room for that of each action: at least as long as the longest of them.
 fn longest_line(alloc: Global, p: &Problem<'_>) -> Result<Vec<u8>, AllocError>
     ensures { IfOk result (λ line. FitsActions (names_of p.now) (vec_capacity line)) }
 {

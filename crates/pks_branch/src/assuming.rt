@@ -23,7 +23,6 @@ use pks_kw::Kw;
 use pks_kx::Kx;
 use pks_lcw::Lcw;
 use pks_query::databases::{Db, Step};
-use pks_query_closing::closing::CloseEnd;
 use pks_query_lookup::five::Five;
 use pks_terms::choices::{Choice, Side};
 use pks_terms::ids::ObjId;
@@ -171,7 +170,7 @@ fn with_value(alloc: Global, s: &Signature, d: &Db, t: &Term, e: ObjId) -> Resul
 
 /// The five with the side assumed, which stay as they are where the choice has no such side.
 #[tactic(auto, unfolding(pks_terms::specs::Branching::assumed))]
-pub(crate) fn assumed(
+pub(crate) fn with_side(
     alloc: Global,
     s: &Signature,
     d: &Db,
@@ -209,10 +208,7 @@ pub fn assume(
     ensures so_too { (w w' : World) → IsTrueOf (problem_of p.now).signature w w' (five_of d.now) → IsSo w (choice_of c.now) (side_of side) → IfOk result (λ o. IsSo w' (choice_of c.now) (side_of side)) }
     ensures keeps_truth { (w w' : World) → IsTrueOf (problem_of p.now).signature w w' (five_of d.now) → IsSo w (choice_of c.now) (side_of side) → IfOk result (λ o. IsNextWith (IsTrueOf (problem_of p.now).signature w w') (outcome_of o)) }
 {
-    let five = assumed(alloc, &p.signature, d, c, side)?;
-    match Db::close(alloc, &p.signature, five) {
-        Ok(next) => Ok(Step::Next(next)),
-        Err(CloseEnd::Clash(l)) => Ok(Step::Clash(l)),
-        Err(CloseEnd::Memory) => Err(AllocError),
-    }
+    let five = with_side(alloc, &p.signature, d, c, side)?;
+    let step = Db::close_to_step(alloc, &p.signature, five)?;
+    Ok(step)
 }

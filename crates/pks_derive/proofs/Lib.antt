@@ -1,5 +1,4 @@
 pub mod AddTexts
-pub mod Appended
 pub mod Fronts
 pub mod Offered
 pub mod Replaced

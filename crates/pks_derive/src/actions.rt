@@ -21,7 +21,7 @@ use pks_terms::schema::{Adds, Schema};
 use std::alloc::{AllocError, Global};
 
 /// A line for each add.
-#[tactic(auto, using(crate::proofs::Appended::appended))]
+#[tactic(auto, using(pks_plan::proofs::Appended::printed))]
 fn print_adds(
     p: &Problem<'_>,
     parameters: &[&str],
@@ -61,7 +61,7 @@ fn print_derived(
 }
 
 /// An action's name, and what is derived of it.
-#[tactic(auto, using(crate::proofs::Appended::appended))]
+#[tactic(auto, using(pks_plan::proofs::Appended::printed))]
 fn print_action(
     alloc: Global,
     p: &Problem<'_>,
@@ -81,7 +81,7 @@ fn print_action(
 }
 
 /// So for each of these actions, the first of which has this number.
-#[tactic(auto, using(crate::proofs::Appended::appended))]
+#[tactic(auto, using(pks_plan::proofs::Appended::printed))]
 fn print_actions(
     alloc: Global,
     p: &Problem<'_>,

@@ -4,7 +4,6 @@
 mod actions;
 pub mod laws;
 mod offering;
-mod parts;
 mod same;
 mod shapes;
 mod text;

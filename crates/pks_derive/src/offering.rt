@@ -11,7 +11,7 @@ ghost use Rattle.pks_justify.specs.Places.{AssignToPlaces};
 ghost use Rattle.pks_derive.specs.Offering.{made, with_offered};
 
 use crate::same::is_among;
-use crate::shapes::{kept_known, made_known, sensed, without_condition};
+use crate::shapes::{add_of_sense, kept_known, made_known, without_condition};
 use pks_justify::case_in;
 use pks_terms::schema::{Adds, Effect, Schema, Sense};
 use std::alloc::{AllocError, Global};
@@ -81,7 +81,7 @@ fn offer_senses(schema: &Schema<'_>, senses: &[Sense], to: &mut Vec<Adds>) -> Re
     ensures { OnOk result (adds_of to.new.items ≡ fold (with_offered (schema_of schema.now)) (adds_of to.old.items) (flat_map sense_shapes (senses_of senses.now))) }
 {
     for sense in senses {
-        offer_made(schema, sensed(sense), to)?;
+        offer_made(schema, add_of_sense(sense), to)?;
     }
     Ok(())
 }

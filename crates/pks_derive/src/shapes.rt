@@ -17,7 +17,7 @@ use pks_terms::schema::{Adds, Effect, Item, Query, Sense, Target};
 use pks_terms::term::{Term, front};
 
 /// An add with one query or none, which stands nowhere in the source.
-fn added(n: u8, given: [Query; 4], item: Item) -> Adds
+fn bare_add(n: u8, given: [Query; 4], item: Item) -> Adds
     ensures { result ≡ record { n = n; given = given; item = item; span = record { start = 0; end = 0 } } }
 {
     Adds {
@@ -32,7 +32,7 @@ fn added(n: u8, given: [Query; 4], item: Item) -> Adds
 fn plainly(item: Item) -> Adds
     ensures { add_of result ≡ plainly (item_of item) }
 {
-    added(0, [Query::default(); 4], item)
+    bare_add(0, [Query::default(); 4], item)
 }
 
 /// `k` of each literal.
@@ -54,7 +54,7 @@ pub(crate) fn made_known(e: &Effect) -> Option<Adds>
     ensures { made result ≡ made_known (effect_of e.now) }
 {
     match literal_of_target(&e.target) {
-        Some(l) => Some(added(e.cond.n, each_known(&e.cond.literals), Item::Kf(l))),
+        Some(l) => Some(bare_add(e.cond.n, each_known(&e.cond.literals), Item::Kf(l))),
         None => None,
     }
 }
@@ -80,7 +80,7 @@ fn known_by_condition(c: &Conj, a: &PredAtom) -> Option<Adds>
                 Query::default(),
                 Query::default(),
             ];
-            Some(added(2, given, Item::Kw(formula)))
+            Some(bare_add(2, given, Item::Kw(formula)))
         }
     }
 }
@@ -108,7 +108,7 @@ fn assigned_known(place: &Term, value: &Term) -> Adds
                 Query::default(),
                 Query::default(),
             ];
-            added(1, given, Item::Kv(*place))
+            bare_add(1, given, Item::Kv(*place))
         }
         Term::Obj(_) | Term::Param(_) => plainly(Item::Kv(*place)),
     }
@@ -139,7 +139,7 @@ pub(crate) fn without_condition(e: &Effect) -> Option<Adds>
 }
 
 /// What is sensed is known: the truth of a conjunction, the value of a term.
-pub(crate) fn sensed(sense: &Sense) -> Option<Adds>
+pub(crate) fn add_of_sense(sense: &Sense) -> Option<Adds>
     ensures { made result ≡ sense_shapes (sense_of sense.now) }
 {
     match sense {

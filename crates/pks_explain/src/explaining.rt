@@ -10,7 +10,7 @@ ghost use Rattle.pks_explain.specs.EntryViews.{entry_of, entries_of, owed_of};
 ghost use Rattle.pks_explain.specs.Accepted.{IsProved, AreProved};
 
 use crate::entries::{Explained, Owed, ProvedLiteral};
-use crate::owing::owed;
+use crate::owing::owed_literals;
 use crate::proving::prove_owed;
 use pks_explain_lines::missing_as_memory;
 use pks_plan::Tree;
@@ -21,7 +21,7 @@ use pks_terms::sequence::Sequence;
 use std::alloc::{AllocError, Global};
 
 /// The literal with its proof, which must be accepted for it.
-fn tested(p: &Problem<'_>, one: Owed, proof: Proof) -> Result<ProvedLiteral, AllocError>
+fn accepted_literal(p: &Problem<'_>, one: Owed, proof: Proof) -> Result<ProvedLiteral, AllocError>
     requires { length p.now.signature.objects ≤ 65536 }
     ensures { IfOk result (λ e. IsProved (problem_of p.now) (owed_of one) (entry_of e)) }
 {
@@ -49,7 +49,7 @@ fn all_tested(
     let mut left = proofs.into_iter();
     for one in all {
         let proof = left.next().ok_or(missing_as_memory())?;
-        entries.push(tested(p, one, proof)?)?;
+        entries.push(accepted_literal(p, one, proof)?)?;
     }
     Ok(entries)
 }
@@ -64,7 +64,7 @@ fn tested_owed(
     requires { length p.now.signature.objects ≤ 65536 }
     ensures { IfOk result (λ es. AreProved (problem_of p.now) (owed (problem_of p.now) [] (tree_of t.now)) (entries_of es.items)) }
 {
-    let all = owed(alloc, p, t)?;
+    let all = owed_literals(alloc, p, t)?;
     let entries = all_tested(alloc, p, all, proofs)?;
     Ok(entries)
 }

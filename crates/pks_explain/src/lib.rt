@@ -9,5 +9,5 @@ mod proving;
 
 pub use entries::{Explained, Owed, ProvedLiteral};
 pub use explaining::explain;
-pub use owing::owed;
+pub use owing::owed_literals;
 pub use print::print_explained;

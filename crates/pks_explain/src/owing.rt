@@ -215,7 +215,7 @@ fn add_owed_in(
 /// What an explanation of the tree owes, in the order in which the tree is printed: before each action the literals of its
 /// preconditions that must be known, and at each goal leaf those of the goals, each with the path at whose end it must be
 /// known. The error is want of memory.
-pub fn owed(alloc: Global, p: &Problem<'_>, t: &Tree) -> Result<Vec<Owed>, AllocError>
+pub fn owed_literals(alloc: Global, p: &Problem<'_>, t: &Tree) -> Result<Vec<Owed>, AllocError>
     ensures { IfOk result (λ all. map owed_of all.items ≡ owed (problem_of p.now) [] (tree_of t.now)) }
 {
     let mut all = Vec::new(alloc);

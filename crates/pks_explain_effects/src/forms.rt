@@ -29,7 +29,7 @@ struct FormTriple<'a> {
 }
 
 /// The form of a term that isn't there.
-fn unused(alloc: Global) -> NormalForm {
+fn no_form(alloc: Global) -> NormalForm {
     NormalForm {
         term: UNUSED,
         by: Vec::new(alloc),
@@ -39,12 +39,12 @@ fn unused(alloc: Global) -> NormalForm {
 /// The forms of a term that isn't there.
 fn none_used(alloc: Global) -> Result<Vec<NormalForm>, AllocError> {
     let mut forms = Vec::new(alloc);
-    forms.push(unused(alloc))?;
+    forms.push(no_form(alloc))?;
     Ok(forms)
 }
 
 /// What the forms rest on.
-fn joined(alloc: Global, choice: &FormTriple<'_>) -> Result<Vec<Literal>, AllocError> {
+fn supports_of(alloc: Global, choice: &FormTriple<'_>) -> Result<Vec<Literal>, AllocError> {
     let mut by = Vec::from_slice(alloc, choice.first.by.as_slice())?;
     by.extend_from_slice(choice.second.by.as_slice())?;
     by.extend_from_slice(choice.third.by.as_slice())?;
@@ -67,7 +67,7 @@ impl Tests<'_, '_> {
         target: &Target,
         choice: &FormTriple<'_>,
     ) -> Result<Option<Vec<Literal>>, AllocError> {
-        let mut by = joined(alloc, choice)?;
+        let mut by = supports_of(alloc, choice)?;
         if self.are_steady(&terms_of(target), &mut by)? {
             Ok(Some(by))
         } else {

@@ -131,7 +131,7 @@ impl Tests<'_, '_> {
     }
 
     /// The target in normal form, where its terms are steady then. It is the target of an effect.
-    pub fn made(&self, alloc: Global, written: &Target) -> Result<Option<Made>, AllocError> {
+    pub fn maker_of(&self, alloc: Global, written: &Target) -> Result<Option<Made>, AllocError> {
         let mut noted = Vec::new(alloc);
         let Some(target) = self.steady_target(alloc, written, &mut noted)? else {
             return Ok(None);

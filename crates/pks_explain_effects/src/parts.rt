@@ -23,7 +23,7 @@ pub(crate) fn arguments(a: &PredAtom) -> Parts {
 }
 
 /// The term at the place of the pattern, if it isn't open.
-fn fixed(x: &Pattern, place: usize) -> Option<Term> {
+fn fixed_term(x: &Pattern, place: usize) -> Option<Term> {
     match front(&x.args, x.n).get(place) {
         Some(t) => *t,
         None => None,
@@ -32,7 +32,7 @@ fn fixed(x: &Pattern, place: usize) -> Option<Term> {
 
 /// The terms of the pattern.
 pub(crate) fn fixed_terms(x: &Pattern) -> Parts {
-    [fixed(x, 0), fixed(x, 1), fixed(x, 2)]
+    [fixed_term(x, 0), fixed_term(x, 1), fixed_term(x, 2)]
 }
 
 /// The argument of the term, if it has one there.

@@ -61,7 +61,7 @@ fn last_left(at: &MomentLines, s: &Signature, t: &Term, objects: &[ObjId]) -> Op
 }
 
 /// Which of the literals are denied.
-fn denied(
+fn which_are_denied(
     alloc: Global,
     at: &MomentLines,
     s: &Signature,
@@ -197,7 +197,7 @@ impl LineTable<'_> {
         at: &mut MomentLines,
         of: Members<'_>,
     ) -> Result<(), AllocError> {
-        let denied = denied(alloc, at, self.signature, of.literals)?;
+        let denied = which_are_denied(alloc, at, self.signature, of.literals)?;
         self.close_only(alloc, at, of, denied.as_slice())
     }
 

@@ -1,9 +1,9 @@
 //! Lines for the denials of atoms that a region shuts out.
 
-use crate::showing::found;
+use crate::showing::line_or_missing;
 use crate::table::LineTable;
 use pks_explain_moment::{
-    LiteralRewrite, MomentLines, are_plainly_apart, denied, missing_as_memory, push, with_fixed,
+    LiteralRewrite, MomentLines, are_plainly_apart, denial_of, missing_as_memory, push, with_fixed,
 };
 use pks_lcw::Entry;
 use pks_proof_lines::Reason;
@@ -42,7 +42,7 @@ impl LineTable<'_> {
             return Err(missing_as_memory());
         };
         let line = self.show_plainly(alloc, at, &l)?;
-        found(line)
+        line_or_missing(line)
     }
 
     /// Puts the line of a difference of the two atoms, unless they have two different objects.
@@ -87,7 +87,13 @@ impl LineTable<'_> {
         let mut cites = Vec::new(alloc);
         push(&mut cites, by.line)?;
         self.put_differences(alloc, at, fixed, by.region.list.as_slice(), &mut cites)?;
-        self.add_shown(alloc, at, &denied(fixed), Reason::Closed, cites.as_slice())?;
+        self.add_shown(
+            alloc,
+            at,
+            &denial_of(fixed),
+            Reason::Closed,
+            cites.as_slice(),
+        )?;
         Ok(())
     }
 
@@ -105,7 +111,7 @@ impl LineTable<'_> {
         }
         self.show_closed(alloc, at, fixed, by)?;
         let line = self.climb(alloc, at, chain)?;
-        found(line)
+        line_or_missing(line)
     }
 
     fn show_around(

@@ -144,7 +144,7 @@ impl LineTable<'_> {
 }
 
 /// The line, or `missing_as_memory` where there is none.
-pub(crate) fn found(line: Option<u32>) -> Result<u32, AllocError> {
+pub(crate) fn line_or_missing(line: Option<u32>) -> Result<u32, AllocError> {
     match line {
         Some(line) => Ok(line),
         None => Err(missing_as_memory()),

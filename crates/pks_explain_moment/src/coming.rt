@@ -1,7 +1,7 @@
 //! Literals that come to be known at a moment, and what the known values make of them.
 
 use crate::moment::{MomentLines, Valued, forget, put};
-use crate::placing::{SPOTS_OF_LITERAL, applications_in, place_of, replaced, value_told};
+use crate::placing::{SPOTS_OF_LITERAL, applications_in, place_of, value_told, with_value_at};
 use crate::pushing::push;
 use pks_pmap::map::PMap;
 use pks_terms::literal::Literal;
@@ -43,7 +43,7 @@ fn shared_at(
 
 /// Puts what comes of the literal by the value at this spot, if anything does.
 fn put_swap(x: &Lined, spot: usize, by: &Valued, to: &mut Vec<Swap>) -> Result<(), AllocError> {
-    match replaced(&x.literal, spot, &by.place, by.value) {
+    match with_value_at(&x.literal, spot, &by.place, by.value) {
         None => Ok(()),
         Some(literal) => push(
             to,

@@ -1,7 +1,7 @@
 //! What closing has to look at again at a moment.
 
 use crate::moment::{MomentLines, forget, put};
-use crate::placing::affirmed;
+use crate::placing::without_sign;
 use crate::pushing::{push, put_behind, put_in};
 use pks_terms::group::Group;
 use pks_terms::literal::{Atom, Literal};
@@ -81,14 +81,14 @@ impl LineIndex {
         normal: &Literal,
         place: usize,
     ) -> Result<(), AllocError> {
-        put_behind(alloc, &mut self.groups, affirmed(normal), place)
+        put_behind(alloc, &mut self.groups, without_sign(normal), place)
     }
 
     /// What a literal of this normal form may matter to is open.
     fn open_by(&mut self, normal: &Literal, regions: bool) -> Result<(), AllocError> {
         open_each(
             &mut self.open_groups,
-            kept_at(&self.groups, &affirmed(normal)),
+            kept_at(&self.groups, &without_sign(normal)),
         )?;
         if normal.positive {
             return Ok(());

@@ -58,7 +58,7 @@ fn equation_of(by: &Valued) -> Literal {
 }
 
 /// What the literal becomes.
-fn moved(l: &Literal, x: &Move) -> LiteralRewrite {
+fn rewrite_of(l: &Literal, x: &Move) -> LiteralRewrite {
     LiteralRewrite {
         literal: with_terms(l, &x.items),
         equation: x.equation,
@@ -237,7 +237,7 @@ impl MomentLines {
     /// What the literal becomes first on its way to its normal form.
     pub(crate) fn first_link(&self, l: &Literal) -> Option<LiteralRewrite> {
         let x = self.first_move(&l.atom.arguments())?;
-        Some(moved(l, &x))
+        Some(rewrite_of(l, &x))
     }
 
     /// Puts what the literal becomes at each spot on its way to its normal form.
@@ -246,7 +246,7 @@ impl MomentLines {
         for spot in 0..SPOTS_OF_LITERAL {
             if let Some(x) = self.move_at(&given, spot) {
                 given.items = x.items;
-                push(to, moved(l, &x))?;
+                push(to, rewrite_of(l, &x))?;
             }
         }
         Ok(())

@@ -24,7 +24,7 @@ pub fn unequal(t: &Term, u: &Term) -> Literal {
 }
 
 /// The literal without its sign.
-pub(crate) fn affirmed(l: &Literal) -> Literal {
+pub(crate) fn without_sign(l: &Literal) -> Literal {
     Literal {
         atom: l.atom,
         positive: true,
@@ -131,7 +131,7 @@ pub(crate) fn with_terms(l: &Literal, terms: &[Term; 3]) -> Literal {
 }
 
 /// The literal with the place, where it stands at this spot, replaced by its value.
-pub(crate) fn replaced(l: &Literal, spot: usize, place: &Inner, d: ObjId) -> Option<Literal> {
+pub(crate) fn with_value_at(l: &Literal, spot: usize, place: &Inner, d: ObjId) -> Option<Literal> {
     let given = l.atom.arguments();
     let position = spot / SPOTS_OF_TERM;
     let t = given.terms().get(position)?;

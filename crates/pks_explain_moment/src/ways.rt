@@ -11,7 +11,7 @@ use pks_terms::term::{Term, are_two_objects, front};
 use std::alloc::{AllocError, Global};
 
 /// The denial of the atom.
-pub fn denied(a: &PredAtom) -> Literal {
+pub fn denial_of(a: &PredAtom) -> Literal {
     Literal {
         atom: Atom::Pred(*a),
         positive: false,
@@ -88,7 +88,7 @@ fn put_link(
     push(
         to,
         LiteralRewrite {
-            literal: denied(a),
+            literal: denial_of(a),
             equation: step.by.line,
         },
     )
@@ -168,7 +168,7 @@ impl MomentLines {
         fixed: &PredAtom,
     ) -> Result<Vec<LiteralRewrite>, AllocError> {
         let mut chain = Vec::new(alloc);
-        push(&mut chain, first_of_chain(&denied(a)))?;
+        push(&mut chain, first_of_chain(&denial_of(a)))?;
         self.put_ways(alloc, a, fixed, &mut chain)?;
         Ok(chain)
     }

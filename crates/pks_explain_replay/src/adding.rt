@@ -32,7 +32,7 @@ fn add_target(
     let Some(written) = written else {
         return Ok(());
     };
-    match Tests::of(lines, step).made(alloc, written)? {
+    match Tests::of(lines, step).maker_of(alloc, written)? {
         Some(made) => put_made(alloc, lines, step, &made.target, made.by.as_slice()),
         None => Ok(()),
     }

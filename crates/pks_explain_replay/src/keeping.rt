@@ -19,7 +19,7 @@ struct Way {
 }
 
 /// What the action must not spoil, so that the literal takes the way.
-fn unspoiled(way: &Way, l: &Literal) -> Literal {
+fn what_must_stay(way: &Way, l: &Literal) -> Literal {
     if way.is_back { l.negated() } else { *l }
 }
 
@@ -33,7 +33,7 @@ fn put_carried(
     to: &mut Vec<Joining>,
 ) -> Result<(), AllocError> {
     let tests = Tests::of(lines, step);
-    let Some(by) = tests.keeping(alloc, &unspoiled(way, &known.0))? else {
+    let Some(by) = tests.keeping(alloc, &what_must_stay(way, &known.0))? else {
         return Ok(());
     };
     let cites = cite(alloc, lines, step.before, by.as_slice(), &[known.1])?;
@@ -41,7 +41,7 @@ fn put_carried(
 }
 
 /// Those that take the way, of the literals that have these lines where it begins and aren't known where it ends.
-fn carried(
+fn joinings_of(
     alloc: Global,
     lines: &mut Lines<'_>,
     step: &ActionStep,
@@ -65,7 +65,7 @@ fn carry(
     way: &Way,
 ) -> Result<(), AllocError> {
     let known = lines.known(alloc, way.from)?;
-    let carried = carried(alloc, lines, step, way, known.as_slice())?;
+    let carried = joinings_of(alloc, lines, step, way, known.as_slice())?;
     lines.join_all(alloc, way.to, carried)
 }
 

@@ -7,7 +7,8 @@ use pks_terms::literal::Literal;
 use pks_terms::sequence::Sequence;
 use std::alloc::{AllocError, Global};
 
-/// The lines on which one rests. Of those with one fact at one moment the first stands for all.
+/// The lines on which one rests. Of those with one fact at one moment one stands for all: of a literal the line by which the
+/// table knows it, where it rests on that, else the first.
 #[derive(Drop)]
 pub(crate) struct Rests {
     /// For each line the one that stands for it.
@@ -63,7 +64,7 @@ fn mark_cited(marks: &mut Vec<bool>, lines: &Lines<'_>, firsts: &[u32], number: 
 }
 
 /// Which lines the one of this number rests on, itself among them, where these stand for the others.
-fn marked(
+fn lines_below(
     alloc: Global,
     lines: &Lines<'_>,
     firsts: &[u32],
@@ -175,9 +176,9 @@ fn firsts_of(
 
 /// The lines on which the one of this number rests. The error is want of memory, or a line that isn't found.
 pub(crate) fn rests_of(alloc: Global, lines: &Lines<'_>, last: u32) -> Result<Rests, AllocError> {
-    let used = marked(alloc, lines, &[], last)?;
+    let used = lines_below(alloc, lines, &[], last)?;
     let firsts = firsts_of(alloc, lines, used.as_slice(), last)?;
-    let marks = marked(alloc, lines, firsts.as_slice(), last)?;
+    let marks = lines_below(alloc, lines, firsts.as_slice(), last)?;
     Ok(Rests { firsts, marks })
 }
 
@@ -195,7 +196,7 @@ fn ranks_of(alloc: Global, marks: &[bool]) -> Result<Vec<u32>, AllocError> {
 }
 
 /// An equal fact.
-fn copied(f: &Fact) -> Result<Fact, AllocError> {
+fn copy_of(f: &Fact) -> Result<Fact, AllocError> {
     match f {
         Fact::Lit(l) => Ok(Fact::Lit(*l)),
         Fact::Kx(g) => Ok(Fact::Kx(g.copied()?)),
@@ -237,7 +238,7 @@ impl Rests {
         let cites = self.new_cites(alloc, ranks, line.cites.as_slice())?;
         Ok(Line {
             moment: line.moment,
-            fact: copied(&line.fact)?,
+            fact: copy_of(&line.fact)?,
             reason: line.reason,
             cites: Sequence::of(cites),
         })

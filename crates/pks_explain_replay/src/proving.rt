@@ -18,24 +18,24 @@ struct MeasuredLine {
 }
 
 /// The line of this number, and on how many it rests.
-fn measured(alloc: Global, lines: &Lines<'_>, number: u32) -> Result<MeasuredLine, AllocError> {
+fn measure(alloc: Global, lines: &Lines<'_>, number: u32) -> Result<MeasuredLine, AllocError> {
     let size = rests_of(alloc, lines, number)?.count();
     Ok(MeasuredLine { number, size })
 }
 
 /// The line by which the literal, which holds at the moment, is shown, and on how many it rests.
-fn shown(
+fn show_and_measure(
     alloc: Global,
     lines: &mut Lines<'_>,
     m: usize,
     l: &Literal,
 ) -> Result<MeasuredLine, AllocError> {
     let number = lines.show(alloc, m, l)?;
-    measured(alloc, lines, number)
+    measure(alloc, lines, number)
 }
 
 /// The action of the path before which so many come.
-fn deed(path: &[Turn], before: usize) -> Option<Instance> {
+fn action_before(path: &[Turn], before: usize) -> Option<Instance> {
     let mut left = before;
     for turn in path {
         if let Turn::Went(i) = turn {
@@ -68,7 +68,7 @@ fn keeping(
 
 /// An effect of an action at its place among them, whose conditions hold.
 #[derive(Clone, Copy)]
-struct Fired<'a> {
+struct FiringEffect<'a> {
     k: usize,
     firing: &'a Firing,
 }
@@ -78,13 +78,13 @@ fn put_form(
     alloc: Global,
     lines: &mut Lines<'_>,
     step: &ActionStep,
-    fired: &Fired<'_>,
+    effect: &FiringEffect<'_>,
     form: &TargetForm,
     to: &mut Vec<Joining>,
 ) -> Result<(), AllocError> {
     let tests = Tests::of(lines, step);
-    let conditions = fired.firing.conditions();
-    let Some(by) = tests.made_in(alloc, fired.k, conditions, form)? else {
+    let conditions = effect.firing.conditions();
+    let Some(by) = tests.made_in(alloc, effect.k, conditions, form)? else {
         return Ok(());
     };
     let cites = lines.show_all(alloc, step.before, by.as_slice())?;
@@ -96,15 +96,15 @@ fn put_effect(
     alloc: Global,
     lines: &mut Lines<'_>,
     step: &ActionStep,
-    fired: &Fired<'_>,
+    effect: &FiringEffect<'_>,
     l: &Literal,
     to: &mut Vec<Joining>,
 ) -> Result<(), AllocError> {
-    let target = &fired.firing.effect.target;
+    let target = &effect.firing.effect.target;
     let forms = Tests::of(lines, step).target_forms(alloc, target)?;
     for form in forms.as_slice() {
         if form.literal == *l {
-            put_form(alloc, lines, step, fired, form, to)?;
+            put_form(alloc, lines, step, effect, form, to)?;
         }
     }
     Ok(())
@@ -120,7 +120,7 @@ fn put_effects(
 ) -> Result<(), AllocError> {
     for (k, firing) in step.firings.as_slice().iter().enumerate() {
         if Tests::of(lines, step).has_conditions(firing) {
-            put_effect(alloc, lines, step, &Fired { k, firing }, l, to)?;
+            put_effect(alloc, lines, step, &FiringEffect { k, firing }, l, to)?;
         }
     }
     Ok(())
@@ -135,7 +135,7 @@ fn found_by(
 ) -> Result<MeasuredLine, AllocError> {
     let cites = Vec::from_slice(alloc, way.cites.as_slice())?;
     let number = lines.add_line(alloc, m, Fact::Lit(way.literal), way.reason, cites)?;
-    measured(alloc, lines, number)
+    measure(alloc, lines, number)
 }
 
 /// Of two lines the one that rests on fewer, or else the first.
@@ -177,7 +177,7 @@ impl Replay<'_, '_> {
         let Some(before) = m.checked_sub(1) else {
             return Err(missing_as_memory());
         };
-        let Some(i) = deed(self.path.as_slice(), before) else {
+        let Some(i) = action_before(self.path.as_slice(), before) else {
             return Err(missing_as_memory());
         };
         step_of(alloc, self.problem, &self.lines, before, &i)
@@ -186,7 +186,7 @@ impl Replay<'_, '_> {
     /// A line of a literal that holds at the moment: of those that are had by showing it, by keeping it from the moment before,
     /// and by an effect, the one that rests on the fewest.
     fn best_line(&mut self, alloc: Global, m: usize, l: &Literal) -> Result<u32, AllocError> {
-        let shown = shown(alloc, &mut self.lines, m, l)?;
+        let shown = show_and_measure(alloc, &mut self.lines, m, l)?;
         if m == 0 || shown.size <= 2 {
             return Ok(shown.number);
         }

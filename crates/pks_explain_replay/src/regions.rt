@@ -144,7 +144,7 @@ pub(crate) fn clear_region(
     step: &ActionStep,
     x: &Pattern,
 ) -> Result<(), AllocError> {
-    match Tests::of(lines, step).made(alloc, &Target::Clear(*x))? {
+    match Tests::of(lines, step).maker_of(alloc, &Target::Clear(*x))? {
         Some(made) => put_cleared(alloc, lines, step, &made.target, made.by.as_slice()),
         None => Ok(()),
     }

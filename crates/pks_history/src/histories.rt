@@ -44,7 +44,7 @@ impl Model for History {
 
 /// The same moments, whose databases are shared.
 #[tactic(auto, using(pks_query_closing::proofs::Lists::read))]
-fn shared(alloc: Global, moments: &[Moment]) -> Result<Vec<Moment>, AllocError>
+fn share_moments(alloc: Global, moments: &[Moment]) -> Result<Vec<Moment>, AllocError>
     ensures { IfOk result (λ v. moments_of v.items ≡ moments_of moments.now) }
 {
     let mut all = Vec::new(alloc);
@@ -106,7 +106,7 @@ impl History {
         ensures { IfOk result (λ h. h ≡ pushed self.now (instance_of i) (five_of d)) }
     {
         let first = self.first.share()?;
-        let mut later = shared(alloc, self.later.as_slice())?;
+        let mut later = share_moments(alloc, self.later.as_slice())?;
         later.push(Moment { step: i, db: d })?;
         let later = RcSlice::from_vec(later)?;
         Ok(History { first, later })
@@ -121,7 +121,7 @@ impl History {
             [] => unreachable!(),
             [m, later @ ..] => {
                 let first = m.db.share()?;
-                let later = RcSlice::from_vec(shared(alloc, later)?)?;
+                let later = RcSlice::from_vec(share_moments(alloc, later)?)?;
                 Ok(History { first, later })
             }
         }

@@ -13,18 +13,20 @@ ghost use Rattle.pks_kx.specs.Groups.{groups_of};
 ghost use Rattle.pks_lcw.specs.Entries.{atoms_of, entry_of, entries_of};
 ghost use Rattle.pks_query_lookup.specs.Fives.{five_of};
 ghost use Rattle.pks_laws_forget.specs.Transparent.{gives_value, left_of, is_elsewhere};
-ghost use Rattle.pks_laws_forget.specs.Testing.{has, are_objects, is_of_objects, is_written, is_assigned, is_untouched, is_left, is_kept, lasts_as_group, lasts_as_region};
+ghost use Rattle.pks_laws_forget.specs.Testing.{has, is_written, is_assigned, is_untouched, is_left, is_kept, lasts_as_group, lasts_as_region};
 ghost use Rattle.pks_terms.specs.ValidProblems.{ArePlaced};
+ghost use Rattle.pks_terms.specs.Objects.{are_objects, is_of_objects};
 
 use crate::effects::{has, is_assigned, is_written};
 use crate::kept_copies::is_kept_copy;
-use crate::objects::{are_objects, are_of_objects, gives_value, is_object, is_of_objects};
+use crate::objects::{are_of_objects, gives_value};
 use crate::touching::{are_elsewhere, are_left, is_untouched};
 use pks_lcw::Entry;
 use pks_query_lookup::derived::Derived;
 use pks_query_lookup::five::Five;
 use pks_terms::group::Group;
 use pks_terms::literal::{Atom, Literal, PredAtom};
+use pks_terms::objects::{are_objects, is_object, is_of_objects};
 use pks_terms::schema::Effect;
 use pks_terms::term::{Term, front};
 

@@ -9,10 +9,10 @@ ghost use Rattle.pks_query_lookup.specs.Fives.{five_of};
 ghost use Rattle.pks_laws_forget.specs.Testing.{is_assigned, is_moved, is_kept_copy};
 
 use crate::effects::{has, is_assigned};
-use crate::objects::is_of_objects;
 use pks_query_lookup::derived::Derived;
 use pks_query_lookup::five::Five;
 use pks_terms::literal::Literal;
+use pks_terms::objects::is_of_objects;
 use pks_terms::schema::Effect;
 use pks_terms::term::{Inner, Term, front};
 

@@ -13,11 +13,11 @@ ghost use Rattle.pks_laws_forget.specs.Looks.{is_empty};
 ghost use Rattle.pks_laws_forget.specs.Staying.{is_at_others, leaves, are_alike, literal_stays, is_said_in, says_more, query_stays, aim_stays, aims_stay};
 
 use crate::effects::effects_of;
-use crate::objects::is_of_objects;
 use crate::touching::is_about;
 use pks_query::databases::Db;
 use pks_query_lookup::five::Five;
 use pks_terms::literal::{Conj, Literal};
+use pks_terms::objects::is_of_objects;
 use pks_terms::problem::{Aim, Problem, Signature};
 use pks_terms::schema::{Effect, Instance, Query, Target};
 use pks_terms::term::{Term, are_two_objects, front};

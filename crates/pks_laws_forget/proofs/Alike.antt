@@ -13,9 +13,9 @@ use Rattle.pks_terms.specs.Closure.{first_clash, inner_steps, term_steps, by_val
 use Rattle.pks_terms.specs.Saturated.{Within, IsSaturated}
 use Rattle.pks_terms.proofs.ListLaws.{each_in, found_in, any_in, or_false, in_appended, in_mapped}
 use Rattle.pks_terms.proofs.OrderLaws.{same_literal}
+use Rattle.pks_terms.specs.Objects.{is_named}
 use Rattle.pks_laws.proofs.Least.{in_left, in_right, in_flat, in_order-map, literal_eq_itself, term_eq_itself, one_value, least_one}
 use Rattle.pks_laws.proofs.ClosedAgain.{holds-normal}
-use Rattle.pks_laws_forget.specs.Transparent.{is_named}
 use Rattle.pks_laws_forget.proofs.Lists.{negated_twice, in_cond, into_cond, replaced_alike}
 
 abbrev is_empty : {X : Type 0} → List X → Bool

@@ -105,7 +105,8 @@ abbrev pub tail_steps : List (Instance × Five) → List (Instance × Five)
 tail_steps [] = []
 tail_steps (x ∷ xs) = xs
 
-same_known : (d e : Five) → Within d.kf e.kf → Within e.kf d.kf → IsOrdered literal_cmp d.kf → IsOrdered literal_cmp e.kf → forget d ≡ forget e → d ≡ e
+-- databases with the same literals and the same other sets are the same
+pub same_known : (d e : Five) → Within d.kf e.kf → Within e.kf d.kf → IsOrdered literal_cmp d.kf → IsOrdered literal_cmp e.kf → forget d ≡ forget e → d ≡ e
 same_known d e v w o q f = same_five d e f (same_members literal_cmp_total literal_cmp_tells d.kf e.kf o q v w)
 
 -- the same members and the same other sets: the same family

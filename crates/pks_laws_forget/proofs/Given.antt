@@ -17,12 +17,12 @@ use Rattle.pks_terms.specs.Saturated.{Within, IsSaturated}
 use Rattle.pks_terms.proofs.ListLaws.{each_in, each_of, each_weaker, all_from_each, found_in, any_in, in_filter}
 use Rattle.pks_terms.proofs.OrderLaws.{term_cmp_tells, same_term}
 use Rattle.pks_terms.specs.Totality.{term_cmp_total}
+use Rattle.pks_terms.specs.Objects.{is_named, is_of_objects}
 use Rattle.pks_laws.proofs.Least.{in_left, in_right, in_filter_map, term_eq_itself}
 use Rattle.pks_laws.proofs.Holding.{eqb_comm, same_objects_itself}
 use Rattle.pks_laws.proofs.NormalMembers.{eq_turned}
-use Rattle.pks_laws_forget.specs.Transparent.{AreObjects, is_named, gives_value, is_about, assigns_in, IsDecided, AreUnassigned, IsUntouched, IsKept, LastsAsGroup}
+use Rattle.pks_laws_forget.specs.Transparent.{AreObjects, gives_value, is_about, assigns_in, IsDecided, AreUnassigned, IsUntouched, IsKept, LastsAsGroup}
 use Rattle.pks_laws_forget.proofs.Agreeing.{objects_all}
-use Rattle.pks_laws_forget.specs.Testing.{is_of_objects}
 use Rattle.pks_laws_forget.proofs.Objects.{of_objects_test, literal_normal, denied_by, denies_about}
 
 pub same_predicate : (p q : ℕ) → Named p ≡ Named q → p ≡ q

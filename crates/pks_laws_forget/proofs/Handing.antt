@@ -13,10 +13,11 @@ use Rattle.pks_terms.specs.Spoiling.{may_fire, may_make_true, may_make_false, ma
 use Rattle.pks_terms.specs.Settling.{argument_forms, term_forms, stable_forms, target_forms, makes_same, is_made_otherwise, lasting, lasted, fired, must_have_fired, cannot_have_fired}
 use Rattle.pks_terms.specs.Saturated.{Within, IsSaturated}
 use Rattle.pks_terms.proofs.ListLaws.{each_in, each_of, each_from_all, found_in, any_in, in_filter, in_filtered, in_appended, in_mapped, in_map, in_flat_mapped}
+use Rattle.pks_terms.specs.Objects.{is_named}
 use Rattle.pks_laws.proofs.Least.{addition_in, normal_again}
 use Rattle.pks_laws.proofs.BelongingHistories.{later_each, other_each}
 use Rattle.pks_laws.proofs.ClosedAgain.{holds-normal}
-use Rattle.pks_laws_forget.specs.Transparent.{AreObjects, is_named, IsOfObjects, IsOfPlace, normal_target, with_normal, Makes, SurelyFires, NeverFires, AreUnassigned, IsReadAlike}
+use Rattle.pks_laws_forget.specs.Transparent.{AreObjects, IsOfObjects, IsOfPlace, normal_target, with_normal, Makes, SurelyFires, NeverFires, AreUnassigned, IsReadAlike}
 use Rattle.pks_laws_forget.proofs.Lists.{negated_twice, in_cond, self_or_other, replaced_alike, replaced_too}
 use Rattle.pks_laws_forget.proofs.Alike.{negated_normal, known_holds, no_both, differ_alike, not_apart, step_normal}
 use Rattle.pks_laws_forget.proofs.Agreeing.{normal-term_of}

@@ -12,9 +12,9 @@ use Rattle.pks_terms.specs.Actions.{Target, Set, Unset, Clear, Assign}
 use Rattle.pks_terms.specs.Spoiling.{may_make_true, may_make_false}
 use Rattle.pks_terms.specs.Progress.{fixed_terms, entry_terms}
 use Rattle.pks_terms.proofs.ListLaws.{each_front, each_back, in_mapped}
+use Rattle.pks_terms.specs.Objects.{are_objects, is_named, is_of_objects, is_place}
 use Rattle.pks_laws.proofs.Holding.{eqb_comm}
-use Rattle.pks_laws_forget.specs.Transparent.{AreObjects, is_named, IsOfObjects, is_place, gives_value, IsOfPlace, left_of, Makes, is_about, at_other_objects, arguments_made, leaves}
-use Rattle.pks_laws_forget.specs.Testing.{are_objects, is_of_objects}
+use Rattle.pks_laws_forget.specs.Transparent.{AreObjects, IsOfObjects, gives_value, IsOfPlace, left_of, Makes, is_about, at_other_objects, arguments_made, leaves}
 use Rattle.pks_laws_forget.proofs.Lists.{not_twice}
 
 pub objects_each : (ts : List Term) → are_objects ts ≡ true → AreObjects ts

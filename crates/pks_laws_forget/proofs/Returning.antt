@@ -14,15 +14,15 @@ use Rattle.pks_terms.specs.Spoiling.{may_fire, may_change}
 use Rattle.pks_terms.specs.Progress.{fixed_terms, entry_terms}
 use Rattle.pks_terms.specs.Saturated.{Within}
 use Rattle.pks_terms.proofs.ListLaws.{each_in, each_of, each_from_all, all_from_each, each_front, each_back, found_in, any_in, in_filter, in_filtered, in_appended, in_mapped}
+use Rattle.pks_terms.specs.Objects.{are_objects, is_named, is_of_objects}
 use Rattle.pks_laws.proofs.Least.{addition_in, in_right, one_value, least_one, normal_literal_again, value_literal}
 use Rattle.pks_laws.proofs.ClosedAgain.{holds-normal}
 use Rattle.pks_laws.proofs.NormalMembers.{normal_in}
 use Rattle.pks_laws.proofs.Values.{least_in}
-use Rattle.pks_laws_forget.specs.Transparent.{AreObjects, is_named, IsOfObjects, IsOfPlace, left_of, Makes, is_elsewhere, Assigns, SurelyFires, NeverFires, IsDecided, IsAssigned, IsKept}
+use Rattle.pks_laws_forget.specs.Transparent.{AreObjects, IsOfObjects, IsOfPlace, left_of, Makes, is_elsewhere, Assigns, SurelyFires, NeverFires, IsDecided, IsAssigned, IsKept}
 use Rattle.pks_laws_forget.proofs.Lists.{not_twice, negated_twice, nothing_found, any_each}
 use Rattle.pks_laws_forget.proofs.Alike.{objects_stay, normal_relation, normal_sign, normal_arguments, negated_normal, evident_equation, found_known, holds_cases, evident_holds, off_holds, known_holds, differ_holds, not_denied, some_differ_alike, not_apart}
 use Rattle.pks_laws_forget.proofs.Agreeing.{objects_are, application_form, normal_agrees, normals_agree, normal_inners_again}
-use Rattle.pks_laws_forget.specs.Testing.{are_objects, is_of_objects}
 use Rattle.pks_laws_forget.proofs.Objects.{of_objects, objects_normal, literal_normal, others_differ, objects_shut_out, denied_by, makes_one, none_apart, denies, named_gives_none, named_order, no_applications, OfPlace, of_place, objects_of_place, none_inside, place_is, literal_of_place, terms_of_place, negated_place}
 use Rattle.pks_laws_forget.proofs.Given.{IsGiven, changed_in, stays_in, touched_in, returns_in, is_own, known_then, untouched_returns, first_known, value_from, none_least, literal_kind, literal_arguments, literal_sign, literal_negated, IsRight, right_holds, wrong_not_evident, right_wrong}
 

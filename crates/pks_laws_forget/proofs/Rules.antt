@@ -16,11 +16,12 @@ use Rattle.pks_terms.specs.Settling.{lasting, lasted}
 use Rattle.pks_terms.specs.Saturated.{Within, IsSaturated}
 use Rattle.pks_terms.proofs.ListLaws.{each_in, each_from_all, all_from_each, found_in, any_in, in_filter, in_filtered, in_appended, in_mapped, in_map, in_flat_mapped, map-map}
 use Rattle.pks_terms.proofs.Types.{are_objects_of}
+use Rattle.pks_terms.specs.Objects.{is_named}
 use Rattle.pks_laws.proofs.Least.{in_left, in_right, in_flat, addition_in, ranged, values_within}
 use Rattle.pks_laws.proofs.ClosedAgain.{holds-normal}
 use Rattle.pks_laws.proofs.Holding.{eqb_comm}
 use Rattle.pks_laws.proofs.BelongingHistories.{other_each}
-use Rattle.pks_laws_forget.specs.Transparent.{AreObjects, is_named, IsOfObjects, gives_value, IsOfPlace, left_of, Makes, IsAssigned, leaves, IsLeft, IsKept, LastsAsGroup}
+use Rattle.pks_laws_forget.specs.Transparent.{AreObjects, IsOfObjects, gives_value, IsOfPlace, left_of, Makes, IsAssigned, leaves, IsLeft, IsKept, LastsAsGroup}
 use Rattle.pks_laws_forget.proofs.Lists.{negated_twice, any_each, any_more, replaced_alike, replaced_too}
 use Rattle.pks_laws_forget.proofs.Alike.{all_themselves, objects_stay, normal_relation, normal_arguments, normal_of, known_holds, group_closed, some_differ_alike, inner_step_normal, step_normal, member_grows, member_is}
 use Rattle.pks_laws_forget.proofs.Agreeing.{objects_are, normal-term_of}

@@ -7,16 +7,19 @@ use Rattle.pks_terms.specs.Syntax.{Relation, Named, Equality, Term, Literal, neg
 use Rattle.pks_terms.specs.Orders.{literal_cmp, conj_cmp}
 use Rattle.pks_terms.specs.Signatures.{HasValues}
 use Rattle.pks_terms.specs.Databases.{entry_cmp, Five}
-use Rattle.pks_terms.specs.Closure.{applications_in, first_clash, normal_group, normal_entry, tidied}
+use Rattle.pks_terms.specs.Closure.{applications_in, first_clash, rounds, normal_group, normal_entry, tidied, Next}
 use Rattle.pks_terms.specs.Actions.{Instance}
+use Rattle.pks_terms.specs.Branching.{Choice, Side, assumed, Assumes}
 use Rattle.pks_terms.specs.Spoiling.{may_be_changed, is_stable, are_stable, may_be_denied, spoils}
 use Rattle.pks_terms.specs.Problems.{Problem}
 use Rattle.pks_terms.specs.Settling.{History, effects_of, lasting, lasted, fired, must_have_fired, cannot_have_fired, forward, backward, settle_round, settle_rounds, clashes}
 use Rattle.pks_terms.specs.Saturated.{Within, IsSaturated, WithinAlong, ClosedAlong}
 use Rattle.pks_terms.proofs.ListLaws.{in_filter, in_filtered, in_appended}
+use Rattle.pks_laws.proofs.Belonging.{end_of}
 use Rattle.pks_laws.proofs.Least.{in_left, holds_grows}
 use Rattle.pks_laws.proofs.LeastFamily.{backward_within, settled_least}
 use Rattle.pks_laws.proofs.SettledEnd.{rounds_have_start, end_closed}
+use Rattle.pks_laws_forget.proofs.Cut.{assumed_more, rounds_have, rounds_leave}
 use Rattle.pks_laws_forget.proofs.Ends.{AreOrdered, forget, forget_steps, rounds_ordered, rounds_forget, along_same, first_within, quiet_within, first_closed}
 use Rattle.pks_laws_forget.specs.Looks.{AreWithout}
 use Rattle.pks_laws_forget.proofs.Thinned.{Steps, thin, fat, fat_start, thin_self, thin_fat, thin_within, thin_each, thin_forgets, one_goes}
@@ -288,6 +291,21 @@ module _ (p : Problem) (inhabited : HasValues p.signature) where
     pub known : Within a.kf m.kf
     pub groups : m.kx ≡ set_of conj_cmp (map (normal_group m.kf) a.kx)
     pub regions : m.lcw ≡ set_of entry_cmp (map (normal_entry m.kf) a.lcw)
+
+  -- so do those that a side leads to
+  pub side_replaces : (a d : Five) (c : Choice) (side : Side) → Assumes p.signature a c side (Next d) → Replaces a d
+  unfolding tidied
+  side_replaces a d c side s =
+      let from = assumed p.signature a c side in
+      let more = assumed_more p.signature a c side in
+      let keep = rounds_leave p.signature s.count from in
+      let r : Five = rounds p.signature s.count from in
+      let own : Replaces a (tidied r) = record {
+        known = λ l i. rounds_have p.signature s.count from l (more.0 l i);
+        groups = ap (λ gs. set_of conj_cmp (map (normal_group r.kf) gs)) (sym (more.1 ∙ keep.0));
+        regions = ap (λ rs. set_of entry_cmp (map (normal_entry r.kf) rs)) (sym (more.2 ∙ keep.1));
+      } in
+      subst (Replaces a) (sym (end_of p.signature from d s).1) own
 
   pub still_replaced : (b : Five) (i : Instance) (a m : Five) → Replaces a m → Continues p b i a → Continues p b i m
   still_replaced b i a m r k = record {

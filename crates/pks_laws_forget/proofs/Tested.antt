@@ -15,8 +15,9 @@ use Rattle.pks_terms.specs.Problems.{Problem}
 use Rattle.pks_terms.specs.Settling.{effects_of}
 use Rattle.pks_terms.proofs.ListLaws.{each_from_all, found_in}
 use Rattle.pks_terms.proofs.OrderLaws.{same_literal, same_term, conj_cmp_tells, entry_cmp_tells}
-use Rattle.pks_laws_forget.specs.Transparent.{AreObjects, is_named, IsOfObjects, gives_value, IsOfPlace, left_of, Makes, is_about, assigns_in, is_elsewhere, leaves, Assigns, SurelyFires, NeverFires, effects_by, IsDecided, AreUnassigned, IsReadAlike, IsWritten, IsAssigned, IsUntouched, IsMoved, IsLeft, IsKept, LastsAsGroup, IsTransparent}
-use Rattle.pks_laws_forget.specs.Testing.{has, are_objects, is_of_objects, made_by, fires_surely, fires_never, is_decided_to, is_decided, are_unassigned, stands_written, is_read_alike, is_written, assigns, is_assigned, is_untouched, is_moved, is_left, is_kept, lasts_as_group, lasts_as_region, hides_nothing}
+use Rattle.pks_terms.specs.Objects.{are_objects, is_named, is_of_objects}
+use Rattle.pks_laws_forget.specs.Transparent.{AreObjects, IsOfObjects, gives_value, IsOfPlace, left_of, Makes, is_about, assigns_in, is_elsewhere, leaves, Assigns, SurelyFires, NeverFires, effects_by, IsDecided, AreUnassigned, IsReadAlike, IsWritten, IsAssigned, IsUntouched, IsMoved, IsLeft, IsKept, LastsAsGroup, IsTransparent}
+use Rattle.pks_laws_forget.specs.Testing.{has, made_by, fires_surely, fires_never, is_decided_to, is_decided, are_unassigned, stands_written, is_read_alike, is_written, assigns, is_assigned, is_untouched, is_moved, is_left, is_kept, lasts_as_group, lasts_as_region, hides_nothing}
 use Rattle.pks_laws_forget.proofs.Objects.{of_objects}
 
 -- each element that passes has P

@@ -14,8 +14,9 @@ use Rattle.pks_terms.specs.Settling.{effects_of}
 use Rattle.pks_terms.proofs.ListLaws.{each_in, each_from_all, each_weaker, found_in}
 use Rattle.pks_terms.proofs.OrderLaws.{conj_cmp_tells, entry_cmp_tells}
 use Rattle.pks_terms.proofs.SetLaws.{same_members}
+use Rattle.pks_terms.specs.Objects.{is_of_objects}
 use Rattle.pks_laws_forget.specs.Transparent.{AreObjects, IsOfObjects}
-use Rattle.pks_laws_forget.specs.Testing.{has, is_of_objects, lasts_as_region}
+use Rattle.pks_laws_forget.specs.Testing.{has, lasts_as_region}
 use Rattle.pks_laws_forget.proofs.Objects.{of_objects}
 use Rattle.pks_laws_forget.proofs.Tested.{equal_of, has_in, region_lasts}
 use Rattle.pks_laws_forget.specs.Looks.{IsLook, AreWithout, is_empty, has_group, lasts_in, is_look, behind, unlooked_from}

@@ -1,18 +1,18 @@
 -- What aims over time ask is told alike before and after a step that leaves it as it is.
-use Rattle.std.proofs.Common.{◌≡◌, ◌⊎◌, ◌&&◌, ◌||◌, ◌==◌, ◌++◌, ℕ, zero, suc, Bool, true, false, not, cond, List, [], ◌∷◌, map, filter, None, refl, sym, ap, ◌∙◌, subst, inl, inr, ⊎_elim, true≢false}
+use Rattle.std.proofs.Common.{◌≡◌, ◌⊎◌, ◌&&◌, ◌||◌, ◌==◌, ℕ, zero, suc, Bool, true, false, not, cond, List, [], ◌∷◌, map, filter, None, refl, sym, ap, ◌∙◌, subst, inl, inr, ⊎_elim, true≢false}
 use Rattle.std.specs.List.{list_any, list_all}
 use Rattle.std.specs.Ordering.{is_eq}
-use Rattle.std.proofs.lemmas.Bool.{and_parts, or_cases, or_left, or_right, not_from_false, false_from_ne_true, not-true, cases_Bool}
+use Rattle.std.proofs.lemmas.Bool.{and_parts, or_cases, or_left, or_right, not_from_false, false_from_ne_true, not-true}
 use Rattle.pks_terms.specs.Sets.{Each, IsIn, set_of}
 use Rattle.pks_terms.specs.Syntax.{Object, Parameter, Apply, Term, Relation, Named, Equality, Literal, negated}
-use Rattle.pks_terms.specs.Orders.{literal_cmp, literal_eq, conj_cmp, in_order}
-use Rattle.pks_terms.specs.Totality.{literal_cmp_total, conj_cmp_total}
+use Rattle.pks_terms.specs.Orders.{literal_eq, conj_cmp, in_order}
+use Rattle.pks_terms.specs.Totality.{literal_cmp_total}
 use Rattle.pks_terms.specs.Signatures.{Signature, HasValues}
 use Rattle.pks_terms.specs.Databases.{entry_cmp, Five, normal_literal, is_closed_off, holds}
 use Rattle.pks_terms.specs.Queries.{Plain, Know, KnowWhether, KnowValue, is_member, has_known_sides, is_decided, known_whether, answers_plain, answers, Query}
 use Rattle.pks_terms.specs.Closure.{first_clash, normal_conj, normal_entry, round, rounds, tidied, Next}
 use Rattle.pks_terms.specs.Actions.{Target, Set, Unset, Clear, Assign, Effect, Instance}
-use Rattle.pks_terms.specs.Aims.{moments, is_met, met}
+use Rattle.pks_terms.specs.Aims.{is_met, met}
 use Rattle.pks_terms.specs.Branching.{Choice, Act, BranchOn, CasesOn, Side, AsTrue, AsFalse, Is, assumed, Assumes}
 use Rattle.pks_terms.specs.Spoiling.{some_fixed_differ, may_fire, may_make_true, may_make_false, is_stable, are_stable, may_be_denied, some_may, spoils}
 use Rattle.pks_terms.specs.Problems.{Aim, Now, AtStart, Always, Once, Problem}
@@ -20,24 +20,23 @@ use Rattle.pks_terms.specs.Moments.{AreMomentsOf}
 use Rattle.pks_terms.specs.Valid.{IsValid}
 use Rattle.pks_terms.specs.Trees.{Tree, Derives}
 use Rattle.pks_terms.specs.Saturated.{IsSaturated, ClosedAlong}
-use Rattle.pks_terms.specs.Settling.{History, At, effects_of, forward, backward, lasting, lasted}
+use Rattle.pks_terms.specs.Settling.{History, At, effects_of, lasting, lasted}
 use Rattle.pks_terms.proofs.ListLaws.{or_false, each_in, each_of, each_map, each_weaker, each_from_all, found_in, any_in, in_filtered, in_filter, in_mapped, in_map, each_set_of}
-use Rattle.pks_terms.proofs.OrderLaws.{literal_cmp_tells, conj_cmp_tells, same_literal}
+use Rattle.pks_terms.proofs.OrderLaws.{literal_cmp_tells, conj_cmp_tells}
 use Rattle.pks_terms.proofs.SetLaws.{in_set_of, set_of_in}
+use Rattle.pks_terms.specs.Objects.{is_named, is_of_objects}
 use Rattle.pks_laws.proofs.Belonging.{end_of}
 use Rattle.pks_laws.proofs.ClosedAgain.{holds-tidied}
 use Rattle.pks_laws.proofs.Least.{in_left, literal_eq_itself, one_value, addition_in}
 use Rattle.pks_laws.proofs.NormalMembers.{normal_in}
-use Rattle.pks_laws_forget.specs.Transparent.{AreObjects, IsOfObjects, is_named, is_about, at_other_objects, IsTransparent, AreSetsAlong, with_first}
-use Rattle.pks_laws_forget.specs.Testing.{is_of_objects}
+use Rattle.pks_laws_forget.specs.Transparent.{AreObjects, IsOfObjects, is_about, at_other_objects, IsTransparent, AreSetsAlong, with_first}
 use Rattle.pks_laws_forget.specs.Staying.{is_at_others, leaves, are_alike, literal_stays, is_said_in, says_more, query_stays, aim_stays, aims_stay}
 use Rattle.pks_laws_forget.specs.Looks.{is_empty}
 use Rattle.pks_laws_forget.proofs.Alike.{found_known, holds_cases, known_holds, normal_relation, evident_equation}
 use Rattle.pks_laws_forget.proofs.Cut.{KeepsGoal, cut_kept, assumed_more, rounds_leave}
 use Rattle.pks_laws_forget.proofs.Ends.{forget, first_closed}
-use Rattle.pks_laws_forget.proofs.Lists.{negated_twice}
 use Rattle.pks_laws_forget.proofs.Tested.{equal_of}
-use Rattle.pks_laws_forget.proofs.Objects.{of_objects, of_objects_test, literal_normal, others_differ}
+use Rattle.pks_laws_forget.proofs.Objects.{of_objects, literal_normal, others_differ}
 
 -- ---- literals that the effects leave
 

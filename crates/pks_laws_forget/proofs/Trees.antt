@@ -1,18 +1,34 @@
 -- States that lead to like states have the same derived trees.
-use Rattle.std.proofs.Common.{◌≡◌, ℕ, true, List, ap, ◌∙◌, sym, subst, true≢false}
+use Rattle.std.proofs.Common.{◌≡◌, ◌&&◌, ℕ, true, List, [], ◌∷◌, refl, ap, ◌∙◌, sym, subst, true≢false}
+use Rattle.std.specs.List.{list_all}
 use Rattle.pks_laws.proofs.BelongingHistories.{is_clash}
 use Rattle.pks_terms.specs.Sets.{Each, IsIn}
 use Rattle.pks_terms.specs.Syntax.{Term}
 use Rattle.pks_terms.specs.Actions.{Instance}
-use Rattle.pks_terms.specs.Aims.{met}
+use Rattle.pks_terms.specs.Aims.{is_met, met}
 use Rattle.pks_terms.specs.Branching.{instances, is_undecided, left, may_split, Choice, BranchOn, CasesOn, Side, AsTrue, AsFalse, Is, IsMember}
 use Rattle.pks_terms.specs.Databases.{Five}
-use Rattle.pks_terms.specs.Problems.{Problem}
+use Rattle.pks_terms.specs.Signatures.{Signature}
+use Rattle.pks_terms.specs.Versions.{IsNow}
+use Rattle.pks_terms.specs.Problems.{Aim, Now, AtStart, Always, Once, Problem}
+use Rattle.pks_terms.specs.Queries.{answers}
 use Rattle.pks_terms.specs.Settling.{History, last_moment, State, At, Stopped}
 use Rattle.pks_terms.specs.Trees.{Tree, Goal, Impossible, Do, Branch, Cases, Chain, End, More, objects_in, Acts, Takes, Derives, DerivesEach}
 use Rattle.pks_laws.specs.OfSignature.{IsSideOf}
 use Rattle.pks_laws.proofs.TreesOf.{left_is_side}
 use Rattle.pks_terms.proofs.ListLaws.{each_of}
+
+all_met : (s : Signature) (h g : History) → last_moment h ≡ last_moment g → (xs : List Aim) → Each IsNow xs → list_all (is_met s h) xs ≡ list_all (is_met s g) xs
+all_met s h g e [] a = refl
+all_met s h g e (Now q ∷ xs) a = λ j. answers s (e j) q && all_met s h g e xs a.1 j
+all_met s h g e (AtStart q ∷ xs) a = absurd a.0
+all_met s h g e (Always q ∷ xs) a = absurd a.0
+all_met s h g e (Once q ∷ xs) a = absurd a.0
+
+-- aims of the last moment are met alike where it is the same
+pub met_alike : (p : Problem) → Each IsNow p.goal → (h g : History) → last_moment h ≡ last_moment g → met p h ≡ met p g
+unfolding met
+met_alike p plain h g e = all_met p.signature h g e p.goal plain
 
 -- what a history leads to, the like one leads to the like of
 pub record Likens (p : Problem) (Like : State → State → Type 0) : Type 1 where

@@ -4,3 +4,4 @@ pub mod Examples
 pub mod Fewer
 pub mod Looks
 pub mod Staying
+pub mod Ends

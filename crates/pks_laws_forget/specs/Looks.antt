@@ -11,8 +11,9 @@ use Rattle.pks_terms.specs.Progress.{entry_terms}
 use Rattle.pks_terms.specs.Problems.{Problem}
 use Rattle.pks_terms.specs.Settling.{History, effects_of}
 use Rattle.pks_terms.specs.Saturated.{Within}
+use Rattle.pks_terms.specs.Objects.{is_of_objects}
 use Rattle.pks_laws_forget.specs.Transparent.{AreObjects, IsOfObjects}
-use Rattle.pks_laws_forget.specs.Testing.{has, is_of_objects, lasts_as_region}
+use Rattle.pks_laws_forget.specs.Testing.{has, lasts_as_region}
 
 -- the action has no effects, what was known before is known after, and groups and regions are the same and speak of objects alone
 pub record IsLook (p : Problem) (before : Five) (i : Instance) (after : Five) : Type 0 where

@@ -1,7 +1,7 @@
 -- Aims over time that a step leaves as they are: what they ask is told alike by the moment before it and by the one after.
 use Rattle.std.specs.Prelude.{Bool, true, false, cond, not, ◌&&◌, ◌||◌, List}
 use Rattle.std.specs.List.{list_any, list_all}
-use Rattle.pks_terms.specs.Syntax.{Term, Relation, Literal, negated}
+use Rattle.pks_terms.specs.Syntax.{Term, Literal, negated}
 use Rattle.pks_terms.specs.Orders.{literal_eq}
 use Rattle.pks_terms.specs.Signatures.{Signature}
 use Rattle.pks_terms.specs.Databases.{Five, holds}
@@ -9,8 +9,8 @@ use Rattle.pks_terms.specs.Queries.{Plain, Know, KnowWhether, KnowValue}
 use Rattle.pks_terms.specs.Actions.{Target, Set, Unset, Clear, Assign, Effect, Instance}
 use Rattle.pks_terms.specs.Problems.{Aim, Now, AtStart, Always, Once, Problem}
 use Rattle.pks_terms.specs.Settling.{effects_of}
+use Rattle.pks_terms.specs.Objects.{is_of_objects}
 use Rattle.pks_laws_forget.specs.Transparent.{is_about, at_other_objects}
-use Rattle.pks_laws_forget.specs.Testing.{is_of_objects}
 use Rattle.pks_laws_forget.specs.Looks.{is_empty}
 
 -- the target makes an atom at other objects true or false

@@ -1,9 +1,10 @@
 -- A test whether a step hides nothing: it asks of each effect, literal, group and region in turn.
-use Rattle.std.specs.Prelude.{false, Bool, not, ◌&&◌, ◌||◌, is_some, List, Option, Some, None}
+use Rattle.std.specs.Prelude.{false, Bool, not, ◌&&◌, ◌||◌, List, Option, Some, None}
 use Rattle.std.specs.List.{list_any, list_all, flat_map}
 use Rattle.std.specs.Option.{option_map_or}
 use Rattle.std.specs.Ordering.{is_eq}
-use Rattle.pks_terms.specs.Syntax.{Apply, Term, as_object, Literal, negated, affirmed, denied}
+use Rattle.pks_terms.specs.Syntax.{Apply, Term, Literal, negated, affirmed, denied}
+use Rattle.pks_terms.specs.Objects.{are_objects, is_of_objects, is_named}
 use Rattle.pks_terms.specs.Orders.{term_eq, literal_eq, conj_cmp, equation}
 use Rattle.pks_terms.specs.Databases.{Entry, entry_cmp, Five, normal_literal}
 use Rattle.pks_terms.specs.Closure.{applications_in}
@@ -11,19 +12,11 @@ use Rattle.pks_terms.specs.Actions.{Target, Set, Unset, Clear, Assign, Effect, I
 use Rattle.pks_terms.specs.Progress.{entry_terms}
 use Rattle.pks_terms.specs.Problems.{Problem}
 use Rattle.pks_terms.specs.Settling.{effects_of}
-use Rattle.pks_laws_forget.specs.Transparent.{is_named, gives_value, left_of, is_about, assigns_in, is_elsewhere, leaves, effects_by}
+use Rattle.pks_laws_forget.specs.Transparent.{gives_value, left_of, is_about, assigns_in, is_elsewhere, leaves, effects_by}
 
 -- the literal is known
 abbrev pub has : Five → Literal → Bool
 has d l = list_any (literal_eq l) d.kf
-
--- each of the terms is an object
-abbrev pub are_objects : List Term → Bool
-are_objects ts = list_all (λ t. is_some (as_object t)) ts
-
--- a predicate at objects
-abbrev pub is_of_objects : Literal → Bool
-is_of_objects l = is_named l.relation && are_objects l.arguments
 
 -- what the target makes so
 abbrev pub made_by : Target → Option Literal

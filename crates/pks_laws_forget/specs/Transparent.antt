@@ -1,8 +1,9 @@
 -- Steps of a history that hide nothing: what is learnt after such a step comes back through it only as a copy.
 use Rattle.std.specs.Prelude.{true, false, ◌≡◌, ◌⊎◌, ◌==◌, ◌&&◌, ◌||◌, not, Bool, is_some, List, [], ◌∷◌, map}
-use Rattle.std.specs.List.{list_any, list_all, flat_map}
+use Rattle.std.specs.List.{list_any, flat_map}
 use Rattle.pks_terms.specs.Sets.{Each, IsIn}
-use Rattle.pks_terms.specs.Syntax.{Object, Parameter, Apply, Term, object, term_of, as_object, are_two_objects, Relation, Named, Equality, Literal, negated, affirmed, denied}
+use Rattle.pks_terms.specs.Syntax.{Apply, Term, object, term_of, as_object, are_two_objects, Relation, Named, Equality, Literal, negated, affirmed, denied}
+use Rattle.pks_terms.specs.Objects.{is_named, is_place}
 use Rattle.pks_terms.specs.Orders.{equation, number_of}
 use Rattle.pks_terms.specs.Databases.{Five, AreSets, inner_normal, normal, normal_literal}
 use Rattle.pks_terms.specs.Closure.{applications_in, normal_atom}
@@ -17,20 +18,9 @@ use Rattle.pks_terms.specs.Settling.{History, effects_of}
 abbrev pub AreObjects : List Term → Type 0
 AreObjects ts = Each (λ t. is_some (as_object t) ≡ true) ts
 
--- a predicate, not equality
-abbrev pub is_named : Relation → Bool
-is_named (Named p) = true
-is_named Equality = false
-
 -- a predicate at objects
 abbrev pub IsOfObjects : Literal → Type 0
 IsOfObjects l = (is_named l.relation ≡ true) × AreObjects l.arguments
-
--- a function at objects
-abbrev pub is_place : Term → Bool
-is_place (Object d) = false
-is_place (Parameter i) = false
-is_place (Apply f ts) = list_all (λ t. is_some (as_object t)) ts
 
 -- equality between a place and an object
 abbrev pub gives_value : Relation → List Term → Bool

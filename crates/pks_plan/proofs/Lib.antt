@@ -1,6 +1,7 @@
 pub mod Appended
 pub mod Costs
 pub mod Declared
+pub mod Forms
 pub mod Indented
 pub mod Roots
 pub mod TellingParts

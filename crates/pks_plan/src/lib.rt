@@ -13,5 +13,6 @@ mod trees;
 pub use body::print_tree;
 pub use bytes::{put, put_number};
 pub use order::{action_cost, better, cost, instance_cmp};
+pub use parts::{PrintedPart, Wording, print_list};
 pub use text::{print_conj, print_instance, print_literal, print_pattern, print_term};
 pub use trees::{CaseChain, Tree, depth};

@@ -7,7 +7,7 @@ ghost use Rattle.pks_plan.specs.Appending.{AppendsPart};
 ghost use Rattle.pks_plan.specs.Indents.{indent};
 
 use crate::bytes::{put, put_number};
-use crate::parts::PlanPart;
+use crate::parts::{PrintedPart, Wording};
 use crate::text::{print_conj, print_instance, print_term};
 use pks_terms::ids::ObjId;
 use pks_terms::literal::Conj;
@@ -112,7 +112,7 @@ pub(crate) fn case_line(
     ensures err { OnErr result (AppendsPart out.old.items out.new.items (line (indent level ++ (codes "case " ++ name_in (names_of p.now).objects object.0)))) }
 {
     begin_line(level, b"case ", out)?;
-    object.print(p, out)?;
+    object.print(&Wording(p, None), out)?;
     put(out, b"\n")?;
     Ok(())
 }

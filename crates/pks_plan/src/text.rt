@@ -1,12 +1,13 @@
 //! The text of terms, literals, conjunctions, patterns and actions.
 
 ghost use Rattle.std.specs.Prelude.{◌≡◌, ◌++◌, map, OnOk, OnErr};
-ghost use Rattle.pks_terms.specs.Printed.{name_in, relation_text, inner_text, term_text, literal_text, conj_text, slot_text, pattern_text, instance_text, listed};
-ghost use Rattle.pks_terms.specs.Views.{names_of, inner_of, term_of, relation_of, sides_of, literal_of, conj_of, pattern_of, instance_of};
+ghost use Rattle.pks_terms.specs.Printed.{name_in, term_text, literal_text, conj_text, pattern_text, instance_text};
+ghost use Rattle.pks_terms.specs.Views.{names_of, term_of, literal_of, conj_of, pattern_of, instance_of};
 ghost use Rattle.pks_plan.specs.Appending.{AppendsPart};
+ghost use Rattle.pks_plan.specs.Written.{parameters_of, parameter_text};
 
 use crate::bytes::put;
-use crate::parts::{PlanPart, print_list, print_parts};
+use crate::parts::{PrintedPart, Wording, print_list, print_parts};
 use pks_terms::ids::ObjId;
 use pks_terms::literal::{Atom, Conj, Literal, Pattern};
 use pks_terms::lookup::{action_name, function_name, object_name, predicate_name, relation_text};
@@ -15,150 +16,190 @@ use pks_terms::schema::Instance;
 use pks_terms::term::{Inner, Term, front};
 use std::alloc::AllocError;
 
-impl PlanPart for ObjId {
+/// The name of a parameter, or no text where there is none.
+fn parameter_name<'s>(parameters: &[&'s str], parameter: u8) -> &'s str
+    ensures { result.now ≡ name_in (map (λ t. t.now) parameters.now) parameter }
+{
+    match parameters.get(usize::from(parameter)) {
+        Some(name) => *name,
+        None => "",
+    }
+}
+
+/// A parameter's name behind a question mark, where parameters have names.
+#[tactic(auto, using(crate::proofs::Appended::appended))]
+fn print_parameter(w: &Wording<'_>, parameter: u8, out: &mut Vec<u8>) -> Result<(), AllocError>
+    ensures ok { OnOk result (out.new.items ≡ out.old.items ++ parameter_text (parameters_of w.now) parameter) }
+    ensures err { OnErr result (AppendsPart out.old.items out.new.items (parameter_text (parameters_of w.now) parameter)) }
+{
+    if let Some(names) = w.1 {
+        put(out, b"?")?;
+        put(out, parameter_name(names, parameter).as_bytes())?;
+    }
+    Ok(())
+}
+
+impl PrintedPart for ObjId {
     ghost use Rattle.pks_terms.specs.Printed.{name_in};
+    ghost use Rattle.pks_terms.specs.Views.{names_of};
 
-    ghost text = { λ names d. name_in names.objects d.0 };
+    ghost text = { λ w d. name_in (names_of w.0.now).objects d.0 };
 
-    fn print(&self, p: &Problem<'_>, out: &mut Vec<u8>) -> Result<(), AllocError> {
-        put(out, object_name(p, *self).as_bytes())?;
+    fn print(&self, w: &Wording<'_>, out: &mut Vec<u8>) -> Result<(), AllocError> {
+        put(out, object_name(w.0, *self).as_bytes())?;
         Ok(())
     }
 }
 
-impl PlanPart for Inner {
-    ghost use Rattle.pks_terms.specs.Printed.{inner_text};
+impl PrintedPart for Inner {
     ghost use Rattle.pks_terms.specs.Views.{inner_of};
+    ghost use Rattle.pks_plan.specs.Written.{written_inner};
 
-    ghost text = { λ names t. inner_text names (inner_of t) };
+    ghost text = { λ w t. written_inner w (inner_of t) };
 
-    #[tactic(auto, using(crate::proofs::Appended::printed))]
-    fn print(&self, p: &Problem<'_>, out: &mut Vec<u8>) -> Result<(), AllocError> {
+    #[tactic(auto, using(crate::proofs::Appended::printed, crate::proofs::Forms::forms))]
+    fn print(&self, w: &Wording<'_>, out: &mut Vec<u8>) -> Result<(), AllocError> {
         match self {
-            Inner::Obj(object) => object.print(p, out)?,
-            Inner::Param(_) => {}
+            Inner::Obj(object) => object.print(w, out)?,
+            Inner::Param(i) => print_parameter(w, *i, out)?,
             Inner::App { fun, n, args } => {
-                print_list(p, function_name(p, *fun).as_bytes(), front(args, *n), out)?
+                let name = function_name(w.0, *fun);
+                print_list(w, name.as_bytes(), front(args, *n), out)?
             }
         }
         Ok(())
     }
 }
 
-impl PlanPart for Term {
-    ghost use Rattle.pks_terms.specs.Printed.{term_text};
+impl PrintedPart for Term {
     ghost use Rattle.pks_terms.specs.Views.{term_of};
+    ghost use Rattle.pks_plan.specs.Written.{written_term};
 
-    ghost text = { λ names t. term_text names (term_of t) };
+    ghost text = { λ w t. written_term w (term_of t) };
 
-    #[tactic(auto, using(crate::proofs::Appended::printed), unfolding(pks_terms::specs::Printed::term_text))]
-    fn print(&self, p: &Problem<'_>, out: &mut Vec<u8>) -> Result<(), AllocError> {
+    #[tactic(auto, using(crate::proofs::Appended::printed, crate::proofs::Forms::forms))]
+    fn print(&self, w: &Wording<'_>, out: &mut Vec<u8>) -> Result<(), AllocError> {
         match self {
-            Term::Obj(object) => object.print(p, out)?,
-            Term::Param(_) => {}
+            Term::Obj(object) => object.print(w, out)?,
+            Term::Param(i) => print_parameter(w, *i, out)?,
             Term::App { fun, n, args } => {
-                print_list(p, function_name(p, *fun).as_bytes(), front(args, *n), out)?
+                let name = function_name(w.0, *fun);
+                print_list(w, name.as_bytes(), front(args, *n), out)?
             }
         }
         Ok(())
     }
 }
 
-impl PlanPart for Option<Term> {
+impl PrintedPart for Option<Term> {
     ghost use Rattle.std.specs.Prelude.{option_map};
-    ghost use Rattle.pks_terms.specs.Printed.{slot_text};
     ghost use Rattle.pks_terms.specs.Views.{term_of};
+    ghost use Rattle.pks_plan.specs.Written.{written_slot};
 
-    ghost text = { λ names slot. slot_text names (option_map term_of slot) };
+    ghost text = { λ w slot. written_slot w (option_map term_of slot) };
 
-    fn print(&self, p: &Problem<'_>, out: &mut Vec<u8>) -> Result<(), AllocError> {
+    fn print(&self, w: &Wording<'_>, out: &mut Vec<u8>) -> Result<(), AllocError> {
         match self {
-            Some(t) => t.print(p, out)?,
+            Some(t) => t.print(w, out)?,
             None => put(out, b"_")?,
         }
         Ok(())
     }
 }
 
-impl PlanPart for Atom {
+impl PrintedPart for Atom {
     ghost use Rattle.std.specs.Prelude.{map};
-    ghost use Rattle.pks_terms.specs.Printed.{listed, relation_text, term_text};
-    ghost use Rattle.pks_terms.specs.Views.{relation_of, sides_of};
+    ghost use Rattle.pks_terms.specs.Printed.{listed, relation_text};
+    ghost use Rattle.pks_terms.specs.Views.{names_of, relation_of, sides_of};
+    ghost use Rattle.pks_plan.specs.Written.{written_term};
 
-    ghost text = { λ names a. listed (relation_text names (relation_of a)) (map (term_text names) (sides_of a)) };
+    ghost text = { λ w a. listed (relation_text (names_of w.0.now) (relation_of a)) (map (written_term w) (sides_of a)) };
 
     #[tactic(auto, using(crate::proofs::Appended::printed))]
-    fn print(&self, p: &Problem<'_>, out: &mut Vec<u8>) -> Result<(), AllocError> {
+    fn print(&self, w: &Wording<'_>, out: &mut Vec<u8>) -> Result<(), AllocError> {
         let arguments = self.arguments();
-        print_list(p, relation_text(p, self).as_bytes(), arguments.terms(), out)?;
+        let head = relation_text(w.0, self);
+        print_list(w, head.as_bytes(), arguments.terms(), out)?;
         Ok(())
     }
 }
 
-impl PlanPart for Literal {
-    ghost use Rattle.pks_terms.specs.Printed.{literal_text};
+impl PrintedPart for Literal {
     ghost use Rattle.pks_terms.specs.Views.{literal_of};
+    ghost use Rattle.pks_plan.specs.Written.{written_literal};
 
-    ghost text = { λ names l. literal_text names (literal_of l) };
+    ghost text = { λ w l. written_literal w (literal_of l) };
 
-    #[tactic(auto, using(crate::proofs::Appended::appended), unfolding(pks_terms::specs::Printed::literal_text))]
-    fn print(&self, p: &Problem<'_>, out: &mut Vec<u8>) -> Result<(), AllocError> {
+    #[tactic(auto, using(crate::proofs::Appended::appended))]
+    fn print(&self, w: &Wording<'_>, out: &mut Vec<u8>) -> Result<(), AllocError> {
         if self.positive {
-            self.atom.print(p, out)?;
+            self.atom.print(w, out)?;
         } else {
-            print_list(p, b"not", &[self.atom], out)?;
+            print_list(w, b"not", &[self.atom], out)?;
         }
+        Ok(())
+    }
+}
+
+impl PrintedPart for Pattern {
+    ghost use Rattle.pks_terms.specs.Views.{pattern_of};
+    ghost use Rattle.pks_plan.specs.Written.{written_pattern};
+
+    ghost text = { λ w x. written_pattern w (pattern_of x) };
+
+    #[tactic(auto, using(crate::proofs::Appended::printed))]
+    fn print(&self, w: &Wording<'_>, out: &mut Vec<u8>) -> Result<(), AllocError> {
+        let name = predicate_name(w.0, self.pred);
+        print_list(w, name.as_bytes(), front(&self.args, self.n), out)?;
         Ok(())
     }
 }
 
 /// Appends a term: an object as its name, an application as `(f t u)` (docs/FORMAT.md, "Printed texts"). A parameter has no
 /// text. Where memory runs out a beginning of the text was appended.
+#[tactic(auto, unfolding(pks_terms::specs::Printed::term_text))]
 pub fn print_term(p: &Problem<'_>, t: &Term, out: &mut Vec<u8>) -> Result<(), AllocError>
     ensures ok { OnOk result (out.new.items ≡ out.old.items ++ term_text (names_of p.now) (term_of t.now)) }
     ensures err { OnErr result (AppendsPart out.old.items out.new.items (term_text (names_of p.now) (term_of t.now))) }
 {
-    t.print(p, out)?;
+    t.print(&Wording(p, None), out)?;
     Ok(())
 }
 
 /// Appends a literal: an atom as `(p t u)`, an equation as `(= t u)` with its sides as they stand, a negation as
 /// `(not ..)` (docs/FORMAT.md, "Printed texts"). Where memory runs out a beginning of the text was appended.
+#[tactic(auto, unfolding(pks_terms::specs::Printed::literal_text, pks_terms::specs::Printed::term_text))]
 pub fn print_literal(p: &Problem<'_>, l: &Literal, out: &mut Vec<u8>) -> Result<(), AllocError>
     ensures ok { OnOk result (out.new.items ≡ out.old.items ++ literal_text (names_of p.now) (literal_of l.now)) }
     ensures err { OnErr result (AppendsPart out.old.items out.new.items (literal_text (names_of p.now) (literal_of l.now))) }
 {
-    l.print(p, out)?;
+    l.print(&Wording(p, None), out)?;
     Ok(())
 }
 
 /// Appends a conjunction: its literals in order, with one blank between (docs/FORMAT.md, "Printed texts"). Where memory runs
 /// out a beginning of the text was appended.
-#[tactic(auto, using(crate::proofs::Appended::appended, crate::proofs::Appended::with_blanks), unfolding(pks_terms::specs::Printed::conj_text))]
+#[tactic(auto, using(crate::proofs::Appended::appended, crate::proofs::Appended::with_blanks), unfolding(pks_terms::specs::Printed::conj_text, pks_terms::specs::Printed::literal_text, pks_terms::specs::Printed::term_text))]
 pub fn print_conj(p: &Problem<'_>, c: &Conj, out: &mut Vec<u8>) -> Result<(), AllocError>
     ensures ok { OnOk result (out.new.items ≡ out.old.items ++ conj_text (names_of p.now) (conj_of c.now)) }
     ensures err { OnErr result (AppendsPart out.old.items out.new.items (conj_text (names_of p.now) (conj_of c.now))) }
 {
+    let w = Wording(p, None);
     if let Some((first, rest)) = front(&c.literals, c.n).split_first() {
-        first.print(p, out)?;
-        print_parts(p, rest, out)?;
+        first.print(&w, out)?;
+        print_parts(&w, rest, out)?;
     }
     Ok(())
 }
 
 /// Appends a pattern, as an atom with `_` at its wildcards (docs/FORMAT.md, "Printed texts"). Where memory runs out a
 /// beginning of the text was appended.
-#[tactic(auto, using(crate::proofs::Appended::printed), unfolding(pks_terms::specs::Printed::pattern_text))]
+#[tactic(auto, using(crate::proofs::Forms::slots), unfolding(pks_terms::specs::Printed::pattern_text, pks_terms::specs::Printed::term_text))]
 pub fn print_pattern(p: &Problem<'_>, x: &Pattern, out: &mut Vec<u8>) -> Result<(), AllocError>
     ensures ok { OnOk result (out.new.items ≡ out.old.items ++ pattern_text (names_of p.now) (pattern_of x.now)) }
     ensures err { OnErr result (AppendsPart out.old.items out.new.items (pattern_text (names_of p.now) (pattern_of x.now))) }
 {
-    print_list(
-        p,
-        predicate_name(p, x.pred).as_bytes(),
-        front(&x.args, x.n),
-        out,
-    )?;
+    x.print(&Wording(p, None), out)?;
     Ok(())
 }
 
@@ -169,11 +210,7 @@ pub fn print_instance(p: &Problem<'_>, i: &Instance, out: &mut Vec<u8>) -> Resul
     ensures ok { OnOk result (out.new.items ≡ out.old.items ++ instance_text (names_of p.now) (instance_of i.now)) }
     ensures err { OnErr result (AppendsPart out.old.items out.new.items (instance_text (names_of p.now) (instance_of i.now))) }
 {
-    print_list(
-        p,
-        action_name(p, i.act).as_bytes(),
-        front(&i.args, i.n),
-        out,
-    )?;
+    let name = action_name(p, i.act);
+    print_list(&Wording(p, None), name.as_bytes(), front(&i.args, i.n), out)?;
     Ok(())
 }

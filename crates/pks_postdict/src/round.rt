@@ -94,7 +94,7 @@ fn backward_news(
 }
 
 /// These databases, to look literals up in.
-fn held(alloc: Global, five: Five) -> Result<Held, AllocError>
+fn hold(alloc: Global, five: Five) -> Result<Held, AllocError>
     ensures says { IfOk result (λ h. held_of h ≡ five_of five) }
     ensures unread { IfOk result (λ h. is_unread h true ≡ true) }
     ensures fine { (s : SSignature) → IfOk result (IsFine s) }
@@ -117,7 +117,7 @@ fn grown(alloc: Global, place: &Place, news: Vec<Literal>) -> Result<Place, Allo
         return Ok(Place { held, grew: false });
     }
     let next = five.with_known(kf)?;
-    let held = held(alloc, next)?;
+    let held = hold(alloc, next)?;
     Ok(Place { held, grew: true })
 }
 

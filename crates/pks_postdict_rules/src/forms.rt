@@ -87,7 +87,7 @@ fn put_each_with_values(to: &mut Vec<Term>, by: &Normals, terms: &[Term]) -> Res
 }
 
 /// The applications of the function to the arguments in each of their forms. The error is want of memory.
-pub(crate) fn applied(
+pub(crate) fn applications_of(
     alloc: Global,
     by: &Normals,
     fun: FnId,
@@ -111,7 +111,7 @@ pub(crate) fn term_forms(alloc: Global, by: &Normals, t: &Term) -> Result<Vec<Te
         forms.push(*t)?;
         return Ok(forms);
     };
-    let applied = applied(alloc, by, *fun, *n, args)?;
+    let applied = applications_of(alloc, by, *fun, *n, args)?;
     put_each_with_values(&mut forms, by, applied.as_slice())?;
     Ok(forms)
 }

@@ -14,7 +14,7 @@ ghost use Rattle.pks_postdict_rules.specs.Choosing.{choices_after};
 ghost use Rattle.pks_postdict_rules.specs.Targets.{stable_terms, equations_at, IsPlace};
 
 use crate::change::Change;
-use crate::forms::{applied, term_forms};
+use crate::forms::{applications_of, term_forms};
 use pks_terms::literal::{Atom, Literal, PredAtom, equation};
 use pks_terms::schema::Target;
 use pks_terms::term::{Inner, Term};
@@ -158,7 +158,7 @@ fn put_assigned(
     let Term::App { fun, n, args } = place else {
         return Ok(());
     };
-    let places = applied(alloc, change.before.normals(), *fun, *n, args)?;
+    let places = applications_of(alloc, change.before.normals(), *fun, *n, args)?;
     let values = stable_terms(alloc, change, value)?;
     put_equations_at(to, change, places.as_slice(), values.as_slice())?;
     Ok(())

@@ -1,8 +1,7 @@
 //! Literals from which nothing follows by the rules of closing.
-ghost use Rattle.std.specs.Prelude.{◌≡◌, map, not, is_some};
+ghost use Rattle.std.specs.Prelude.{◌≡◌, map, not};
 ghost use Rattle.std.specs.List.{list_all};
-ghost use Rattle.pks_terms.specs.Syntax.{as_object};
-ghost use Rattle.pks_terms.specs.Views.{effect_of, literal_of, literals_in, terms_of};
+ghost use Rattle.pks_terms.specs.Views.{effect_of, literal_of, literals_in};
 ghost use Rattle.pks_terms.specs.Orders.{literal_cmp};
 ghost use Rattle.pks_laws.specs.Lookup.{is_among};
 ghost use Rattle.pks_kf.specs.Known.{literals_of};
@@ -16,8 +15,9 @@ use pks_kx::Kx;
 use pks_progress_interference::effects::Effects;
 use pks_terms::ids::PredId;
 use pks_terms::literal::{Atom, Literal};
+use pks_terms::objects::are_objects;
 use pks_terms::schema::{Effect, Target};
-use pks_terms::term::{Term, front};
+use pks_terms::term::front;
 
 fn is_predicate(p: PredId, l: &Literal) -> bool
     ensures { result ≡ is_predicate p.0 (literal_of l.now).relation }
@@ -49,18 +49,6 @@ fn is_in_no_group(kx: &Kx, p: PredId) -> bool
         }
     }
     true
-}
-
-fn are_objects(terms: &[Term]) -> bool
-    ensures { result ≡ list_all (λ t. is_some (as_object t)) (terms_of terms.now) }
-{
-    match terms {
-        [] => true,
-        [t, rest @ ..] => match t {
-            Term::Obj(_) => are_objects(rest),
-            Term::Param(_) | Term::App { .. } => false,
-        },
-    }
 }
 
 /// Whether the literal says or denies at objects a predicate that is in no group.

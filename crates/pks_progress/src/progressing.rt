@@ -30,7 +30,6 @@ use pks_progress_adds::gained::Gains;
 use pks_progress_adds::gains::gains;
 use pks_progress_interference::effects::effects_of;
 use pks_query::databases::{Db, Step};
-use pks_query_closing::closing::CloseEnd;
 use pks_query_lookup::five::Five;
 use pks_terms::literal::Literal;
 use pks_terms::problem::{Problem, Signature};
@@ -60,7 +59,7 @@ fn with_gains(alloc: Global, kept: &Five, gains: Gains) -> Result<Five, AllocErr
 }
 
 /// The literals that the adds give.
-fn copied(alloc: Global, gains: &Gains) -> Result<Vec<Literal>, AllocError>
+fn gained_literals(alloc: Global, gains: &Gains) -> Result<Vec<Literal>, AllocError>
     ensures { IfOk result (λ v. literals_of v.items ≡ literals_of gains.now.kf.items) }
 {
     let literals = Vec::from_slice(alloc, gains.kf.as_slice())?;
@@ -75,7 +74,7 @@ fn progressed(alloc: Global, p: &Problem<'_>, d: &Db, i: &Instance) -> Result<Pu
 {
     let kept = kept_after(alloc, &p.signature, d.derived(), effects_of(p, i))?;
     let gains = gains(alloc, p, d, i)?;
-    let literals = copied(alloc, &gains)?;
+    let literals = gained_literals(alloc, &gains)?;
     let five = with_gains(alloc, &kept, gains)?;
     Ok(PutIn {
         kept,
@@ -84,23 +83,9 @@ fn progressed(alloc: Global, p: &Problem<'_>, d: &Db, i: &Instance) -> Result<Pu
     })
 }
 
-/// What the databases become by rounds. It asks for at most 65,536 objects, and for an object of each function's result
-/// type.
-fn closed_by_rounds(alloc: Global, s: &Signature, five: Five) -> Result<Step, AllocError>
-    requires few { length s.now.objects ≤ 65536 }
-    requires values { HasValues (signature_of s.now) }
-    ensures { IfOk result (λ o. Closes (signature_of s.now) (five_of five) (outcome_of o)) }
-{
-    match Db::close(alloc, s, five) {
-        Ok(next) => Ok(Step::Next(next)),
-        Err(CloseEnd::Clash(l)) => Ok(Step::Clash(l)),
-        Err(CloseEnd::Memory) => Err(AllocError),
-    }
-}
-
 /// What the databases become by closing. It asks for at most 65,536 objects, and for an object of each function's result
 /// type.
-fn closed(alloc: Global, s: &Signature, ahead: Ahead) -> Result<Step, AllocError>
+fn close_ahead(alloc: Global, s: &Signature, ahead: Ahead) -> Result<Step, AllocError>
     requires few { length s.now.objects ≤ 65536 }
     requires values { HasValues (signature_of s.now) }
     requires ahead { IsAhead (signature_of s.now) ahead }
@@ -112,7 +97,7 @@ fn closed(alloc: Global, s: &Signature, ahead: Ahead) -> Result<Step, AllocError
             Ok(Step::Next(next))
         }
         Ahead::Grown(five) => {
-            let step = closed_by_rounds(alloc, s, five)?;
+            let step = Db::close_to_step(alloc, s, five)?;
             Ok(step)
         }
     }
@@ -137,6 +122,6 @@ pub fn progress(alloc: Global, p: &Problem<'_>, d: &Db, i: &Instance) -> Result<
 {
     let put = progressed(alloc, p, d, i)?;
     let ahead = grown_or_still(alloc, &p.signature, d.derived(), effects_of(p, i), put)?;
-    let step = closed(alloc, &p.signature, ahead)?;
+    let step = close_ahead(alloc, &p.signature, ahead)?;
     Ok(step)
 }

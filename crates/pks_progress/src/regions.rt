@@ -118,7 +118,7 @@ fn widened_by(
 }
 
 /// The list of a region after these atoms may have become true, or nothing where the region is lost.
-fn widened(
+fn list_after(
     alloc: Global,
     s: &Signature,
     d: &Derived,
@@ -132,7 +132,7 @@ fn widened(
     match atoms {
         [] => Ok(Some(listed)),
         [a, atoms @ ..] => match widened_by(alloc, s, d, es, x, a, listed)? {
-            Some(listed) => widened(alloc, s, d, es, x, atoms, listed),
+            Some(listed) => list_after(alloc, s, d, es, x, atoms, listed),
             None => Ok(None),
         },
     }
@@ -154,7 +154,7 @@ fn kept_entry(
     }
     let listed = r.list.share()?;
     let pattern = r.pattern;
-    match widened(alloc, s, d, es, &pattern, atoms, listed)? {
+    match list_after(alloc, s, d, es, &pattern, atoms, listed)? {
         Some(list) => Ok(Some(Entry { pattern, list })),
         None => Ok(None),
     }

@@ -18,7 +18,7 @@ use pks_terms::schema::{Instance, Schema};
 use std::alloc::{AllocError, Global};
 
 /// The action of this number.
-fn declared<'a, 's>(p: &'a Problem<'s>, act: ActId) -> Option<&'a Schema<'s>>
+fn schema_of<'a, 's>(p: &'a Problem<'s>, act: ActId) -> Option<&'a Schema<'s>>
     requires { IsValidProblem p.now }
     ensures says { option_map (λ x. schema_of x.now) result ≡ slice_get (problem_of p.now).schemas act.0 }
     ensures placed { IfSome result (λ x. AssignToPlaces x.now.effects) }
@@ -66,7 +66,7 @@ pub fn gains(alloc: Global, p: &Problem<'_>, d: &Db, i: &Instance) -> Result<Gai
     ensures values { IfOk result (λ g. terms_of g.kv.items ≡ values_gained (problem_of p.now) (five_of d.now) (instance_of i.now)) }
     ensures regions { IfOk result (λ g. entries_of g.lcw.items ≡ regions_gained (problem_of p.now) (five_of d.now) (instance_of i.now)) }
 {
-    match declared(p, i.act) {
+    match schema_of(p, i.act) {
         Some(schema) => gains_by(alloc, &p.signature, d, schema, i),
         None => Ok(Gains::none(alloc)),
     }

@@ -14,6 +14,7 @@ ghost use Rattle.pks_query_lookup.specs.Fives.{five_of};
 ghost use Rattle.pks_query_closing.specs.Closing.{IfClash};
 ghost use Rattle.pks_query_closing.specs.Working.{EndsWith};
 ghost use Rattle.pks_query.specs.Closed.{AreClosed};
+ghost use Rattle.pks_query.specs.Steps.{outcome_of, IfNext, IsNextWith};
 
 use crate::initial::initial;
 use pks_query_closing::closing::{CloseEnd, close, close_unless_clash};
@@ -54,7 +55,7 @@ pub enum Step {
 }
 
 // Databases behind a count of references.
-fn shared(alloc: Global, derived: Derived) -> Result<Rc<Derived>, AllocError>
+fn behind_rc(alloc: Global, derived: Derived) -> Result<Rc<Derived>, AllocError>
     ensures { IfOk result (λ rc. rc.value ≡ derived) }
 {
     let rc = Rc::new(alloc, derived)?;
@@ -92,7 +93,7 @@ impl Db {
     {
         match close(alloc, s, five) {
             Ok(derived) => {
-                let derived = shared(alloc, derived)?;
+                let derived = behind_rc(alloc, derived)?;
                 Ok(Db { derived })
             }
             Err(end) => Err(end),
@@ -136,6 +137,22 @@ impl Db {
         Ok(db)
     }
 
+    /// What the five become by closing, as a step. It asks for what `close` does. Where the five are true of two worlds there
+    /// is no clash. The error is want of memory.
+    pub fn close_to_step(alloc: Global, s: &Signature, five: Five) -> Result<Step, AllocError>
+        requires few { length s.now.objects ≤ 65536 }
+        requires values { HasValues (signature_of s.now) }
+        ensures closes { IfOk result (λ o. Closes (signature_of s.now) (five_of five) (outcome_of o)) }
+        ensures moment { AreOf (signature_of s.now) (five_of five) → AreInOrder (five_of five) → IfOk result (λ o. IfNext (IsMomentOf (signature_of s.now)) (outcome_of o)) }
+        ensures keeps_truth { (w w' : World) → IsTrueOf (signature_of s.now) w w' (five_of five) → IfOk result (λ o. IsNextWith (IsTrueOf (signature_of s.now) w w') (outcome_of o)) }
+    {
+        match Db::close(alloc, s, five) {
+            Ok(next) => Ok(Step::Next(next)),
+            Err(CloseEnd::Clash(l)) => Ok(Step::Clash(l)),
+            Err(CloseEnd::Memory) => Err(AllocError),
+        }
+    }
+
     /// The databases that the problem's initial items become by closing. It asks for a valid problem. The error is the
     /// least literal that is derived false, or want of memory.
     pub fn first(alloc: Global, p: &Problem) -> Result<Db, CloseEnd>
@@ -169,7 +186,7 @@ impl Db {
         ensures { IfOk result (λ db. db ≡ derived) }
     {
         let _s = s;
-        let derived = shared(alloc, derived)?;
+        let derived = behind_rc(alloc, derived)?;
         Ok(Db { derived })
     }
 

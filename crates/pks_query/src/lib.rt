@@ -4,7 +4,6 @@
 pub mod asking;
 pub mod databases;
 pub mod initial;
-pub mod marks;
 pub mod same;
 
 pub use databases::{Db, Step};

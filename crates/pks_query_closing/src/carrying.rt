@@ -321,7 +321,7 @@ fn some_new_may(old: &Derived, kf: &Kf) -> bool {
 }
 
 /// The groups one after another.
-fn copied(alloc: Global, kx: &Kx) -> Result<Vec<Group>, AllocError>
+fn group_list(alloc: Global, kx: &Kx) -> Result<Vec<Group>, AllocError>
     ensures { IfOk result (λ v. v.items ≡ kx.now) }
 {
     let mut all = Vec::new(alloc);
@@ -333,10 +333,10 @@ fn copied(alloc: Global, kx: &Kx) -> Result<Vec<Group>, AllocError>
 }
 
 /// The databases, of whose literals none is listed.
-fn unlisted(alloc: Global, five: Five) -> Result<Carrying, AllocError>
+fn without_list(alloc: Global, five: Five) -> Result<Carrying, AllocError>
     ensures { IfOk result (λ c. Starts five c) }
 {
-    let groups = copied(alloc, &five.kx)?;
+    let groups = group_list(alloc, &five.kx)?;
     Ok(Carrying {
         five,
         listed: Vec::new(alloc),
@@ -364,11 +364,11 @@ fn list_all(
 
 /// The databases, of whose literals all are listed, those that the old databases don't have last, and the number of the first
 /// of these.
-fn listed(alloc: Global, old: &Derived, five: Five) -> Result<(Carrying, usize), AllocError>
+fn with_list(alloc: Global, old: &Derived, five: Five) -> Result<(Carrying, usize), AllocError>
     ensures { IfOk result (λ p. (s : SSignature) → IsReached s (five_of five) p.0) }
 {
     let kf = five.kf.share()?;
-    let mut carrying = unlisted(alloc, five)?;
+    let mut carrying = without_list(alloc, five)?;
     list_all(alloc, old, &kf, false, &mut carrying)?;
     carrying.find(alloc)?;
     let from = carrying.listed.len();
@@ -378,7 +378,7 @@ fn listed(alloc: Global, old: &Derived, five: Five) -> Result<(Carrying, usize),
 
 /// The databases with what follows from them by what the old ones don't have. It is not all where a second value of a place
 /// comes to be known. It asks for at most 65,536 objects. The error is want of memory.
-pub(crate) fn carried(
+pub(crate) fn carry(
     alloc: Global,
     s: &Signature,
     old: &Derived,
@@ -391,7 +391,7 @@ pub(crate) fn carried(
     if five.kx.len() == 0 && !some_new_may(old, &five.kf) {
         return Ok(five);
     }
-    let (mut carrying, from) = listed(alloc, old, five)?;
+    let (mut carrying, from) = with_list(alloc, old, five)?;
     carrying.work(alloc, s, from)?;
     let five = carrying.five.share()?;
     Ok(five)

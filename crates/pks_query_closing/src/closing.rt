@@ -17,7 +17,7 @@ ghost use Rattle.pks_query_closing.specs.declared.closing.CloseEnd.TheVariants.{
 use crate::clashing::least_clash;
 use crate::rounds::last_round;
 use crate::tidied::tidied;
-use crate::working::worked;
+use crate::working::work_out;
 use pks_query_lookup::derived::Derived;
 use pks_query_lookup::five::Five;
 use pks_terms::literal::Literal;
@@ -93,7 +93,7 @@ pub fn close_unless_clash(
     ensures { IfOk result (λ o. EndsWith (Closes (signature_of s.now) (five_of five)) o) }
 {
     let _start = five.kf.len();
-    let Some(last) = worked(alloc, s, five)? else {
+    let Some(last) = work_out(alloc, s, five)? else {
         return Ok(None);
     };
     let _known = last.five().kf.len();

@@ -109,7 +109,7 @@ fn left_with(
 }
 
 /// Which objects of the list are not shut out as the value of `t`. It looks no further than the second.
-fn left(s: &Signature, d: &Derived, t: &Term, objects: &[ObjId]) -> Remaining
+fn remaining_of(s: &Signature, d: &Derived, t: &Term, objects: &[ObjId]) -> Remaining
     ensures { (e : ℕ) → may_be result e ≡ is_last_left (signature_of s.now) (five_of d.now) (term_of t.now) (map object_of objects.now) e }
 {
     let form = d.normals().normal(t);
@@ -134,7 +134,7 @@ fn put_last(
 ) -> Result<(), AllocError>
     ensures { OnOk result (map literal_of to.new.items ≡ map literal_of to.old.items ++ map (value_is (term_of t.now)) (filter (is_last_left (signature_of s.now) (five_of d.now) (term_of t.now) (map object_of objects.now)) (map object_of objects.now))) }
 {
-    let left = left(s, d, t, objects);
+    let left = remaining_of(s, d, t, objects);
     for e in objects {
         if left.may_be(*e) {
             to.push(equation(t, &Term::Obj(*e), true))?;

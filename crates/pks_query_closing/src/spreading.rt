@@ -22,7 +22,7 @@ use std::alloc::{AllocError, Global};
 use std::mem::drop;
 
 /// The place of which the literal denies a value, and the application that it is.
-fn denied(l: &Literal) -> Option<(Inner, Term)>
+fn denied_application(l: &Literal) -> Option<(Inner, Term)>
     ensures { IfSome result (λ p. IsAmong (term_of p.1) (literal_of l.now)) }
 {
     let place = denied_place(l)?;
@@ -184,7 +184,7 @@ impl Carrying {
         requires { length s.now.objects ≤ 65536 }
         ensures { OnOk result (IsIn (literal_of l.now) (literals_of self.old.listed.items) → GoesOn (signature_of s.now) self.old self.new) }
     {
-        let Some((place, t)) = denied(l) else {
+        let Some((place, t)) = denied_application(l) else {
             return Ok(());
         };
         if !self.may_be_last(alloc, s, &place, &t)? {

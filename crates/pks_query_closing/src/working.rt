@@ -1,11 +1,11 @@
-//! Rounds between which work lists put in what follows by values and by groups, and that end where a clash is seen.
+//! Rounds between which a work list puts in what follows by values, ranges and groups, and that end where a clash is seen.
 ghost use Rattle.std.specs.Prelude.{◌≡◌, ◌≤◌, length, IfOk};
 ghost use Rattle.pks_terms.specs.Signatures.{HasValues};
 ghost use Rattle.pks_terms.specs.Views.{signature_of};
 ghost use Rattle.pks_query_lookup.specs.Fives.{five_of};
 ghost use Rattle.pks_query_closing.specs.Working.{GrowsTo, IsWorked};
 
-use crate::carrying::carried;
+use crate::carrying::carry;
 use crate::clashing::values_clash;
 use crate::rounds::next_round;
 use pks_query_lookup::derived::Derived;
@@ -14,20 +14,20 @@ use pks_terms::problem::Signature;
 use std::alloc::{AllocError, Global};
 use std::mem::drop;
 
-/// The databases with what follows from them by values that the old ones don't have, and then by their groups.
+/// The databases with what follows from them by what the old ones don't have.
 fn grown(alloc: Global, s: &Signature, old: &Derived, five: Five) -> Result<Derived, AllocError>
     requires few { length s.now.objects ≤ 65536 }
     requires values { HasValues (signature_of s.now) }
     ensures { IfOk result (λ e. GrowsTo (signature_of s.now) (five_of five) (five_of e)) }
 {
-    let more = carried(alloc, s, old, five)?;
+    let more = carry(alloc, s, old, five)?;
     let next = Derived::of(alloc, more)?;
     Ok(next)
 }
 
 /// All that follows by the rules, or `None` where a clash of values is seen on the way. It asks for at most 65,536 objects,
 /// and for an object of each function's result type. The error is want of memory.
-pub(crate) fn worked(
+pub(crate) fn work_out(
     alloc: Global,
     s: &Signature,
     five: Five,

@@ -1,10 +1,9 @@
 -- Literals of objects alone are their own normal forms.
 use Rattle.std.proofs.Common.{◌≡◌, true, List, [], ◌∷◌, map, refl, sym, ap, ◌∙◌, true≢false}
 use Rattle.std.proofs.lemmas.Bool.{and_parts}
-use Rattle.std.specs.Ordering.{on}
+use Rattle.std.specs.Ordering.{on, is_eq}
 use Rattle.pks_terms.specs.Syntax.{Object, Parameter, Apply, Term, Atom, Relation, Named, Equality, Literal}
 use Rattle.pks_terms.specs.Sets.{IsOrdered, set_of}
-use Rattle.std.specs.Ordering.{is_eq}
 use Rattle.std.proofs.lemmas.Cmp.{tied_itself}
 use Rattle.pks_terms.specs.Orders.{atom_cmp, literal, in_order, literal_eq}
 use Rattle.pks_terms.specs.Totality.{atom_cmp_total, literal_cmp_total}
@@ -16,7 +15,8 @@ use Rattle.pks_pmap_set.proofs.Mapped.{ordered-map}
 use Rattle.pks_pmap_set.proofs.Rising.{added_rising}
 use Rattle.pks_lcw.specs.Entries.{atoms_of}
 use Rattle.pks_query_lookup.specs.Forms.{is_normal}
-use Rattle.pks_query_lookup.specs.Own.{is_object, are_objects, have_objects, is_predicate, is_of_objects}
+use Rattle.pks_terms.specs.Objects.{is_object, are_objects, is_named, is_of_objects}
+use Rattle.pks_query_lookup.specs.Own.{have_objects}
 
 module _ (kf : List Literal) where
   own_term : (t : Term) → is_object t ≡ true → normal kf t ≡ t
@@ -31,7 +31,7 @@ module _ (kf : List Literal) where
       let parts = and_parts (is_object t) (are_objects ts) h in
       λ i. own_term t parts.0 i ∷ own_terms ts parts.1 i
 
-  own_order : (r : Relation) (ts : List Term) → is_predicate r ≡ true → in_order r ts ≡ ts
+  own_order : (r : Relation) (ts : List Term) → is_named r ≡ true → in_order r ts ≡ ts
   own_order (Named p) ts h = refl
   own_order Equality ts h = absurd (true≢false (sym h))
 
@@ -39,7 +39,7 @@ module _ (kf : List Literal) where
   pub own_literal : (l : Literal) → is_of_objects l ≡ true → normal_literal kf l ≡ l
   unfolding normal_literal literal
   own_literal l h =
-      let parts = and_parts (is_predicate l.relation) (are_objects l.arguments) h in
+      let parts = and_parts (is_named l.relation) (are_objects l.arguments) h in
       let order = own_order l.relation (map (normal kf) l.arguments) parts.0 ∙ own_terms l.arguments parts.1 in
       λ i. record { relation = l.relation; arguments = order i; positive = l.positive }
 

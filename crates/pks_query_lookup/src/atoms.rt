@@ -3,15 +3,16 @@ ghost use Rattle.std.specs.Prelude.{◌≡◌, map, IfOk};
 ghost use Rattle.pks_terms.specs.Sets.{set_of};
 ghost use Rattle.pks_terms.specs.Orders.{atom_cmp};
 ghost use Rattle.pks_terms.specs.Closure.{normal_atom};
-ghost use Rattle.pks_terms.specs.Views.{atom_of, terms_of};
+ghost use Rattle.pks_terms.specs.Views.{atom_of};
 ghost use Rattle.pks_kf.specs.Known.{literals_of};
 ghost use Rattle.pks_lcw.specs.Entries.{atoms_of};
-ghost use Rattle.pks_query_lookup.specs.Own.{are_objects, have_objects};
+ghost use Rattle.pks_query_lookup.specs.Own.{have_objects};
 
 use crate::normals::Normals;
 use pks_lcw::AtomSet;
 use pks_terms::literal::{Arguments, PredAtom};
-use pks_terms::term::{Term, front};
+use pks_terms::objects::are_objects;
+use pks_terms::term::front;
 use std::alloc::{AllocError, Global};
 
 /// The atom with its arguments in normal form. It takes no memory.
@@ -25,17 +26,6 @@ pub fn normal_atom(by: &Normals, a: &PredAtom) -> PredAtom
         pred: a.pred,
         n: a.n,
         args,
-    }
-}
-
-/// Whether each of the terms is an object.
-pub(crate) fn are_objects(ts: &[Term]) -> bool
-    ensures { result ≡ are_objects (terms_of ts.now) }
-{
-    match ts {
-        [] => true,
-        [Term::Obj(_), ts @ ..] => are_objects(ts),
-        [_, ..] => false,
     }
 }
 

@@ -16,12 +16,13 @@ ghost use Rattle.pks_query_lookup.specs.Forms.{HasItsForms};
 
 use crate::five::Five;
 use crate::forms::forms_of;
-use crate::literals::{gives_value, is_of_objects};
+use crate::literals::gives_value;
 use crate::normals::Normals;
 use pks_kf::Kf;
 use pks_lcw::{AtomSet, Entry};
 use pks_terms::literal::{Atom, Literal, PredAtom, equation};
 use pks_terms::lookup::is_foreign;
+use pks_terms::objects::is_of_objects;
 use pks_terms::problem::Signature;
 use pks_terms::term::{Term, are_two_objects, front};
 use std::alloc::{AllocError, Global};
@@ -102,7 +103,7 @@ impl Derived {
     }
 
     /// Reads other databases with the same known literals. What was read of these is shared. The error is want of memory
-    /// for one more reference.
+    /// for further references.
     pub fn again(&self, five: Five) -> Result<Derived, AllocError>
         requires { literals_of five.kf ≡ literals_of self.now.kf }
         ensures { IfOk result (λ d. d ≡ five) }
@@ -113,7 +114,7 @@ impl Derived {
     }
 
     /// Reads other databases, whose known literals give the same values as these, and have the normal form of each that is
-    /// known. The error is want of memory for one more reference.
+    /// known. The error is want of memory for further references.
     pub fn beside(&self, five: Five) -> Result<Derived, AllocError>
         requires values { GiveAlike (literals_of five.kf) (literals_of self.now.kf) }
         requires forms { HasItsForms (literals_of five.kf) }

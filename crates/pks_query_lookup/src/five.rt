@@ -26,7 +26,7 @@ pub struct Five {
 }
 
 impl Five {
-    /// The same five, all of whose memory is shared. The error is want of memory for one more reference.
+    /// The same five, all of whose memory is shared. The error is want of memory for a further reference to one of them.
     pub fn share(&self) -> Result<Five, AllocError>
         ensures { IfOk result (λ same. five_of same ≡ five_of self.now) }
     {
@@ -44,7 +44,7 @@ impl Five {
         })
     }
 
-    /// The same five with other known literals. The error is want of memory for one more reference.
+    /// The same five with other known literals. The error is want of memory for a further reference to one of them.
     pub fn with_known(&self, kf: Kf) -> Result<Five, AllocError>
         ensures five { IfOk result (λ next. five_of next ≡ record (five_of self.now) { kf = literals_of kf }) }
         ensures known { IfOk result (λ next. next.kf ≡ kf) }

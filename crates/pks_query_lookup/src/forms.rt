@@ -4,10 +4,10 @@ ghost use Rattle.pks_terms.specs.Views.{literal_of};
 ghost use Rattle.pks_kf.specs.Known.{literals_of};
 ghost use Rattle.pks_query_lookup.specs.Forms.{is_normal, other_forms, AreForms};
 
-use crate::literals::is_of_objects;
 use crate::normals::Normals;
 use pks_kf::Kf;
 use pks_terms::literal::Literal;
+use pks_terms::objects::is_of_objects;
 use std::alloc::{AllocError, Global};
 
 /// Whether the literal is its own normal form.

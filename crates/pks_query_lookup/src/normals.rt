@@ -11,7 +11,7 @@ ghost use Rattle.pks_query_lookup.specs.Reading.{first_objects, first_inners};
 ghost use Rattle.pks_query_lookup.specs.Tables.{GiveAlike};
 
 use crate::five::Five;
-use crate::table::{Table, kept, key_of, least_of, table_of};
+use crate::table::{Table, key_of, least_of, objects_at, table_of};
 use pks_terms::ids::{FnId, ObjId};
 use pks_terms::literal::Arguments;
 use pks_terms::term::{Inner, Term, front};
@@ -57,7 +57,7 @@ fn object(t: &Inner) -> Option<ObjId>
 }
 
 // A table behind a count of references.
-fn shared(alloc: Global, table: Table) -> Result<Rc<Table>, AllocError>
+fn behind_rc(alloc: Global, table: Table) -> Result<Rc<Table>, AllocError>
     ensures { IfOk result (λ rc. rc.value ≡ table) }
 {
     let rc = Rc::new(alloc, table)?;
@@ -70,7 +70,7 @@ impl Normals {
         ensures { IfOk result (λ n. n ≡ five) }
     {
         let table = table_of(alloc, &five.kf)?;
-        let table = shared(alloc, table)?;
+        let table = behind_rc(alloc, table)?;
         Ok(Normals { five, table })
     }
 
@@ -105,7 +105,7 @@ impl Normals {
     {
         let table: &Table = &self.table;
         match key_of(fun, at) {
-            Some(key) => kept(table, &key),
+            Some(key) => objects_at(table, &key),
             None => &[],
         }
     }

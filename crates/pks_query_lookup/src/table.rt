@@ -33,7 +33,7 @@ fn key(fun: FnId, n: u8, args: &[ObjId; 2]) -> Inner
 
 /// The place and the value of a literal that gives one.
 #[tactic(auto, unfolding(pks_terms::specs::Databases::told))]
-pub(crate) fn told(l: &Literal) -> Option<(Inner, ObjId)>
+pub(crate) fn place_and_value(l: &Literal) -> Option<(Inner, ObjId)>
     ensures told { option_map told_of result ≡ told (literal_of l.now).relation (literal_of l.now).arguments (literal_of l.now).positive }
     ensures key { IfSome result (λ p. IsKey p.0) }
 {
@@ -78,7 +78,7 @@ fn add(alloc: Global, table: &mut Table, l: &Literal) -> Result<(), AllocError>
     ensures adds { OnOk result (Adds table.old table.new (literal_of l.now ∷ [])) }
     ensures short { AreShort (literal_of l.now ∷ []) }
 {
-    match told(l) {
+    match place_and_value(l) {
         None => Ok(()),
         Some((key, d)) => {
             put(alloc, table, key, d)?;
@@ -112,7 +112,7 @@ pub(crate) fn key_of(fun: FnId, at: &[ObjId]) -> Option<Inner>
 }
 
 /// The objects at the key, or none.
-pub(crate) fn kept<'t>(table: &'t Table, key: &Inner) -> &'t [ObjId]
+pub(crate) fn objects_at<'t>(table: &'t Table, key: &Inner) -> &'t [ObjId]
     ensures { map object_of result.now ≡ objects_at table.now key.now }
 {
     match table.get(key) {

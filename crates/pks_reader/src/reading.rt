@@ -54,7 +54,7 @@ fn faultless<'s>(
 
 // The problem that a domain and a problem of the grammar state, or their first fault of meaning.
 #[tactic(auto, using(pks_reader_world::proofs::Refused::this_found, pks_reader_world::proofs::Refused::this_plain, pks_reader_shape::proofs::Refusing::none_refused))]
-fn meant<'s>(
+fn problem_of_forms<'s>(
     alloc: Global,
     version: Version,
     domain: &Form<'s>,
@@ -109,7 +109,7 @@ pub fn problem_of<'s>(
     let top = forms.top.as_slice();
     match shape_fault(source.len() as u32, top) {
         Some(refusal) => Err(Turned::Refused(refusal)),
-        None => meant(alloc, version_of(top), form_at(top, 1), form_at(top, 2)),
+        None => problem_of_forms(alloc, version_of(top), form_at(top, 1), form_at(top, 2)),
     }
 }
 

@@ -171,7 +171,7 @@ fn predicate_in(types: &Types<'_>, form: &Form<'_>) -> Shape
 }
 
 // The name `not`.
-fn barred(report: &mut Report, form: &Form<'_>)
+fn report_not(report: &mut Report, form: &Form<'_>)
     ensures { found_of report.new ≡ all_noted (found_of report.old) (barred_faults (form_view form.now)) }
 {
     let word = first_in(form);
@@ -184,7 +184,7 @@ fn barred_names(report: &mut Report, forms: &[Form<'_>])
     ensures { found_of report.new ≡ all_noted (found_of report.old) (each barred_faults (forms_view forms.now)) }
 {
     for form in forms {
-        barred(report, form);
+        report_not(report, form);
     }
 }
 

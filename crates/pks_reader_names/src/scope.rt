@@ -67,7 +67,7 @@ pub fn wanted_by(shape: Option<&Shape>) -> &[TypeId]
     }
 }
 
-fn copied(entry: Option<&u8>) -> Option<u8>
+fn count_at(entry: Option<&u8>) -> Option<u8>
     ensures { result ≡ option_map (λ a. a.now) entry.entry }
 {
     match entry {
@@ -101,14 +101,14 @@ impl<'d, 's> Scope<'d, 's> {
     pub fn object(&self, name: &str) -> Option<u8>
         ensures { result ≡ entry_of (scope_view self.now).objects name.now }
     {
-        copied(entry(&self.declared.objects, name))
+        count_at(entry(&self.declared.objects, name))
     }
 
     /// The type of a parameter.
     pub fn parameter(&self, name: &str) -> Option<u8>
         ensures { result ≡ entry_of (scope_view self.now).parameters name.now }
     {
-        copied(entry(self.parameters, name))
+        count_at(entry(self.parameters, name))
     }
 
     /// The shape of a predicate.

@@ -11,7 +11,7 @@ use crate::parts::{behind_head, first_forms, parts_of, section};
 use crate::report::Report;
 use crate::same::same_literal;
 use crate::scope::Scope;
-use crate::terms::{assigned, literal, only_positive, pattern, term};
+use crate::terms::{literal, only_positive, pattern, report_assignment, term};
 use pks_reader_shape::walk::is_headed;
 use pks_text::{Form, place_of};
 
@@ -127,7 +127,7 @@ fn target<'s>(report: &mut Report, scope: &Scope<'_, 's>, form: &Form<'s>)
     ensures { found_of report.new ≡ all_noted (found_of report.old) (target_faults (scope_view scope.now) (form_view form.now)) }
 {
     if is_headed("assign", form) {
-        assigned(report, scope, behind_head(form));
+        report_assignment(report, scope, behind_head(form));
     } else if is_headed("clear", form) {
         only_pattern(report, scope, behind_head(form));
     } else {
@@ -198,7 +198,7 @@ pub fn queries<'s>(report: &mut Report, scope: &Scope<'_, 's>, n: usize, forms: 
 
 // Queries and an item.
 #[tactic(auto, using(crate::proofs::Noting::noted_both))]
-fn given<'s>(report: &mut Report, scope: &Scope<'_, 's>, forms: &[Form<'s>])
+fn report_queries_and_item<'s>(report: &mut Report, scope: &Scope<'_, 's>, forms: &[Form<'s>])
     ensures { found_of report.new ≡ all_noted (found_of report.old) (given_faults (scope_view scope.now) (forms_view forms.now)) }
 {
     match forms {
@@ -219,7 +219,7 @@ fn add<'s>(report: &mut Report, scope: &Scope<'_, 's>, form: &Form<'s>)
     ensures { found_of report.new ≡ all_noted (found_of report.old) (add_faults (scope_view scope.now) (form_view form.now)) }
 {
     if is_headed("if", form) {
-        given(report, scope, behind_head(form));
+        report_queries_and_item(report, scope, behind_head(form));
     } else {
         item(report, scope, form);
     }
@@ -299,7 +299,7 @@ fn each_again(report: &mut Report, first: &Form<'_>, forms: &[Form<'_>])
 
 // Literals that stand twice.
 #[tactic(auto, using(crate::proofs::Noting::noted_both))]
-fn repeated(report: &mut Report, forms: &[Form<'_>])
+fn report_repeated(report: &mut Report, forms: &[Form<'_>])
     ensures { found_of report.new ≡ all_noted (found_of report.old) (repeated (forms_view forms.now)) }
 {
     for i in 0..forms.len() {
@@ -313,7 +313,7 @@ fn group<'s>(report: &mut Report, scope: &Scope<'_, 's>, forms: &[Form<'s>])
     ensures { found_of report.new ≡ all_noted (found_of report.old) (group_faults (scope_view scope.now) (forms_view forms.now)) }
 {
     literals(report, scope, 16, forms);
-    repeated(report, first_forms(16, forms));
+    report_repeated(report, first_forms(16, forms));
 }
 
 // An initial item.

@@ -20,7 +20,12 @@ use pks_terms::problem::Shape;
 use pks_terms::term::front;
 use pks_text::{Form, place_of};
 
-fn mistyped<'s>(report: &mut Report, scope: &Scope<'_, 's>, wanted: Option<u8>, term: &Form<'s>)
+fn report_mistyped<'s>(
+    report: &mut Report,
+    scope: &Scope<'_, 's>,
+    wanted: Option<u8>,
+    term: &Form<'s>,
+)
     ensures { found_of report.new ≡ all_noted (found_of report.old) (mistyped (scope_view scope.now) wanted (form_view term.now)) }
 {
     if let Some(wanted) = wanted {
@@ -45,7 +50,7 @@ fn apart(report: &mut Report, scope: &Scope<'_, '_>, left: Option<u8>, right: Op
 }
 
 #[tactic(auto, using(crate::proofs::FormLists::counted))]
-fn miscounted(report: &mut Report, shape: Option<&Shape>, args: &[Form<'_>], at: u32)
+fn report_miscounted(report: &mut Report, shape: Option<&Shape>, args: &[Form<'_>], at: u32)
     ensures { found_of report.new ≡ all_noted (found_of report.old) (miscounted (option_map (λ x. shape_of x.now) shape.entry) (forms_view args.now) at) }
 {
     if let Some(shape) = shape {
@@ -121,14 +126,14 @@ fn too_high(report: &mut Report, term: &Form<'_>)
 
 // The name of a predicate or function, and the number of its arguments.
 #[tactic(auto, using(crate::proofs::Noting::noted_both, crate::proofs::Noting::noted_known))]
-fn applied(report: &mut Report, shape: Option<&Shape>, parts: &[Form<'_>], at: u32)
+fn report_application(report: &mut Report, shape: Option<&Shape>, parts: &[Form<'_>], at: u32)
     ensures { found_of report.new ≡ all_noted (found_of report.old) (applied_faults (option_map (λ x. shape_of x.now) shape.entry) (forms_view parts.now) at) }
 {
     match parts {
         [head, args @ ..] => {
             report.too_long(text_of(head), place_of(head));
             report.require(shape.is_some(), place_of(head), 203);
-            miscounted(report, shape, args, at);
+            report_miscounted(report, shape, args, at);
         }
         [] => {}
     }
@@ -136,11 +141,17 @@ fn applied(report: &mut Report, shape: Option<&Shape>, parts: &[Form<'_>], at: u
 
 // The head of a term.
 #[tactic(auto, using(crate::proofs::Noting::noted_both))]
-fn headed(report: &mut Report, shape: Option<&Shape>, form: &Form<'_>, parts: &[Form<'_>], at: u32)
+fn report_head(
+    report: &mut Report,
+    shape: Option<&Shape>,
+    form: &Form<'_>,
+    parts: &[Form<'_>],
+    at: u32,
+)
     ensures { found_of report.new ≡ all_noted (found_of report.old) (too_high (form_view form.now) ++ applied_faults (option_map (λ x. shape_of x.now) shape.entry) (forms_view parts.now) at) }
 {
     too_high(report, form);
-    applied(report, shape, parts, at);
+    report_application(report, shape, parts, at);
 }
 
 /// The faults of a term.
@@ -153,7 +164,7 @@ pub fn term<'s>(report: &mut Report, scope: &Scope<'_, 's>, form: &Form<'s>)
         Form::Name(token) => word(report, scope, token.text, token.span.start),
         Form::List { parts, span } => {
             let shape = scope.function(head_of(parts));
-            headed(report, shape, form, parts, span.start);
+            report_head(report, shape, form, parts, span.start);
             arguments(report, scope, wanted_by(shape), parts);
         }
     }
@@ -178,7 +189,7 @@ fn arguments<'s>(report: &mut Report, scope: &Scope<'_, 's>, wanted: &[TypeId], 
 fn argument<'s>(report: &mut Report, scope: &Scope<'_, 's>, wanted: Option<u8>, arg: &Form<'s>)
     ensures { found_of report.new ≡ all_noted (found_of report.old) (mistyped (scope_view scope.now) wanted (form_view arg.now) ++ term_faults (scope_view scope.now) (form_view arg.now)) }
 {
-    mistyped(report, scope, wanted, arg);
+    report_mistyped(report, scope, wanted, arg);
     term(report, scope, arg);
 }
 
@@ -188,7 +199,7 @@ fn atom<'s>(report: &mut Report, scope: &Scope<'_, 's>, parts: &[Form<'s>], at: 
     ensures { found_of report.new ≡ all_noted (found_of report.old) (atom_faults (scope_view scope.now) (forms_view parts.now) at) }
 {
     let shape = scope.predicate(head_of(parts));
-    applied(report, shape, parts, at);
+    report_application(report, shape, parts, at);
     arguments(report, scope, wanted_by(shape), parts);
 }
 
@@ -233,11 +244,11 @@ fn place_and_value<'s>(
 {
     term(report, scope, place);
     term(report, scope, value);
-    mistyped(report, scope, scope.type_of(place), value);
+    report_mistyped(report, scope, scope.type_of(place), value);
 }
 
 /// The faults of a place and the value that it gets.
-pub fn assigned<'s>(report: &mut Report, scope: &Scope<'_, 's>, forms: &[Form<'s>])
+pub fn report_assignment<'s>(report: &mut Report, scope: &Scope<'_, 's>, forms: &[Form<'s>])
     ensures { found_of report.new ≡ all_noted (found_of report.old) (assigned_faults (scope_view scope.now) (forms_view forms.now)) }
 {
     match forms {

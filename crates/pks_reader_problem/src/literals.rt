@@ -51,7 +51,7 @@ fn signed_atom(atom: PredAtom, positive: bool) -> Literal
 }
 
 // An atom or an equation, affirmed or denied.
-fn signed(scope: &Scope<'_, '_>, form: &Form<'_>, positive: bool) -> Literal
+fn with_sign(scope: &Scope<'_, '_>, form: &Form<'_>, positive: bool) -> Literal
     requires { IsSmall (scope_view scope.now) }
     ensures says { literal_of result ≡ signed_in (scope_view scope.now) positive (form_view form.now) }
     ensures counts { LiteralCounts result }
@@ -70,7 +70,7 @@ fn only_denied(scope: &Scope<'_, '_>, forms: &[Form<'_>]) -> Literal
 {
     match forms {
         [] => no_literal(),
-        [form, _rest @ ..] => signed(scope, form, false),
+        [form, _rest @ ..] => with_sign(scope, form, false),
     }
 }
 
@@ -84,7 +84,7 @@ pub fn literal(scope: &Scope<'_, '_>, form: &Form<'_>) -> Literal
     if is_headed("not", form) {
         only_denied(scope, behind_head(form))
     } else {
-        signed(scope, form, true)
+        with_sign(scope, form, true)
     }
 }
 

@@ -152,7 +152,11 @@ fn declared_names<'s>(
 }
 
 // What is known at the start, by the parts of a problem.
-fn known<'s>(alloc: Global, declared: &Declared<'s>, parts: &[Form<'s>]) -> Result<InitList, Memory>
+fn init_items<'s>(
+    alloc: Global,
+    declared: &Declared<'s>,
+    parts: &[Form<'s>],
+) -> Result<InitList, Memory>
     requires { IsSmall (declared_view declared.now) }
     ensures says { IfOk result (λ xs. map (λ i. start_of i.start) xs ≡ all (start_in (declared_view declared.now)) (section (codes "init") (forms_view parts.now))) }
     ensures counts { IfOk result (λ xs. Each (λ i. InitCounts i.start) xs) }
@@ -168,7 +172,11 @@ fn known<'s>(alloc: Global, declared: &Declared<'s>, parts: &[Form<'s>]) -> Resu
 }
 
 // The goal, by the parts of a problem.
-fn wanted<'s>(alloc: Global, declared: &Declared<'s>, parts: &[Form<'s>]) -> Result<AimList, Memory>
+fn aim_items<'s>(
+    alloc: Global,
+    declared: &Declared<'s>,
+    parts: &[Form<'s>],
+) -> Result<AimList, Memory>
     requires { IsSmall (declared_view declared.now) }
     ensures says { IfOk result (λ xs. map aim_of xs ≡ all (aim_in (declared_view declared.now)) (section (codes "goal") (forms_view parts.now))) }
     ensures counts { IfOk result (λ xs. Each AimCounts xs) }
@@ -202,8 +210,8 @@ pub fn problem<'s>(
     let signature = signature(alloc, declared)?;
     let actions = all_actions(alloc, declared, actions_among(domain))?;
     let names = declared_names(alloc, declared, actions.params)?;
-    let init = known(alloc, declared, behind_head(form))?;
-    let goal = wanted(alloc, declared, behind_head(form))?;
+    let init = init_items(alloc, declared, behind_head(form))?;
+    let goal = aim_items(alloc, declared, behind_head(form))?;
     Ok(Problem {
         version,
         signature,

@@ -67,7 +67,7 @@ fn only_plain(scope: &Scope<'_, '_>, forms: &[Form<'_>]) -> Query
     }
 }
 
-fn denied(query: &Query) -> Query
+fn denial_of(query: &Query) -> Query
     ensures says { query_of result ≡ record (query_of query.now) { denied = true } }
     ensures counts { QueryCounts query.now → QueryCounts result }
 {
@@ -86,7 +86,7 @@ pub fn query(scope: &Scope<'_, '_>, form: &Form<'_>) -> Query
     ensures counts { QueryCounts result }
 {
     if is_headed("not-derived", form) {
-        denied(&only_plain(scope, behind_head(form)))
+        denial_of(&only_plain(scope, behind_head(form)))
     } else {
         plain(scope, form)
     }
@@ -126,7 +126,7 @@ fn no_assignment() -> Target
 }
 
 // A place, and the value that it gets.
-fn assigned(scope: &Scope<'_, '_>, forms: &[Form<'_>]) -> Target
+fn assignment(scope: &Scope<'_, '_>, forms: &[Form<'_>]) -> Target
     requires { IsSmall (scope_view scope.now) }
     ensures says { target_of result ≡ assigned_in (scope_view scope.now) (forms_view forms.now) }
     ensures counts { TargetCounts result }
@@ -153,7 +153,7 @@ pub fn target(scope: &Scope<'_, '_>, form: &Form<'_>) -> Target
     ensures places { AssignsToPlace result }
 {
     if is_headed("assign", form) {
-        assigned(scope, behind_head(form))
+        assignment(scope, behind_head(form))
     } else if is_headed("clear", form) {
         Target::Clear(only_pattern(scope, behind_head(form)))
     } else if is_headed("set", form) {
@@ -275,7 +275,7 @@ fn four_queries(n: u8, queries: [Query; 4]) -> FourQueries
 }
 
 // The first four queries.
-fn given(scope: &Scope<'_, '_>, forms: &[Form<'_>]) -> FourQueries
+fn first_queries(scope: &Scope<'_, '_>, forms: &[Form<'_>]) -> FourQueries
     requires { IsSmall (scope_view scope.now) }
     ensures says { map query_of (take result.n result.queries) ≡ first 4 (query_in (scope_view scope.now)) (forms_view forms.now) }
     ensures counts { (result.n ≤ 4) × Each QueryCounts (take result.n result.queries) }
@@ -335,7 +335,11 @@ fn conditional_add(scope: &Scope<'_, '_>, forms: &[Form<'_>], span: Span) -> Add
         [] => without_queries(&Item::Kw(Conj::empty()), span),
         [queries, rest @ ..] => match rest {
             [] => without_queries(&Item::Kw(Conj::empty()), span),
-            [form, _rest @ ..] => adds(&given(scope, parts_of(queries)), &item(scope, form), span),
+            [form, _rest @ ..] => adds(
+                &first_queries(scope, parts_of(queries)),
+                &item(scope, form),
+                span,
+            ),
         },
     }
 }

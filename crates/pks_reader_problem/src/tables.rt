@@ -64,7 +64,7 @@ fn parents(alloc: Global, table: &IndexMap<&str, Option<u8>>) -> Result<ParentLi
 
 // The shape, its count being that of the arguments.
 #[tactic(auto, using(crate::proofs::Counted::counted_same, crate::proofs::Counted::counted_length))]
-fn counted(shape: &Shape) -> Shape
+fn with_count(shape: &Shape) -> Shape
     ensures says { shape_of result ≡ shape_of shape.now }
     ensures counted { IsCounted result }
 {
@@ -84,7 +84,7 @@ fn shapes(alloc: Global, table: &IndexMap<&str, Shape>) -> Result<ShapeList, All
 {
     let mut shapes = Vec::new(alloc);
     for shape in table.values() {
-        shapes.push(counted(shape))?;
+        shapes.push(with_count(shape))?;
     }
     Ok(ShapeList::of(shapes))
 }

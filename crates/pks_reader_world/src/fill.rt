@@ -91,7 +91,7 @@ fn put_entries(world: &mut World, scope: &Scope<'_, '_>, entries: &[Form<'_>])
 }
 
 /// The world that the parts of a world section state, which have no fault. `AllocError` comes for want of memory alone.
-pub(crate) fn filled(
+pub(crate) fn fill_world(
     alloc: Global,
     p: &Problem<'_>,
     scope: &Scope<'_, '_>,

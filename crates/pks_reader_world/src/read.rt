@@ -17,7 +17,7 @@ ghost use Rattle.pks_reader_world.specs.Stated.{world_in, contents_fault, parts_
 ghost use Rattle.pks_reader_world.specs.Views.{IsRefusal};
 
 use crate::faults::facts;
-use crate::fill::filled;
+use crate::fill::fill_world;
 use crate::places::is_full;
 use indexmap::IndexMap;
 use pks_reader_declared::declarations;
@@ -32,7 +32,7 @@ use pks_world::World;
 use std::alloc::Global;
 
 // The refusal of the world for a fault of its own.
-fn refused(at: u32, code: u16) -> Turned
+fn refusal_at(at: u32, code: u16) -> Turned
     ensures { IsRefusal (Some (at, code)) result }
 {
     Turned::Refused(Refusal::plain(at, code))
@@ -60,7 +60,7 @@ fn place_at(top: &[Form<'_>], i: usize) -> u32
 
 // The world that a list states, which has the shape of one.
 #[tactic(auto, unfolding(crate::specs::Stated::contents_fault), using(crate::proofs::Refused::this_found, crate::proofs::Refused::this_plain, pks_reader_shape::proofs::Refusing::none_refused))]
-fn stated(
+fn world_of_form(
     alloc: Global,
     p: &Problem<'_>,
     scope: &Scope<'_, '_>,
@@ -82,9 +82,9 @@ fn stated(
         return Err(Turned::Refused(refusal));
     }
     if !is_full(&p.signature, &given) {
-        return Err(refused(place_of(form), 303));
+        return Err(refusal_at(place_of(form), 303));
     }
-    let world = filled(alloc, p, scope, behind_head(form))?;
+    let world = fill_world(alloc, p, scope, behind_head(form))?;
     Ok(world)
 }
 
@@ -110,13 +110,13 @@ fn among(
         declared,
         parameters: &none,
     };
-    let world = stated(alloc, p, &scope, form)?;
+    let world = world_of_form(alloc, p, &scope, form)?;
     Ok(world)
 }
 
 // The same where the top forms declare the names.
 #[tactic(auto, unfolding(crate::specs::Stated::declared_by))]
-fn declared(
+fn world_by_declarations(
     alloc: Global,
     p: &Problem<'_>,
     top: &[Form<'_>],
@@ -152,12 +152,12 @@ pub fn read_world(alloc: Global, p: &Problem<'_>, forms: &Forms<'_>) -> Result<W
 {
     let top = forms.top.as_slice();
     match top_at(top, 3) {
-        None => Err(refused(place_at(top, 2), 310)),
+        None => Err(refusal_at(place_at(top, 2), 310)),
         Some(form) => {
             if let Some(refusal) = world_shape_fault(top) {
                 return Err(Turned::Refused(refusal));
             }
-            let world = declared(alloc, p, top, form)?;
+            let world = world_by_declarations(alloc, p, top, form)?;
             Ok(world)
         }
     }

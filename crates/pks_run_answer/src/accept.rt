@@ -30,7 +30,7 @@ pub struct Accepted {
 }
 
 /// An add that has no case (260).
-fn unjustified(f: &InputFile<'_>, add: Unjustified) -> Refusal
+fn unjustified_refusal(f: &InputFile<'_>, add: Unjustified) -> Refusal
     ensures { printed_of f.now result ≡ refusal ((file_of f.now).add_at add.action.0 add.effect) 260 (codes " action " ++ (name_in (file_of f.now).names.actions add.action.0 ++ (codes " effect " ++ decimal add.effect))) }
 {
     Refusal {
@@ -75,7 +75,7 @@ fn begin(alloc: Global, f: &InputFile<'_>) -> Result<Db, Turned>
     ensures refused { IfErr result (IfRefused f.now (RefusesFirst (file_of f.now))) }
 {
     match justify(&f.problem) {
-        Err(first) => Err(Turned::Refused(unjustified(f, first))),
+        Err(first) => Err(Turned::Refused(unjustified_refusal(f, first))),
         Ok(()) => match Db::first_unless_clash(alloc, &f.problem) {
             Ok(Some(db)) => Ok(db),
             Ok(None) => Err(Turned::Refused(clash(f))),

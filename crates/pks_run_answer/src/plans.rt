@@ -130,7 +130,7 @@ pub(crate) fn look_for_plan(
 }
 
 // What is wanted of the plan, as text.
-fn made(
+fn product_text(
     alloc: Global,
     p: &Problem<'_>,
     product: Product<'_>,
@@ -170,7 +170,7 @@ pub(crate) fn plan(
     let found = look_for_plan(alloc, p, first, depth)?;
     match found {
         Planned::Plan(tree) => {
-            let text = made(alloc, p, product, &tree)?;
+            let text = product_text(alloc, p, product, &tree)?;
             Ok((Verdict::Done, text))
         }
         Planned::NoPlan(line) => Ok((Verdict::NoPlan, line)),

@@ -29,7 +29,7 @@ pub enum Verdict {
 }
 
 /// The world that a run is in.
-fn given<'w>(world: &'w Option<World>) -> &'w World
+fn world_of_run<'w>(world: &'w Option<World>) -> &'w World
     requires { IsSome world.now }
     ensures { world.now ≡ Some result.now }
 {
@@ -48,7 +48,7 @@ fn accepted_text(alloc: Global) -> Result<Vec<u8>, AllocError>
 }
 
 /// The reply where the file is accepted.
-fn concluded(
+fn conclude(
     alloc: Global,
     job: Job,
     f: &InputFile<'_>,
@@ -64,7 +64,13 @@ fn concluded(
     match job {
         Job::Check => Ok((Verdict::Done, accepted_text(alloc)?)),
         Job::Plan(depth) => plan(alloc, &f.problem, Product::Plain, first, depth),
-        Job::Exec(depth) => plan(alloc, &f.problem, Product::Run(given(&world)), first, depth),
+        Job::Exec(depth) => plan(
+            alloc,
+            &f.problem,
+            Product::Run(world_of_run(&world)),
+            first,
+            depth,
+        ),
         Job::Bench(n) => {
             let line = Product::BenchLine(n, f.source.as_bytes());
             plan(alloc, &f.problem, line, first, BENCH_DEPTH)
@@ -78,14 +84,18 @@ fn concluded(
 }
 
 /// The reply to a job about the file.
-fn replied(alloc: Global, job: Job, f: &InputFile<'_>) -> Result<(Verdict, Vec<u8>), AllocError>
+fn reply_to_job(
+    alloc: Global,
+    job: Job,
+    f: &InputFile<'_>,
+) -> Result<(Verdict, Vec<u8>), AllocError>
     requires whole { IsWhole f.now }
     requires bounds { IsInBounds (job_of job) }
     requires about { IsAbout (job_of job) f.now.source.now }
     ensures { IfOk result (λ a. IsReply (job_of job) (file_of f.now) a.0 a.1.items) }
 {
     match accept(alloc, job, f) {
-        Ok(accepted) => concluded(alloc, job, f, accepted),
+        Ok(accepted) => conclude(alloc, job, f, accepted),
         Err(Turned::Refused(r)) => Ok((Verdict::Refused, file_line(alloc, f, r)?)),
         Err(Turned::Memory) => Err(AllocError),
     }
@@ -106,6 +116,6 @@ pub fn reply_about(
     requires about { IsAbout (job_of job) f.now.source.now }
     ensures { IfOk result (λ a. RepliesTo (job_of job) (file_of f.now) a.0 a.1.items) }
 {
-    let answer = replied(alloc, job, f)?;
+    let answer = reply_to_job(alloc, job, f)?;
     Ok(answer)
 }

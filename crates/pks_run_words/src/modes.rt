@@ -44,7 +44,7 @@ fn is_in_bounds(job: Job) -> bool
 }
 
 /// The job of a mode with a number.
-fn numbered(mode: &str, number: u8) -> Option<Job>
+fn numbered_job(mode: &str, number: u8) -> Option<Job>
     ensures found { IfSome result (λ job. AreWordsOf (mode.now ∷ decimal number ∷ []) (job_of job)) }
     ensures none { IfNone result (AreNoWords (mode.now ∷ decimal number ∷ [])) }
 {
@@ -71,7 +71,7 @@ pub(crate) fn job_for(mode: &str, number: Option<&str>) -> Option<Job>
     ensures none { IfNone result (AreNoWords (given mode.now (option_map text_of number.entry))) }
 {
     match number {
-        Some(word) => numbered(mode, number_of(word)?),
+        Some(word) => numbered_job(mode, number_of(word)?),
         None => bare(mode),
     }
 }

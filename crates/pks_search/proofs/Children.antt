@@ -1,5 +1,5 @@
 -- The best tree after an action or where a side is taken, by how progression, assuming and settling end.
-use Rattle.std.proofs.Common.{◌≡◌, ◌+◌, ◌≤◌, ◌-◌, ℕ, true, List, [], ◌∷◌, Option, Some, None, option_map, refl, sym, subst, arith}
+use Rattle.std.proofs.Common.{◌≡◌, ◌+◌, ◌≤◌, ◌-◌, ℕ, Bool, true, false, not, List, [], ◌∷◌, Option, Some, None, option_map, refl, sym, subst, arith}
 use Rattle.pks_terms.specs.Sets.{IsIn}
 use Rattle.pks_terms.specs.Syntax.{Term, Literal}
 use Rattle.pks_terms.specs.Databases.{Five}
@@ -10,11 +10,15 @@ use Rattle.pks_terms.specs.Problems.{Problem, schema_of}
 use Rattle.pks_terms.specs.Branching.{instances, is_undecided, left, may_split, Choice, Act, BranchOn, CasesOn, Side, AsTrue, AsFalse, Is, Assumes}
 use Rattle.pks_terms.specs.Settling.{History, last_moment, pushed, with_last, State, At, Stopped, Settles}
 use Rattle.pks_terms.specs.Trees.{Tree, Takes, Impossible, Do, Branch, Cases, Chain, End, More, IsBestOf}
+use Rattle.pks_terms.specs.Signatures.{Signature}
+use Rattle.pks_laws.specs.OfSignature.{IsSideOf}
+use Rattle.pks_search.specs.Sides.{side_on, branch_of}
 use Rattle.pks_search.specs.Limits.{IsBestWithin, IsCheapBy, IsBestAfter, IsBestTaking, AreBestCheapCases}
 use Rattle.pks_search.proofs.Limited.{price, cheap_stopped, cheap_act, cheap_end, cheap_branch, cheap_branch-no_first, cheap_branch-no_second, cheap_more, cheap_more-no_first, cheap_cases}
 
-pub some_limit : (limit : ℕ) → 1 ≤ limit → limit ≡ 0 → ⊥
-some_limit limit some e = omega (arith, some, e)
+pub sided : (s : Signature) (c : List Literal) (b : Bool) (side : Side) → side ≡ side_on b → IsSideOf s (BranchOn c) side
+sided s c true side e = subst (IsSideOf s (BranchOn c)) (sym e) tt
+sided s c false side e = subst (IsSideOf s (BranchOn c)) (sym e) tt
 
 module _ (p : Problem) (h : History) where
   -- ---- after an action
@@ -52,17 +56,28 @@ module _ (p : Problem) (h : History) where
   by_sum : (n limit : ℕ) (c : Choice) (o : Option Tree) → limit - 1 + 1 ≡ limit → IsBestOf p (IsCheapBy p h (n + 1) (limit - 1 + 1) c) o → IsBestOf p (IsCheapBy p h (n + 1) limit c) o
   by_sum n limit c o e b = subst (λ l. IsBestOf p (IsCheapBy p h (n + 1) l c) o) e b
 
-  pub found_branch : (n limit : ℕ) (c : List Literal) (t u whole : Tree) → (limit ≡ 0 → ⊥) → IsIn c (last_moment h).kw → is_undecided p.signature (last_moment h) c ≡ true
+  found_branch : (n limit : ℕ) (c : List Literal) (t u whole : Tree) → (limit ≡ 0 → ⊥) → IsIn c (last_moment h).kw → is_undecided p.signature (last_moment h) c ≡ true
       → IsBestTaking p h (BranchOn c) AsTrue n (limit - 1) (Some t) → IsBestTaking p h (BranchOn c) AsFalse n (limit - 1) (Some u) → whole ≡ Branch c t u → IsBestOf p (IsCheapBy p h (n + 1) limit (BranchOn c)) (Some whole)
   found_branch n limit c t u whole some member open' f g e =
       by_sum n limit (BranchOn c) (Some whole) (omega arith)
       (subst (λ x. IsBestOf p (IsCheapBy p h (n + 1) (limit - 1 + 1) (BranchOn c)) (Some x)) (sym e) (cheap_branch p h n c (limit - 1) (Some t) (Some u) member open' f g))
 
-  pub no_true_side : (n limit : ℕ) (c : List Literal) (o : Option Tree) → (limit ≡ 0 → ⊥) → o ≡ None → IsBestTaking p h (BranchOn c) AsTrue n (limit - 1) o → IsBestOf p (IsCheapBy p h (n + 1) limit (BranchOn c)) None
+  no_true_side : (n limit : ℕ) (c : List Literal) (o : Option Tree) → (limit ≡ 0 → ⊥) → o ≡ None → IsBestTaking p h (BranchOn c) AsTrue n (limit - 1) o → IsBestOf p (IsCheapBy p h (n + 1) limit (BranchOn c)) None
   no_true_side n limit c o some e f = by_sum n limit (BranchOn c) None (omega arith) (cheap_branch-no_first p h n c (limit - 1) (subst (IsBestTaking p h (BranchOn c) AsTrue n (limit - 1)) e f))
 
-  pub no_false_side : (n limit : ℕ) (c : List Literal) (o : Option Tree) → (limit ≡ 0 → ⊥) → o ≡ None → IsBestTaking p h (BranchOn c) AsFalse n (limit - 1) o → IsBestOf p (IsCheapBy p h (n + 1) limit (BranchOn c)) None
+  no_false_side : (n limit : ℕ) (c : List Literal) (o : Option Tree) → (limit ≡ 0 → ⊥) → o ≡ None → IsBestTaking p h (BranchOn c) AsFalse n (limit - 1) o → IsBestOf p (IsCheapBy p h (n + 1) limit (BranchOn c)) None
   no_false_side n limit c o some e f = by_sum n limit (BranchOn c) None (omega arith) (cheap_branch-no_second p h n c (limit - 1) (subst (IsBestTaking p h (BranchOn c) AsFalse n (limit - 1)) e f))
+
+  pub found_sides : (n limit : ℕ) (c : List Literal) (b : Bool) (side other : Side) (t u whole : Tree) → (limit ≡ 0 → ⊥) → IsIn c (last_moment h).kw → is_undecided p.signature (last_moment h) c ≡ true
+      → side ≡ side_on b → other ≡ side_on (not b) → IsBestTaking p h (BranchOn c) side n (limit - 1) (Some t) → IsBestTaking p h (BranchOn c) other n (limit - 1) (Some u) → whole ≡ branch_of b c t u → IsBestOf p (IsCheapBy p h (n + 1) limit (BranchOn c)) (Some whole)
+  found_sides n limit c true side other t u whole some member open' e f g k q =
+      found_branch n limit c t u whole some member open' (subst (λ x. IsBestTaking p h (BranchOn c) x n (limit - 1) (Some t)) e g) (subst (λ x. IsBestTaking p h (BranchOn c) x n (limit - 1) (Some u)) f k) q
+  found_sides n limit c false side other t u whole some member open' e f g k q =
+      found_branch n limit c u t whole some member open' (subst (λ x. IsBestTaking p h (BranchOn c) x n (limit - 1) (Some u)) f k) (subst (λ x. IsBestTaking p h (BranchOn c) x n (limit - 1) (Some t)) e g) q
+
+  pub no_side : (n limit : ℕ) (c : List Literal) (b : Bool) (side : Side) (o : Option Tree) → (limit ≡ 0 → ⊥) → side ≡ side_on b → o ≡ None → IsBestTaking p h (BranchOn c) side n (limit - 1) o → IsBestOf p (IsCheapBy p h (n + 1) limit (BranchOn c)) None
+  no_side n limit c true side o some e q f = no_true_side n limit c o some q (subst (λ x. IsBestTaking p h (BranchOn c) x n (limit - 1) o) e f)
+  no_side n limit c false side o some e q f = no_false_side n limit c o some q (subst (λ x. IsBestTaking p h (BranchOn c) x n (limit - 1) o) e f)
 
   pub found_cases : (n limit : ℕ) (x : Term) (o : Option Chain) (whole : Option Tree) → (limit ≡ 0 → ⊥) → IsIn x (last_moment h).kv → may_split p.signature (last_moment h) x ≡ true
       → AreBestCheapCases p h x n (limit - 1) (left p.signature (last_moment h) x) o → whole ≡ option_map (Cases x) o → IsBestOf p (IsCheapBy p h (n + 1) limit (CasesOn x)) whole

@@ -1,20 +1,17 @@
 -- Where the bound leaves no room for a branch, the last moment alone has the trees of a history.
-use Rattle.std.proofs.Common.{◌≡◌, ◌≤◌, ◌<◌, ◌+◌, ◌-◌, ◌&&◌, ◌==◌, ℕ, min, max, true, List, [], ◌∷◌, ◌++◌, Option, Some, None, refl, sym, ◌∙◌, subst, inr, ⊎_elim, true≢false, arith}
-use Rattle.std.specs.List.{list_all}
+use Rattle.std.proofs.Common.{◌≡◌, ◌≤◌, ◌<◌, ◌+◌, ◌-◌, ◌==◌, ℕ, min, max, true, List, [], ◌∷◌, ◌++◌, Option, Some, None, refl, sym, ◌∙◌, subst, inr, ⊎_elim, arith}
 use Rattle.std.proofs.lemmas.Bool.{ltb-true, eqb-true, or_cases}
 use Rattle.std.proofs.lemmas.Option.{none-some}
 use Rattle.pks_terms.specs.Sets.{Each, IsIn}
 use Rattle.pks_terms.specs.Worlds.{World}
 use Rattle.pks_terms.specs.Databases.{Five}
 use Rattle.pks_terms.specs.Closure.{Next, Clash}
-use Rattle.pks_terms.specs.Queries.{answers}
 use Rattle.pks_terms.specs.Actions.{Instance}
 use Rattle.pks_terms.specs.Progress.{Progress}
-use Rattle.pks_terms.specs.Problems.{Aim, Now, AtStart, Always, Once, Problem, schema_of}
+use Rattle.pks_terms.specs.Problems.{Problem, schema_of}
 use Rattle.pks_terms.specs.Typed.{IsTyped, AllJustified}
 use Rattle.pks_terms.specs.Branching.{instances, Act}
 use Rattle.pks_terms.specs.Settling.{History, last_of, last_moment, pushed, State, At, Stopped}
-use Rattle.pks_terms.specs.Aims.{is_met, met}
 use Rattle.pks_terms.specs.Trees.{Tree, Goal, Impossible, Do, Branch, Cases, depth, chain_depth, cost, after_step, Acts, Derives, IsBestOf}
 use Rattle.pks_terms.specs.Knowledge.{grounded, after_action}
 use Rattle.pks_terms.specs.Valid.{IsValid}
@@ -27,6 +24,7 @@ use Rattle.pks_search_distance.specs.Levels.{IsAtMost}
 use Rattle.pks_search_distance.proofs.Running.{acted_may, may_do, reach_branch, reach_cases}
 use Rattle.pks_laws_forget.specs.Looks.{IsLook}
 use Rattle.pks_laws_forget.proofs.Thinned.{without_none}
+use Rattle.pks_laws_forget.proofs.Trees.{met_alike}
 use Rattle.pks_search_witness.specs.declared.witness.Witness.{Witness}
 use Rattle.pks_search_witness.specs.Near.{world_in, is_above}
 use Rattle.pks_history_forget.specs.Same.{IsEndOf, IsLeftOf}
@@ -55,20 +53,9 @@ last_end d (step ∷ steps) = inr (last_end step.1 steps)
 -- ---- straight trees are derived from the last moment
 
 module _ (p : Problem) (plain : Each IsNow p.goal) where
-  all_met : (h g : History) → last_moment h ≡ last_moment g → (xs : List Aim) → Each IsNow xs → list_all (is_met p.signature h) xs ≡ list_all (is_met p.signature g) xs
-  all_met h g e [] a = refl
-  all_met h g e (Now q ∷ xs) a = λ j. answers p.signature (e j) q && all_met h g e xs a.1 j
-  all_met h g e (AtStart q ∷ xs) a = absurd a.0
-  all_met h g e (Always q ∷ xs) a = absurd a.0
-  all_met h g e (Once q ∷ xs) a = absurd a.0
-
-  met_alike : (h g : History) → last_moment h ≡ last_moment g → met p h ≡ met p g
-  unfolding met
-  met_alike h g e = all_met h g e p.goal plain
-
   -- a straight tree is derived at each history with the same last moment
   pub alike : (t : Tree) → IsStraight t → (h g : History) → last_moment h ≡ last_moment g → Derives p (At h) t → Derives p (At g) t
-  alike Goal k h g e d = sym (met_alike h g e) ∙ d
+  alike Goal k h g e d = sym (met_alike p plain h g e) ∙ d
   alike Impossible k h g e d = absurd (not_stopped h d)
   alike (Do i t) k h g e d =
       let a = d.1.1 in

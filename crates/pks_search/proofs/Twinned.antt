@@ -1,10 +1,10 @@
 -- Twins along a search: how they are led on, and that no tree is derived where they are one world.
-use Rattle.std.proofs.Common.{◌≡◌, ◌≤◌, ℕ, Bool, true, false, not, List, [], ◌∷◌, ◌++◌, map, filter, length, None, refl, sym, ap, ◌∙◌, subst, inl, inr, ⊎_elim, true≢false}
+use Rattle.std.proofs.Common.{◌≡◌, ℕ, true, not, List, [], ◌∷◌, ◌++◌, filter, length, None, refl, sym, ap, ◌∙◌, subst, inl, ⊎_elim, true≢false}
 use Rattle.std.specs.Prelude.{nat_le}
 use Rattle.std.proofs.lemmas.Bool.{and_parts, or_cases, cases_Bool, not_from_false, false_from_ne_true}
 use Rattle.std.proofs.lemmas.Option.{none-some}
 use Rattle.pks_terms.specs.Sets.{Each, IsIn}
-use Rattle.pks_terms.specs.Syntax.{Term, Literal, object}
+use Rattle.pks_terms.specs.Syntax.{Term, object}
 use Rattle.pks_terms.specs.Orders.{literal, inequation}
 use Rattle.pks_terms.specs.Signatures.{Signature, range_of}
 use Rattle.pks_terms.specs.Worlds.{World, value_of, all_true_in}
@@ -12,15 +12,15 @@ use Rattle.pks_terms.specs.Databases.{Five, is_plain, differ, holds}
 use Rattle.pks_terms.specs.Meaning.{IsTrueIn, IsTrueOf}
 use Rattle.pks_terms.specs.Closure.{Outcome, Next, Closes}
 use Rattle.pks_terms.specs.Actions.{Instance}
-use Rattle.pks_terms.specs.Problems.{Aim, Problem, initial}
+use Rattle.pks_terms.specs.Problems.{Problem, initial}
 use Rattle.pks_terms.specs.Typed.{IsTyped, AllJustified}
 use Rattle.pks_terms.specs.Branching.{instances, left, may_split, Choice, Act, BranchOn, CasesOn, Side, AsTrue, AsFalse, Is, IsSo, IsMember, assumed}
 use Rattle.pks_terms.specs.Settling.{History, last_moment, pushed, with_last, State, At, Stopped, settle_rounds, tidied_history, Settles}
 use Rattle.pks_terms.specs.Aims.{is_met, met}
 use Rattle.pks_terms.specs.Trees.{Tree, Goal, Impossible, Do, Branch, Cases, Chain, End, More, objects_in, after_step, Acts, SettlesAfter, Takes, Derives, DerivesEach, IsBestOf}
 use Rattle.pks_terms.specs.Knowledge.{grounded, after_action, observations, after_actions, ground_actions}
-use Rattle.pks_terms.specs.Remembering.{deeds_of, Agree, AgreeAlong, TrueAlong, Both}
-use Rattle.pks_terms.proofs.ListLaws.{each_in, each_of, each_from_all, in_filtered, in_filter}
+use Rattle.pks_terms.specs.Remembering.{deeds_of, Both}
+use Rattle.pks_terms.proofs.ListLaws.{each_in, each_from_all, in_filtered, in_filter}
 use Rattle.pks_laws.proofs.Choosing.{act_not_branch, act_not_cases}
 use Rattle.pks_laws.proofs.Answering.{known_whether_alike}
 use Rattle.pks_laws.proofs.Holding.{differ_true}

@@ -1,7 +1,7 @@
 -- Twins at what is left of a history: a step that leaves what the aims ask leaves what tells them apart.
-use Rattle.std.proofs.Common.{◌≡◌, ◌==◌, ◌&&◌, ◌||◌, ℕ, Bool, true, false, cond, not, List, [], ◌∷◌, refl, sym, ap, ◌∙◌, subst, inl, inr, ⊎_elim, true≢false}
+use Rattle.std.proofs.Common.{◌≡◌, ◌==◌, ◌&&◌, ◌||◌, ℕ, Bool, true, false, cond, not, List, [], ◌∷◌, refl, sym, ap, ◌∙◌, subst, ⊎_elim, true≢false}
 use Rattle.std.specs.List.{list_any, list_all}
-use Rattle.std.proofs.lemmas.Bool.{and_parts, or_cases, or_from, and_from, not-true, not-false, cases_Bool}
+use Rattle.std.proofs.lemmas.Bool.{and_parts, or_cases, or_from, not-true, not-false, cases_Bool}
 use Rattle.pks_terms.specs.Sets.{Each, IsIn}
 use Rattle.pks_terms.specs.Syntax.{Object, Parameter, Apply, Term, Relation, Named, Equality, Literal, negated}
 use Rattle.pks_terms.specs.Signatures.{Signature}
@@ -14,13 +14,13 @@ use Rattle.pks_terms.specs.Settling.{History, effects_of}
 use Rattle.pks_terms.specs.Knowledge.{grounded, after_action}
 use Rattle.pks_terms.specs.Versions.{IsNow}
 use Rattle.pks_terms.proofs.ListLaws.{each_in, each_from_all}
+use Rattle.pks_terms.specs.Objects.{is_object, are_objects, is_of_objects}
 use Rattle.pks_laws.proofs.Holding.{true_in-negated}
 use Rattle.pks_laws.proofs.Doing.{effects_do}
 use Rattle.pks_laws_forget.specs.Transparent.{at_other_objects}
-use Rattle.pks_laws_forget.specs.Testing.{are_objects, is_of_objects}
 use Rattle.pks_laws_forget.specs.Staying.{leaves, literal_stays, aim_stays, aims_stay}
 use Rattle.pks_history_forget.specs.Same.{may_go, asked_from, without_unasked}
-use Rattle.pks_search_distance.specs.Counted.{is_object, are_different, are_apart, is_plain, may_make, may_meet}
+use Rattle.pks_search_distance.specs.Counted.{are_apart, may_make, may_meet}
 use Rattle.pks_search_distance.proofs.Unmet.{stays_unmet}
 use Rattle.pks_search.specs.Twins.{MayBeTwins}
 

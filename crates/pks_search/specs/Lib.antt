@@ -5,3 +5,4 @@ pub mod Twins
 pub mod Straight
 pub mod Spots
 pub mod Fewer
+pub mod Sides

@@ -54,7 +54,7 @@ impl Start {
         let Some(mut deeds) = Deeds::of(alloc, p)? else {
             return Ok(Start::nowhere(alloc));
         };
-        let near = counted(alloc, p, &mut deeds, worlds)?;
+        let near = with_bounds(alloc, p, &mut deeds, worlds)?;
         Ok(Start {
             near,
             deeds: Some(deeds),
@@ -63,7 +63,7 @@ impl Start {
 }
 
 /// The worlds with their bounds.
-fn counted(
+fn with_bounds(
     alloc: Global,
     p: &Problem<'_>,
     deeds: &mut Deeds,
@@ -166,7 +166,10 @@ pub(crate) fn others_of(near: &[Witness]) -> &[Witness]
 }
 
 /// The former and then the latter.
-pub(crate) fn joined(first: Vec<Witness>, others: Vec<Witness>) -> Result<Vec<Witness>, AllocError>
+pub(crate) fn all_witnesses(
+    first: Vec<Witness>,
+    others: Vec<Witness>,
+) -> Result<Vec<Witness>, AllocError>
     ensures { IfOk result (λ all. all.items ≡ first.items ++ others.items) }
 {
     let mut all = first;

@@ -18,8 +18,8 @@ use pks_search_witness::{Twins, Witness};
 use pks_terms::problem::Problem;
 use std::alloc::{AllocError, Global};
 
-/// Where a search is: in a problem, at a history, of whose steps all but the last `unread` bring nothing new, with witnesses or
-/// none.
+/// Where a search is: in a problem, at a history, of whose steps all but the last `unread` bring nothing new, with witnesses and
+/// twins, or none of either.
 #[derive(Clone, Copy)]
 pub(crate) struct Spot<'a, 's> {
     pub(crate) alloc: Global,

@@ -16,8 +16,10 @@ ghost use Rattle.pks_search.specs.Near.{AreNearAfter};
 ghost use Rattle.pks_search.specs.Twins.{AreTwinsAfter};
 ghost use Rattle.pks_search.specs.Spots.{MayGoOn, AreSo};
 
-use crate::nearing::{is_beyond, is_first_on, is_tight, joined, near_after, on_side, others_of};
-use crate::parts::{act, branch, cases};
+use crate::nearing::{
+    all_witnesses, is_beyond, is_first_on, is_tight, near_after, on_side, others_of,
+};
+use crate::parts::{act, branch_of, cases, side_on};
 use crate::spots::{Notes, Spot, WorldsAfter, last_fails, left_of};
 use crate::twinning::{some_met, twins_after, twins_on};
 use pks_branch::assuming::assume;
@@ -261,7 +263,7 @@ fn best_after(
                 step,
                 room,
             )?;
-            let after = joined(first, others)?;
+            let after = all_witnesses(first, others)?;
             let longer = spot.history.push(spot.alloc, *step, d)?;
             let later = Spot {
                 alloc: spot.alloc,
@@ -277,7 +279,7 @@ fn best_after(
 }
 
 /// The best tree with the branch at its root. Where the side that is searched first has no tree, the other
-/// isn't searched; that is the true side, unless the first witness is on the false one.
+/// isn't searched; the first is the true side, unless the first witness is on the false one.
 #[cycle(searching)]
 fn best_by_branch(
     spot: &Spot<'_, '_>,
@@ -300,44 +302,14 @@ fn best_by_branch(
         return Ok(None);
     }
     let c = Choice::Branch(*test);
-    if is_first_on(spot.near, &c, Side::False) {
-        return best_from_false(spot, n, limit, test, notes);
-    }
-    let Some(yes) = best_taking(spot, n, limit - 1, &c, Side::True, notes)? else {
+    let is_true = !is_first_on(spot.near, &c, Side::False);
+    let Some(one) = best_taking(spot, n, limit - 1, &c, side_on(is_true), notes)? else {
         return Ok(None);
     };
-    let Some(no) = best_taking(spot, n, limit - 1, &c, Side::False, notes)? else {
+    let Some(other) = best_taking(spot, n, limit - 1, &c, side_on(!is_true), notes)? else {
         return Ok(None);
     };
-    let tree = branch(spot.alloc, *test, yes, no)?;
-    Ok(Some(tree))
-}
-
-/// The same, the false side being searched first.
-#[cycle(searching)]
-fn best_from_false(
-    spot: &Spot<'_, '_>,
-    n: u32,
-    limit: u32,
-    test: &Conj,
-    notes: &mut Notes,
-) -> Result<Option<Tree>, AllocError>
-    requires spot { MayGoOn spot.now (n + 1) }
-    requires member { IsIn (conj_of test.now) (last_moment spot.now.history.now).kw }
-    requires undecided { is_undecided (problem_of spot.now.problem.now).signature (last_moment spot.now.history.now) (conj_of test.now) ≡ true }
-    requires some { 1 ≤ limit }
-    requires notes { AreSo (problem_of spot.now.problem.now) notes.now }
-    ensures best { IfOk result (λ o. IsBestOf (problem_of spot.now.problem.now) (IsCheapBy (problem_of spot.now.problem.now) spot.now.history.now (n + 1) limit (BranchOn (conj_of test.now))) (option_map tree_of o)) }
-    ensures notes { AreSo (problem_of spot.now.problem.now) notes.new }
-{
-    let c = Choice::Branch(*test);
-    let Some(no) = best_taking(spot, n, limit - 1, &c, Side::False, notes)? else {
-        return Ok(None);
-    };
-    let Some(yes) = best_taking(spot, n, limit - 1, &c, Side::True, notes)? else {
-        return Ok(None);
-    };
-    let tree = branch(spot.alloc, *test, yes, no)?;
+    let tree = branch_of(spot.alloc, *test, is_true, one, other)?;
     Ok(Some(tree))
 }
 

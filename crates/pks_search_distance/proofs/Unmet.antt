@@ -1,7 +1,7 @@
 -- Literals that are counted, and what ground actions make of them.
 use Rattle.std.proofs.Common.{◌≡◌, ◌+◌, ◌≤◌, ◌⊎◌, ◌&&◌, ◌==◌, ℕ, Bool, true, false, cond, not, List, [], ◌∷◌, map, max, Some, refl, sym, ap, ◌∙◌, subst, inl, inr, ⊎_elim, true≢false, arith}
 use Rattle.std.specs.Prelude.{count_by}
-use Rattle.std.specs.List.{list_any, list_all}
+use Rattle.std.specs.List.{list_any}
 use Rattle.std.proofs.lemmas.List.Recursion.{is_count_by}
 use Rattle.std.proofs.lemmas.Bool.{and_parts, and_from, or_parts, or_from, eq-eqb, not-false, not-true}
 use Rattle.std.proofs.lemmas.Option.{none-some, cond_some}
@@ -20,7 +20,8 @@ use Rattle.pks_laws.proofs.Values.{same_objects_same}
 use Rattle.pks_search_distance.specs.Runs.{MayBeDone}
 use Rattle.pks_search_distance.specs.Unmet.{unmet, MeetsAtMost}
 use Rattle.pks_search_distance.specs.Relaxed.{Deed, deed_of_instance}
-use Rattle.pks_search_distance.specs.Counted.{is_object, are_different, are_apart, is_place, is_plain, may_be, may_hit, may_make, may_meet, meets, most_met}
+use Rattle.pks_terms.specs.Objects.{is_object, are_objects, is_place}
+use Rattle.pks_search_distance.specs.Counted.{are_different, are_apart, is_plain, may_be, may_hit, may_make, may_meet, meets, most_met}
 
 -- ---- counts as the program has them
 
@@ -68,9 +69,9 @@ module _ {A : Type 0} (f g : A → ℕ) (v u : World) where
   object_same (Parameter i) h = absurd (true≢false (sym h))
   object_same (Apply h ts) k = absurd (true≢false (sym k))
 
-  objects_same : (ts : List (Form A)) → list_all is_object ts ≡ true → map (form_value f v) ts ≡ map (form_value g u) ts
+  objects_same : (ts : List (Form A)) → are_objects ts ≡ true → map (form_value f v) ts ≡ map (form_value g u) ts
   objects_same [] h = refl
-  objects_same (t ∷ ts) h = let q = and_parts (is_object t) (list_all is_object ts) h in λ i. object_same t q.0 i ∷ objects_same ts q.1 i
+  objects_same (t ∷ ts) h = let q = and_parts (is_object t) (are_objects ts) h in λ i. object_same t q.0 i ∷ objects_same ts q.1 i
 
 none_at : {X : Type 0} (p : X → Bool) (xs : List X) (x : X) → list_any p xs ≡ false → IsIn x xs → p x ≡ false
 none_at p [] x h i = absurd i

@@ -1,19 +1,14 @@
 -- Which of the goal's literals are counted, and which of them an action may make true.
 use Rattle.std.specs.Prelude.{ℕ, Bool, true, false, not, ◌&&◌, ◌||◌, ◌==◌, ◌≡◌, ◌+◌, max, List, [], ◌∷◌, if◌then◌else◌}
-use Rattle.std.specs.List.{list_any, list_all}
+use Rattle.std.specs.List.{list_any}
 use Rattle.pks_terms.specs.Sets.{Each}
 use Rattle.pks_terms.specs.Syntax.{Form, Object, Parameter, Apply, Inner, Term, Relation, Named, Equality, Literal, Atom}
+use Rattle.pks_terms.specs.Objects.{is_object, are_objects, is_place}
 use Rattle.pks_terms.specs.Worlds.{World, true_in}
 use Rattle.pks_terms.specs.Actions.{Target, Set, Unset, Clear, Assign, Effect}
 use Rattle.pks_terms.specs.Problems.{Aim}
 use Rattle.pks_search_distance.specs.Runs.{IsAim}
 use Rattle.pks_search_distance.specs.Relaxed.{Deed}
-
--- it is an object
-abbrev pub is_object : {A : Type 0} → Form A → Bool
-is_object (Object d) = true
-is_object (Parameter i) = false
-is_object (Apply f ts) = false
 
 -- they are two different objects
 abbrev pub are_different : {A : Type 0} → Form A → Form A → Bool
@@ -26,15 +21,9 @@ are_apart [] us = false
 are_apart (t ∷ ts) [] = false
 are_apart (t ∷ ts) (u ∷ us) = are_different t u || are_apart ts us
 
--- the term is a function at objects
-abbrev pub is_place : Term → Bool
-is_place (Object d) = false
-is_place (Parameter i) = false
-is_place (Apply f ts) = list_all is_object ts
-
 -- the relation is a predicate and the terms are objects, or it says of a place and an object that they are, or aren't, equal
 abbrev pub is_plain : Relation → List Term → Bool
-is_plain (Named p) ts = list_all is_object ts
+is_plain (Named p) ts = are_objects ts
 is_plain Equality (t ∷ u ∷ []) = is_place t && is_object u
 is_plain Equality ts = false
 

@@ -87,7 +87,7 @@ fn add_pres(
 }
 
 /// The landmark with the precondition at the place of each ground action that may meet it, if each has one.
-fn widened(
+fn with_preconditions(
     alloc: Global,
     deeds: &[Deed],
     c: &Landmark,
@@ -134,7 +134,7 @@ fn wider(
     ensures light { IfOk result (λ o. IfSome o (λ d. is_light (map deed_of deeds.now) (landmarks_of marks.now) (landmark_of d) most ≡ true)) }
 {
     for place in 0..MOST_TRIES {
-        if let Some(d) = widened(alloc, deeds, c, place)? {
+        if let Some(d) = with_preconditions(alloc, deeds, c, place)? {
             if is_light(deeds, marks, &d, most) {
                 return Ok(Some(d));
             }
@@ -144,7 +144,7 @@ fn wider(
 }
 
 /// The same landmark once more.
-fn copied(alloc: Global, c: &Landmark) -> Result<Landmark, AllocError>
+fn copy_landmark(alloc: Global, c: &Landmark) -> Result<Landmark, AllocError>
     ensures { IfOk result (λ d. landmark_of d ≡ landmark_of c.now) }
 {
     let literals = c.literals.as_slice().to_vec(alloc)?;
@@ -169,7 +169,7 @@ fn add_chain(
     let Some(next) = wider(alloc, deeds, to.as_slice(), c, most)? else {
         return Ok(());
     };
-    let again = copied(alloc, &next)?;
+    let again = copy_landmark(alloc, &next)?;
     to.push(again)?;
     add_chain(alloc, deeds, &next, most, steps - 1, to)?;
     Ok(())

@@ -19,7 +19,7 @@ use pks_world::{Few, World};
 use std::alloc::{AllocError, Global};
 
 /// The truth as it is, or turned round.
-fn signed(positive: bool, is_so: bool) -> bool
+fn with_sign(positive: bool, is_so: bool) -> bool
     ensures { result ≡ signed positive is_so }
 {
     if positive { is_so } else { !is_so }
@@ -30,7 +30,7 @@ fn some_equal(positive: bool, d: ObjId, others: &[ObjId]) -> bool
     ensures { result ≡ list_any (λ e. signed positive (d.0 == e)) (map object_of others.now) }
 {
     for e in others {
-        if signed(positive, d.0 == e.0) {
+        if with_sign(positive, d.0 == e.0) {
             return true;
         }
     }

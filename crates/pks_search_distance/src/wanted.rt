@@ -1,76 +1,23 @@
 //! The literals that the goal asks for: which are counted, how many are unmet, and how many of them one action may make true.
 ghost use Rattle.std.specs.Prelude.{◌≡◌, [], ◌∷◌, map, OnOk};
-ghost use Rattle.std.specs.List.{list_any, list_all};
+ghost use Rattle.std.specs.List.{list_any};
 ghost use Rattle.pks_terms.specs.Orders.{number_of, arguments_of};
 ghost use Rattle.pks_terms.specs.Views.{inner_of, term_of, terms_of, atom_of, relation_of, sides_of, literal_of, literals_in, target_of, effect_of, aim_of};
 ghost use Rattle.pks_world.specs.Contents.{world_of};
 ghost use Rattle.pks_search_distance.specs.Unmet.{unmet};
-ghost use Rattle.pks_search_distance.specs.Counted.{is_object, are_different, are_apart, is_place, is_plain, may_be, may_hit, is_of, may_equate, may_make, may_meet, meets, most_met, AddsWanted};
+ghost use Rattle.pks_search_distance.specs.Counted.{are_different, are_apart, is_plain, may_be, may_hit, is_of, may_equate, may_make, may_meet, meets, most_met, AddsWanted};
 ghost use Rattle.pks_search_distance.specs.Gained.{deed_of};
 
 use crate::deeds::Deed;
 use crate::may::terms_in;
 use pks_terms::ids::PredId;
 use pks_terms::literal::{Atom, Literal, PredAtom};
+use pks_terms::objects::{are_objects, is_object, is_place};
 use pks_terms::problem::Aim;
 use pks_terms::schema::{Effect, Query, Target};
 use pks_terms::term::{Inner, Term, are_two_objects};
 use pks_world::World;
 use std::alloc::AllocError;
-
-/// Whether the term is an object.
-fn is_object(t: &Term) -> bool
-    ensures { result ≡ is_object (term_of t.now) }
-{
-    match t {
-        Term::Obj(_) => true,
-        Term::Param(_) | Term::App { .. } => false,
-    }
-}
-
-/// Whether each of the terms is an object.
-fn are_objects(ts: &[Term]) -> bool
-    ensures { result ≡ list_all is_object (terms_of ts.now) }
-{
-    for t in ts {
-        if !is_object(t) {
-            return false;
-        }
-    }
-    true
-}
-
-/// Whether the argument is an object.
-fn is_inner_object(t: &Inner) -> bool
-    ensures { result ≡ is_object (inner_of t.now) }
-{
-    match t {
-        Inner::Obj(_) => true,
-        Inner::Param(_) | Inner::App { .. } => false,
-    }
-}
-
-/// Whether each of the arguments is an object.
-fn are_inner_objects(ts: &[Inner]) -> bool
-    ensures { result ≡ list_all is_object (map inner_of ts.now) }
-{
-    for t in ts {
-        if !is_inner_object(t) {
-            return false;
-        }
-    }
-    true
-}
-
-/// Whether the term is a function at objects.
-fn is_place(t: &Term) -> bool
-    ensures { result ≡ is_place (term_of t.now) }
-{
-    match t {
-        Term::Obj(_) | Term::Param(_) => false,
-        Term::App { .. } => are_inner_objects(t.arguments()),
-    }
-}
 
 /// Whether the atom is a predicate at objects, or an equation of a place and an object.
 pub(crate) fn is_plain(a: &Atom) -> bool

@@ -32,20 +32,20 @@ pub struct Find {
 
 /// A tree that says the same. The error is want of memory.
 #[cycle(copies)]
-fn copied(alloc: Global, t: &Tree) -> Result<Tree, AllocError>
+fn copy_tree(alloc: Global, t: &Tree) -> Result<Tree, AllocError>
     ensures { IfOk result (λ copy. tree_of copy ≡ tree_of t.now) }
 {
     match t {
         Tree::Goal => Ok(Tree::Goal),
         Tree::Impossible => Ok(Tree::Impossible),
         Tree::Act { step, next } => {
-            let next = copied(alloc, next)?;
+            let next = copy_tree(alloc, next)?;
             let next = Box::new(alloc, next)?;
             Ok(Tree::Act { step: *step, next })
         }
         Tree::Branch { test, yes, no } => {
-            let yes = copied(alloc, yes)?;
-            let no = copied(alloc, no)?;
+            let yes = copy_tree(alloc, yes)?;
+            let no = copy_tree(alloc, no)?;
             let yes = Box::new(alloc, yes)?;
             let no = Box::new(alloc, no)?;
             Ok(Tree::Branch {
@@ -55,7 +55,7 @@ fn copied(alloc: Global, t: &Tree) -> Result<Tree, AllocError>
             })
         }
         Tree::Cases { term, cases } => {
-            let cases = copied_chain(alloc, cases)?;
+            let cases = copy_chain(alloc, cases)?;
             let cases = Box::new(alloc, cases)?;
             Ok(Tree::Cases { term: *term, cases })
         }
@@ -64,14 +64,14 @@ fn copied(alloc: Global, t: &Tree) -> Result<Tree, AllocError>
 
 /// Cases that say the same.
 #[cycle(copies)]
-fn copied_chain(alloc: Global, k: &CaseChain) -> Result<CaseChain, AllocError>
+fn copy_chain(alloc: Global, k: &CaseChain) -> Result<CaseChain, AllocError>
     ensures { IfOk result (λ copy. chain_of copy ≡ chain_of k.now) }
 {
     match k {
         CaseChain::Empty => Ok(CaseChain::Empty),
         CaseChain::More { object, tree, rest } => {
-            let tree = copied(alloc, tree)?;
-            let rest = copied_chain(alloc, rest)?;
+            let tree = copy_tree(alloc, tree)?;
+            let rest = copy_chain(alloc, rest)?;
             let rest = Box::new(alloc, rest)?;
             Ok(CaseChain::More {
                 object: *object,
@@ -130,7 +130,7 @@ impl Find {
         if asked.n < self.own_depth {
             return None;
         }
-        match copied(alloc, &self.tree) {
+        match copy_tree(alloc, &self.tree) {
             Ok(copy) => Some(Some(copy)),
             Err(_) => None,
         }
@@ -181,7 +181,7 @@ impl Finds {
         if nodes(t) > MOST_NODES {
             return;
         }
-        if let (Ok(history), Ok(tree)) = (asked.at.history.share(), copied(alloc, t)) {
+        if let (Ok(history), Ok(tree)) = (asked.at.history.share(), copy_tree(alloc, t)) {
             let find = Find {
                 history,
                 tree,

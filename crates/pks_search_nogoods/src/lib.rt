@@ -1,4 +1,4 @@
-//! The tables of failed searches. They save work and change no answer.
+//! The tables of failed searches, and of finds: best trees that were met. They save work and change no answer.
 #![tactic(auto)]
 
 pub mod failures;

@@ -27,7 +27,12 @@ fn object_at(number: usize) -> ObjId {
 }
 
 /// The list in which each object stays but for one, which goes to another.
-fn moved(alloc: Global, count: usize, from: ObjId, to: ObjId) -> Result<Vec<ObjId>, AllocError> {
+fn list_moving(
+    alloc: Global,
+    count: usize,
+    from: ObjId,
+    to: ObjId,
+) -> Result<Vec<ObjId>, AllocError> {
     let mut list = Vec::new(alloc);
     for d in 0..count {
         let own = object_at(d);
@@ -37,8 +42,13 @@ fn moved(alloc: Global, count: usize, from: ObjId, to: ObjId) -> Result<Vec<ObjI
 }
 
 /// The list in which the two objects are exchanged.
-fn exchanged(alloc: Global, count: usize, a: ObjId, b: ObjId) -> Result<Vec<ObjId>, AllocError> {
-    let mut list = moved(alloc, count, a, b)?;
+fn list_exchanging(
+    alloc: Global,
+    count: usize,
+    a: ObjId,
+    b: ObjId,
+) -> Result<Vec<ObjId>, AllocError> {
+    let mut list = list_moving(alloc, count, a, b)?;
     if let Some(place) = list.get_mut(usize::from(b.0)) {
         *place = a;
     }
@@ -49,7 +59,7 @@ fn exchanged(alloc: Global, count: usize, a: ObjId, b: ObjId) -> Result<Vec<ObjI
 fn is_free(alloc: Global, p: &Problem<'_>, d: ObjId) -> Result<bool, AllocError> {
     let count = p.signature.objects.len();
     let elsewhere = ObjId(if d.0 == 0 { 1 } else { 0 });
-    let list = moved(alloc, count, d, elsewhere)?;
+    let list = list_moving(alloc, count, d, elsewhere)?;
     Ok(keeps_texts(list.as_slice(), p))
 }
 
@@ -59,7 +69,7 @@ fn are_exchanged(alloc: Global, p: &Problem<'_>, a: ObjId, b: ObjId) -> Result<b
     if types.get(usize::from(a.0)) != types.get(usize::from(b.0)) {
         return Ok(false);
     }
-    let list = exchanged(alloc, types.len(), a, b)?;
+    let list = list_exchanging(alloc, types.len(), a, b)?;
     Ok(keeps_goal(list.as_slice(), p.goal.as_slice()))
 }
 

@@ -5,10 +5,10 @@ use crate::classes::Classes;
 use crate::images::is_trivial;
 use pks_history::histories::History;
 use pks_lcw::Entry;
-use pks_query::marks::mixed;
 use pks_query_lookup::five::Five;
 use pks_terms::ids::ObjId;
 use pks_terms::literal::{Atom, Conj, Literal, PredAtom};
+use pks_terms::marks::mix;
 use pks_terms::schema::Instance;
 use pks_terms::term::{Inner, Term, front};
 use std::alloc::{AllocError, Global};
@@ -79,7 +79,7 @@ impl Marks {
             let place = usize::from(d.0);
             let said = self.sums.get(place).copied().unwrap_or(0);
             let class = classes.all().get(place).copied().unwrap_or(0);
-            let mark = mixed(self.object(*d), said);
+            let mark = mix(self.object(*d), said);
             if let Some(own) = self.of.get_mut(place) {
                 *own = mark;
             }
@@ -104,12 +104,12 @@ impl Marks {
 
     fn inner(&self, mark: u64, t: &Inner) -> u64 {
         match t {
-            Inner::Obj(d) => mixed(mark, self.object(*d)),
-            Inner::Param(i) => mixed(mark, 0x1_0000 + u64::from(*i)),
+            Inner::Obj(d) => mix(mark, self.object(*d)),
+            Inner::Param(i) => mix(mark, 0x1_0000 + u64::from(*i)),
             Inner::App { fun, n, args } => {
-                let mut mark = mixed(mark, 0x2_0000 + u64::from(fun.0));
+                let mut mark = mix(mark, 0x2_0000 + u64::from(fun.0));
                 for d in front(args, *n) {
-                    mark = mixed(mark, self.object(*d));
+                    mark = mix(mark, self.object(*d));
                 }
                 mark
             }
@@ -126,16 +126,16 @@ impl Marks {
 
     fn term(&self, mark: u64, t: &Term) -> u64 {
         match t {
-            Term::Obj(d) => mixed(mark, self.object(*d)),
-            Term::Param(i) => mixed(mark, 0x1_0000 + u64::from(*i)),
+            Term::Obj(d) => mix(mark, self.object(*d)),
+            Term::Param(i) => mix(mark, 0x1_0000 + u64::from(*i)),
             Term::App { fun, n, args } => {
-                self.inners(mixed(mark, 0x3_0000 + u64::from(fun.0)), front(args, *n))
+                self.inners(mix(mark, 0x3_0000 + u64::from(fun.0)), front(args, *n))
             }
         }
     }
 
     fn atom(&self, mark: u64, a: &PredAtom) -> u64 {
-        let mut mark = mixed(mark, 0x4_0000 + u64::from(a.pred.0));
+        let mut mark = mix(mark, 0x4_0000 + u64::from(a.pred.0));
         for t in front(&a.args, a.n) {
             mark = self.term(mark, t);
         }
@@ -144,10 +144,10 @@ impl Marks {
 
     // The sides of an equation count alike, since an image may turn them.
     fn literal(&self, mark: u64, l: &Literal) -> u64 {
-        let mark = mixed(mark, u64::from(l.positive));
+        let mark = mix(mark, u64::from(l.positive));
         match &l.atom {
             Atom::Pred(a) => self.atom(mark, a),
-            Atom::Eq { left, right } => mixed(
+            Atom::Eq { left, right } => mix(
                 mark,
                 self.term(0x5_0000, left)
                     .wrapping_add(self.term(0x5_0000, right)),
@@ -160,7 +160,7 @@ impl Marks {
         for l in ls {
             sum = sum.wrapping_add(self.literal(0x6_0000, l));
         }
-        mixed(mark, sum)
+        mix(mark, sum)
     }
 
     // ---- what is said of each object
@@ -176,10 +176,10 @@ impl Marks {
             Inner::Obj(d) => self.say_object(*d, word),
             Inner::Param(_) => {}
             Inner::App { n, args, .. } => {
-                let mut word = mixed(word, 1);
+                let mut word = mix(word, 1);
                 for d in front(args, *n) {
                     self.say_object(*d, word);
-                    word = mixed(word, 2);
+                    word = mix(word, 2);
                 }
             }
         }
@@ -189,7 +189,7 @@ impl Marks {
         let mut word = word;
         for t in ts {
             self.say_inner(t, word);
-            word = mixed(word, 3);
+            word = mix(word, 3);
         }
     }
 
@@ -197,7 +197,7 @@ impl Marks {
         match t {
             Term::Obj(d) => self.say_object(*d, word),
             Term::Param(_) => {}
-            Term::App { n, args, .. } => self.say_inners(front(args, *n), mixed(word, 4)),
+            Term::App { n, args, .. } => self.say_inners(front(args, *n), mix(word, 4)),
         }
     }
 
@@ -205,7 +205,7 @@ impl Marks {
         let mut word = word;
         for t in front(&a.args, a.n) {
             self.say_term(t, word);
-            word = mixed(word, 5);
+            word = mix(word, 5);
         }
     }
 
@@ -213,8 +213,8 @@ impl Marks {
         match &l.atom {
             Atom::Pred(a) => self.say_atom(a, word),
             Atom::Eq { left, right } => {
-                let left_word = mixed(word, self.term(0x7_0000, left));
-                let right_word = mixed(word, self.term(0x7_0000, right));
+                let left_word = mix(word, self.term(0x7_0000, left));
+                let right_word = mix(word, self.term(0x7_0000, right));
                 self.say_term(left, left_word);
                 self.say_term(right, right_word);
             }
@@ -237,7 +237,7 @@ impl Marks {
     fn see_known(&mut self, d: &Five, place: u64) {
         for l in d.kf.items() {
             if !is_trivial(l) {
-                let word = self.literal(mixed(place, 1), l);
+                let word = self.literal(mix(place, 1), l);
                 self.count(word);
                 self.say_literal(l, word);
             }
@@ -247,7 +247,7 @@ impl Marks {
     fn see_formulas(&mut self, d: &Five, place: u64) {
         for c in d.kw.items() {
             let literals = front(&c.literals, c.n);
-            let word = self.literals(mixed(place, 2), literals);
+            let word = self.literals(mix(place, 2), literals);
             self.count(word);
             self.say_literals(literals, word);
         }
@@ -255,7 +255,7 @@ impl Marks {
 
     fn see_values(&mut self, d: &Five, place: u64) {
         for t in d.kv.items() {
-            let word = self.term(mixed(place, 3), t);
+            let word = self.term(mix(place, 3), t);
             self.count(word);
             self.say_term(t, word);
         }
@@ -263,25 +263,25 @@ impl Marks {
 
     fn see_groups(&mut self, d: &Five, place: u64) {
         for g in d.kx.items() {
-            let word = self.literals(mixed(place, 4), g.as_slice());
+            let word = self.literals(mix(place, 4), g.as_slice());
             self.count(word);
             self.say_literals(g.as_slice(), word);
         }
     }
 
     fn region(&self, mark: u64, r: &Entry) -> u64 {
-        let mut mark = mixed(mark, u64::from(r.pattern.pred.0));
+        let mut mark = mix(mark, u64::from(r.pattern.pred.0));
         for slot in front(&r.pattern.args, r.pattern.n) {
             mark = match slot {
                 Some(t) => self.term(mark, t),
-                None => mixed(mark, 0x8_0000),
+                None => mix(mark, 0x8_0000),
             };
         }
         let mut sum: u64 = 0;
         for a in r.list.as_slice() {
             sum = sum.wrapping_add(self.atom(0x9_0000, a));
         }
-        mixed(mark, sum)
+        mix(mark, sum)
     }
 
     fn say_region(&mut self, r: &Entry, word: u64) {
@@ -290,7 +290,7 @@ impl Marks {
             if let Some(t) = slot {
                 self.say_term(t, place);
             }
-            place = mixed(place, 6);
+            place = mix(place, 6);
         }
         for a in r.list.as_slice() {
             let own = self.atom(word, a);
@@ -300,7 +300,7 @@ impl Marks {
 
     fn see_regions(&mut self, d: &Five, place: u64) {
         for r in d.lcw.items() {
-            let word = self.region(mixed(place, 5), r);
+            let word = self.region(mix(place, 5), r);
             self.count(word);
             self.say_region(r, word);
         }
@@ -308,7 +308,7 @@ impl Marks {
 
     fn see_instance(&mut self, i: &Instance, place: u64) {
         let args = front(&i.args, i.n);
-        let word = self.inners(mixed(place, 0xa_0000 + u64::from(i.act.0)), args);
+        let word = self.inners(mix(place, 0xa_0000 + u64::from(i.act.0)), args);
         self.count(word);
         self.say_inners(args, word);
     }
@@ -328,7 +328,7 @@ impl Marks {
         self.total = 0;
         self.see_moment(h.at(0).parts(), 0xb_0000);
         for moment in 1..h.len() {
-            let place = mixed(0xb_0000, u64::from(moment));
+            let place = mix(0xb_0000, u64::from(moment));
             self.see_instance(h.step(moment - 1), place);
             self.see_moment(h.at(moment).parts(), place);
         }

@@ -170,7 +170,7 @@ fn atoms(alloc: Global, to: &[ObjId], list: &[PredAtom]) -> Result<Vec<PredAtom>
 }
 
 /// The list of the images: equal ones merge.
-fn listed(alloc: Global, to: &[ObjId], list: &AtomSet) -> Result<AtomSet, AllocError>
+fn image_list(alloc: Global, to: &[ObjId], list: &AtomSet) -> Result<AtomSet, AllocError>
     ensures { IfOk result (λ set. atoms_of set ≡ set_of atom_cmp (map (renamed_atom (image_by to.now)) (atoms_of list.now))) }
 {
     let members = list.as_slice();
@@ -184,7 +184,7 @@ pub(crate) fn region(alloc: Global, to: &[ObjId], r: &Entry) -> Result<Entry, Al
     ensures { IfOk result (λ image. entry_of image ≡ renamed_entry (image_by to.now) (entry_of r.now)) }
 {
     let pattern = pattern(to, &r.pattern);
-    let list = listed(alloc, to, &r.list)?;
+    let list = image_list(alloc, to, &r.list)?;
     Ok(Entry { pattern, list })
 }
 

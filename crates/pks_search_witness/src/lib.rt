@@ -1,5 +1,5 @@
-//! A witness: one world that may be the present one, and how far it is from the goal. It is for counting alone: no answer rests on it.
-//! `docs/DECISIONS.md` says what it is for.
+//! Witnesses: worlds that may be the present one, and how far each is from the goal; twins, two such worlds that an aim tells
+//! apart. They save work and change no answer. `docs/DECISIONS.md` says what they are for.
 #![tactic(auto)]
 
 mod idling;

@@ -65,7 +65,7 @@ fn is_known(p: &Problem<'_>, l: &Literal) -> bool {
 }
 
 /// The literal that an aim asks for at the end.
-fn asked(a: &Aim) -> Option<Literal> {
+fn literal_asked(a: &Aim) -> Option<Literal> {
     match a {
         Aim::Now(Query::K(l)) => Some(*l),
         _ => None,
@@ -75,7 +75,7 @@ fn asked(a: &Aim) -> Option<Literal> {
 /// Whether the goal asks for the literal.
 fn is_asked(p: &Problem<'_>, l: &Literal) -> bool {
     for a in p.goal.as_slice() {
-        if let Some(k) = asked(a) {
+        if let Some(k) = literal_asked(a) {
             if k == *l {
                 return true;
             }
@@ -87,7 +87,7 @@ fn is_asked(p: &Problem<'_>, l: &Literal) -> bool {
 /// Whether the goal asks for some literal at the end.
 fn asks_some(p: &Problem<'_>) -> bool {
     for a in p.goal.as_slice() {
-        if asked(a).is_some() {
+        if literal_asked(a).is_some() {
             return true;
         }
     }
@@ -211,7 +211,7 @@ fn shun_goal(p: &Problem<'_>, way: Making, w: &mut World) -> Result<(), AllocErr
     ensures { OnOk result (IsWorldOf (signature_of p.now.signature) w.new) }
 {
     for a in p.goal.as_slice() {
-        if let Some(l) = asked(a) {
+        if let Some(l) = literal_asked(a) {
             shun(p, &l, way, w)?;
         }
     }
@@ -323,7 +323,7 @@ fn put_groups(p: &Problem<'_>, way: Making, w: &mut World) -> Result<(), AllocEr
 
 /// A world made from what is known at the start, the goal being false in it where it shuns it and that is easy, and the literal true,
 /// where there is one.
-fn made(
+fn make_world(
     alloc: Global,
     p: &Problem<'_>,
     way: Making,
@@ -347,7 +347,7 @@ fn made(
 }
 
 /// Such a world, where the problem may begin in it.
-fn tested(
+fn make_compatible(
     alloc: Global,
     p: &Problem<'_>,
     way: Making,
@@ -356,7 +356,7 @@ fn tested(
     requires { IsValidProblem p.now }
     ensures { IfOk result (λ o. IfSome o (λ w. IsCompatible (problem_of p.now) (world_of w))) }
 {
-    let w = made(alloc, p, way, also)?;
+    let w = make_world(alloc, p, way, also)?;
     if compatible(p, &w).is_none() {
         return Ok(Some(w));
     }
@@ -374,9 +374,9 @@ pub(crate) fn found_by(
     requires { IsValidProblem p.now }
     ensures { IfOk result (λ o. IfSome o (λ w. IsCompatible (problem_of p.now) (world_of w))) }
 {
-    match tested(alloc, p, Making { turn, shuns: true }, also)? {
+    match make_compatible(alloc, p, Making { turn, shuns: true }, also)? {
         Some(w) => Ok(Some(w)),
-        None => tested(alloc, p, Making { turn, shuns: false }, also),
+        None => make_compatible(alloc, p, Making { turn, shuns: false }, also),
     }
 }
 

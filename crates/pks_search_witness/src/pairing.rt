@@ -18,7 +18,7 @@ use pks_terms::term::front;
 use pks_world::World;
 use std::alloc::{AllocError, Global};
 
-/// How many twins are made for an aim at most.
+/// How many twins are made at most for a literal of an aim.
 const MOST_TWINS: usize = 4;
 
 /// The formula of which the aim asks whether it was true at the start.

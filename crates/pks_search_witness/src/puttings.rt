@@ -11,7 +11,7 @@ use pks_world::World;
 use std::alloc::AllocError;
 
 /// The atom with the values of its arguments in their place.
-fn valued(w: &World, a: &PredAtom) -> PredAtom {
+fn with_values(w: &World, a: &PredAtom) -> PredAtom {
     PredAtom {
         pred: a.pred,
         n: a.n,
@@ -28,7 +28,7 @@ pub(crate) fn put_atom(p: &Problem<'_>, a: &PredAtom, w: &mut World) -> Result<(
     requires { IsWorldOf (signature_of p.now.signature) w.old }
     ensures { IsWorldOf (signature_of p.now.signature) w.new }
 {
-    let at = valued(w, a);
+    let at = with_values(w, a);
     if is_typed_atom(&p.signature, &at) {
         w.put_atom(&at)?;
     }

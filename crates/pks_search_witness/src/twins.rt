@@ -25,7 +25,7 @@ pub struct Twins {
 }
 
 /// The same world.
-fn shared(w: &Rc<World>) -> Result<Rc<World>, AllocError>
+fn share_world(w: &Rc<World>) -> Result<Rc<World>, AllocError>
     ensures { IfOk result (λ v. world_of v.value ≡ world_of w.now.value) }
 {
     let same = w.clone()?;
@@ -33,7 +33,7 @@ fn shared(w: &Rc<World>) -> Result<Rc<World>, AllocError>
 }
 
 /// The world after the ground action: the same, where the action leaves it as it is.
-fn moved(
+fn world_after(
     alloc: Global,
     p: &Problem<'_>,
     w: &Rc<World>,
@@ -43,7 +43,7 @@ fn moved(
     ensures { IfOk result (λ v. world_of v.value ≡ after_action (problem_of p.now) (world_of w.now.value) (instance_of i.now)) }
 {
     if is_idle(p, w, i) {
-        let same = shared(w)?;
+        let same = share_world(w)?;
         return Ok(same);
     }
     let next = w.apply(p, i)?;
@@ -117,8 +117,8 @@ impl Twins {
         ensures { IfOk result (λ o. IfSome o (AreAfter (problem_of p.now) (instance_of step.now) self.now)) }
     {
         let i = grounded(&self.one, step);
-        let one = moved(alloc, p, &self.one, &i)?;
-        let other = moved(alloc, p, &self.other, &grounded(&self.other, step))?;
+        let one = world_after(alloc, p, &self.one, &i)?;
+        let other = world_after(alloc, p, &self.other, &grounded(&self.other, step))?;
         if !find_same(&one, &other, senses_of(p, step.act), &i) {
             return Ok(None);
         }
@@ -130,8 +130,8 @@ impl Twins {
         ensures first { IfOk result (λ x. first_in x ≡ first_in self.now) }
         ensures second { IfOk result (λ x. second_in x ≡ second_in self.now) }
     {
-        let one = shared(&self.one)?;
-        let other = shared(&self.other)?;
+        let one = share_world(&self.one)?;
+        let other = share_world(&self.other)?;
         Ok(Twins { one, other })
     }
 

@@ -6,6 +6,8 @@ pub mod group;
 pub mod ids;
 pub mod literal;
 pub mod lookup;
+pub mod marks;
+pub mod objects;
 pub mod problem;
 pub mod putting;
 pub mod schema;

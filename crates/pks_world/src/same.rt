@@ -6,27 +6,21 @@ ghost use Rattle.pks_world.specs.Contents.{world_of, kept_of};
 use crate::worlds::World;
 use pks_terms::ids::ObjId;
 use pks_terms::literal::PredAtom;
+use pks_terms::marks::mix;
 use pks_terms::term::{Term, front};
 use std::collections::{BTreeMap, BTreeSet};
-
-/// The mark with one more number mixed in.
-fn mixed(mark: u64, number: u64) -> u64 {
-    (mark ^ number)
-        .wrapping_mul(0x9e37_79b9_7f4a_7c15)
-        .rotate_left(29)
-}
 
 /// The mark with the object mixed in.
 fn with_object(mark: u64, t: &Term) -> u64 {
     match t {
-        Term::Obj(d) => mixed(mark, u64::from(d.0)),
+        Term::Obj(d) => mix(mark, u64::from(d.0)),
         Term::Param(_) | Term::App { .. } => mark,
     }
 }
 
 /// The mark with the atom mixed in, whose arguments are objects.
 fn with_atom(mark: u64, a: &PredAtom) -> u64 {
-    let mut mark = mixed(mark, u64::from(a.pred.0));
+    let mut mark = mix(mark, u64::from(a.pred.0));
     for t in front(&a.args, a.n) {
         mark = with_object(mark, t);
     }
@@ -62,7 +56,7 @@ impl World {
             mark = with_atom(mark, a);
         }
         for (_, d) in &self.values {
-            mark = mixed(mark, u64::from(d.0));
+            mark = mix(mark, u64::from(d.0));
         }
         mark
     }

@@ -29,7 +29,7 @@ pub struct World {
 
 /// The value that is kept for the place.
 #[tactic(auto, unfolding(pks_terms::specs::Orders::term_eq))]
-fn kept(values: &BTreeMap<Term, ObjId>, place: &Term) -> Option<ObjId>
+fn value_at(values: &BTreeMap<Term, ObjId>, place: &Term) -> Option<ObjId>
     ensures { option_map object_of result ≡ kept_at values.now.entries (term_of place.now) }
 {
     values.get(place).copied()
@@ -63,7 +63,7 @@ impl World {
     fn at(&self, fun: FnId, n: u8, args: &[ObjId; 2]) -> ObjId
         ensures { result.0 ≡ (world_of self.now).value fun.0 (map object_of (take n args.now)) }
     {
-        match kept(&self.values, &applied(fun, n, args)) {
+        match value_at(&self.values, &applied(fun, n, args)) {
             Some(d) => d,
             None => elsewhere(&self.others, fun),
         }

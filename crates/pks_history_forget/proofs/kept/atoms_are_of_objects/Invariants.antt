@@ -1,6 +1,6 @@
 use Rattle.std.proofs.Common.{◌≡◌, drop}
 use Rattle.std.specs.List.{flat_map}
-use Rattle.pks_laws_forget.specs.Testing.{are_objects}
+use Rattle.pks_terms.specs.Objects.{are_objects}
 use Rattle.pks_lcw.specs.Entries.{atoms_of}
 use Rattle.pks_history_forget.proofs.kept.atoms_are_of_objects.Given as goal
 

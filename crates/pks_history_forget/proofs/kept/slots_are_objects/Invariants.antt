@@ -2,7 +2,7 @@ use Rattle.std.proofs.Common.{◌≡◌, drop, map}
 use Rattle.std.specs.Option.{option_map}
 use Rattle.pks_terms.specs.Progress.{fixed_terms}
 use Rattle.pks_terms.specs.Views.{term_of}
-use Rattle.pks_laws_forget.specs.Testing.{are_objects}
+use Rattle.pks_terms.specs.Objects.{are_objects}
 use Rattle.pks_history_forget.proofs.kept.slots_are_objects.Given as goal
 
 abbrev pub invariant-loop-slot : goal.invariant-loop-slot

@@ -1,7 +1,7 @@
 use Rattle.std.proofs.Common.{◌≡◌, drop}
 use Rattle.std.specs.List.{list_all}
 use Rattle.pks_terms.specs.Views.{literals_in}
-use Rattle.pks_laws_forget.specs.Testing.{is_of_objects}
+use Rattle.pks_terms.specs.Objects.{is_of_objects}
 use Rattle.pks_history_forget.proofs.objects.are_of_objects.Given as goal
 
 abbrev pub invariant-loop-l : goal.invariant-loop-l

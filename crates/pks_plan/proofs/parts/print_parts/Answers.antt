@@ -1,12 +1,11 @@
 use Rattle.std.proofs.Common.{◌<◌, ◌∷◌, ◌++◌, [], suc, map, drop, length, arith, subst}
 use Rattle.std.specs.List.{flat_map}
-use Rattle.pks_terms.specs.Views.{names_of}
 use Rattle.pks_plan.proofs.Appended.{Reached, reached_more, reached_stop, next_part, at_err}
 use Rattle.pks_plan.proofs.parts.print_parts.Goals as goal
 
 pub returns-in_err-put-clause-err : goal.returns-in_err-put-clause-err
 returns-in_err-put-clause-err g c =
-    let f = g.T.PlanPart.text (names_of c.args.p.now) in
+    let f = g.T.PrintedPart.text c.args.w.now in
     let xs = c.args.parts.now in
     let i = c.loop-part.part-index in
     let x = c.part-item.result in
@@ -17,7 +16,7 @@ returns-in_err-put-clause-err g c =
 
 pub returns-in_err-print-clause-err : goal.returns-in_err-print-clause-err
 returns-in_err-print-clause-err g c =
-    let f = g.T.PlanPart.text (names_of c.args.p.now) in
+    let f = g.T.PrintedPart.text c.args.w.now in
     let xs = c.args.parts.now in
     let i = c.loop-part.part-index in
     let x = c.part-item.result in

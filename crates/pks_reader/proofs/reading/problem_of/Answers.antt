@@ -21,12 +21,12 @@ returns-in-None c =
     let file : IsFileOf fs v d p =
     subst (λ (xs : List CodeForm). IsFileOf (map form_view xs) v d p) same (record { file = c.in-None.ensures.none.0 refl; version = sym c.version_of.ensures; domain = c.form_at.ensures; problem = c.form_at-in-None.ensures }) in
     let shaped : IsShaped end fs = λ is. subst (λ (xs : List CodeForm). shape_fault end (map form_view xs) ≡ None) same (none_refused (shape_fault end (map form_view c.as_slice-top.result.now)) (sym c.in-None.ensures.fault)) in
-    let stated = forms_state fs v d p c.meant.result file c.meant.ensures.faultless c.meant.ensures.says c.meant.ensures.named in
-    let refused = err_as (λ f. meaning_fault (number_of v) (behind_head d) (behind_head p) ≡ Some f) (AreRefused end fs) c.meant.result (λ f e. meaning_refuses end fs v d p f file e) c.meant.ensures.refused in
+    let stated = forms_state fs v d p c.problem_of_forms.result file c.problem_of_forms.ensures.faultless c.problem_of_forms.ensures.says c.problem_of_forms.ensures.named in
+    let refused = err_as (λ f. meaning_fault (number_of v) (behind_head d) (behind_head p) ≡ Some f) (AreRefused end fs) c.problem_of_forms.result (λ f e. meaning_refuses end fs v d p f file e) c.problem_of_forms.ensures.refused in
     record {
       stated = stated;
-      valid = stated_valid c.args.source.now fs v d p c.meant.result c.requires.short c.requires.spelled file c.meant.ensures.faultless c.meant.ensures.says c.meant.ensures.named c.meant.ensures.counted c.meant.ensures.counts c.meant.ensures.places;
+      valid = stated_valid c.args.source.now fs v d p c.problem_of_forms.result c.requires.short c.requires.spelled file c.problem_of_forms.ensures.faultless c.problem_of_forms.ensures.says c.problem_of_forms.ensures.named c.problem_of_forms.ensures.counted c.problem_of_forms.ensures.counts c.problem_of_forms.ensures.places;
       refused = refused;
-      only_stated = only_stated_in end fs shaped c.meant.result stated refused;
-      only_refused = only_refused_in end fs shaped c.meant.result stated refused;
+      only_stated = only_stated_in end fs shaped c.problem_of_forms.result stated refused;
+      only_refused = only_refused_in end fs shaped c.problem_of_forms.result stated refused;
     }

@@ -8,4 +8,4 @@ use Rattle.pks_reader_declared.proofs.sections.barred_names.Goals as goal
 
 pub loop-form-preserved : goal.loop-form-preserved
 loop-form-preserved c =
-    each_next barred_faults c.args.forms.now c.loop-form.form-index c.form-item.result (found_of c.loop-form.report) (found_of c.barred.new.report) (all_noted (found_of c.args.report.now) (each barred_faults (forms_view c.args.forms.now))) c.loop-form-test.true c.form-item.is c.barred.ensures c.loop-form.invariant
+    each_next barred_faults c.args.forms.now c.loop-form.form-index c.form-item.result (found_of c.loop-form.report) (found_of c.report_not.new.report) (all_noted (found_of c.args.report.now) (each barred_faults (forms_view c.args.forms.now))) c.loop-form-test.true c.form-item.is c.report_not.ensures c.loop-form.invariant

@@ -5,19 +5,19 @@ use Rattle.pks_run_answer.specs.Replies.{IsPlanned}
 use Rattle.pks_run_answer.proofs.Planning.{best_depth, can_be_made}
 use Rattle.pks_run_answer.proofs.plans.plan.Goals as goal
 
-pub made-requires-clause-derived : goal.made-requires-clause-derived
-made-requires-clause-derived c =
+pub product_text-requires-clause-derived : goal.product_text-requires-clause-derived
+product_text-requires-clause-derived c =
     let best = subst (IsPlanned (problem_of c.args.p.now) c.args.depth) c.in-Plan.is c.in_ok-found.ensures in
     best.0.0
 
-pub made-requires-clause-depth : goal.made-requires-clause-depth
-made-requires-clause-depth c =
+pub product_text-requires-clause-depth : goal.product_text-requires-clause-depth
+product_text-requires-clause-depth c =
     let t = tree_of c.in-Plan.tree in
     let deep = best_depth (problem_of c.args.p.now) c.args.depth t (subst (IsPlanned (problem_of c.args.p.now) c.args.depth) c.in-Plan.is c.in_ok-found.ensures) in
     omega (arith, deep, c.requires.depth)
 
-pub made-requires-clause-can : goal.made-requires-clause-can
-made-requires-clause-can c =
+pub product_text-requires-clause-can : goal.product_text-requires-clause-can
+product_text-requires-clause-can c =
     can_be_made c.args.product (problem_of c.args.p.now) c.args.depth (tree_of c.in-Plan.tree)
     (subst (IsPlanned (problem_of c.args.p.now) c.args.depth) c.in-Plan.is c.in_ok-found.ensures) c.requires.can
 

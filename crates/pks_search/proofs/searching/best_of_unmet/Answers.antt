@@ -1,4 +1,4 @@
-use Rattle.std.proofs.Common.{◌≡◌, [], Option, option_map, sym, subst}
+use Rattle.std.proofs.Common.{◌≡◌, [], option_map, sym, subst}
 use Rattle.std.proofs.lemmas.Result.{IfOk-weaker}
 use Rattle.pks_terms.specs.Answers.{unjustified}
 use Rattle.pks_terms.specs.Closure.{Next, Closes}

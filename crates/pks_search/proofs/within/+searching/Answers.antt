@@ -1,11 +1,11 @@
-use Rattle.std.proofs.Common.{◌≡◌, ◌<◌, ◌≤◌, ◌+◌, ◌-◌, ◌*◌, ◌++◌, [], ◌∷◌, ℕ, min, true, List, map, length, get_or, take, drop, Some, None, IfSome, option_map, refl, sym, ap, ◌∙◌, subst, arith, append-nil}
+use Rattle.std.proofs.Common.{◌≡◌, ◌<◌, ◌≤◌, ◌+◌, ◌-◌, ◌*◌, ◌++◌, [], ◌∷◌, ℕ, min, not, true, List, map, length, get_or, take, drop, Some, None, IfSome, option_map, refl, sym, ap, ◌∙◌, subst, arith, append-nil}
 use Rattle.std.proofs.lemmas.List.{length-map}
 use Rattle.std.proofs.lemmas.Result.{IfOk-weaker}
 use Rattle.pks_terms.specs.Sets.{Each, IsIn, IsOrdered}
 use Rattle.pks_terms.specs.Signatures.{range_of}
 use Rattle.pks_terms.specs.Databases.{Five}
 use Rattle.pks_terms.specs.Closure.{Next}
-use Rattle.pks_terms.specs.Branching.{choices, left, Act, BranchOn, CasesOn, AsTrue, AsFalse, Is}
+use Rattle.pks_terms.specs.Branching.{choices, left, Act, BranchOn, CasesOn, Is}
 use Rattle.pks_terms.specs.Settling.{last_moment, pushed, with_last, At, Stopped, Settles}
 use Rattle.pks_terms.specs.Trees.{Impossible, cost, IsBestOf}
 use Rattle.pks_terms.specs.Views.{term_of, conj_of, object_of, instance_of, problem_of}
@@ -28,7 +28,7 @@ use Rattle.pks_search.proofs.Limited.{cheap_stopped, cheap_goal, price, dear_act
 use Rattle.pks_search.proofs.Found.{found_first, found_more, found_none, found_some, found_all, none_at_depth, none_at_cost, costs_some}
 use Rattle.pks_search.proofs.Looping.{in_rest, less_before, shorter, first_and_others, none_left}
 use Rattle.pks_search.proofs.Readiness.{ready_last, ready_acted, ready_taken, chosen_action, chosen_branch, chosen_cases, few_left, left_in_range}
-use Rattle.pks_search.proofs.Children.{after_clash, after_next, taking_clash, taking_next, takes, found_act, found_branch, no_true_side, no_false_side, some_limit, found_cases, chain_found, chain_no_first, chain_no_rest, chain_empty, acted}
+use Rattle.pks_search.proofs.Children.{after_clash, after_next, taking_clash, taking_next, takes, found_act, found_sides, no_side, found_cases, chain_found, chain_no_first, chain_no_rest, chain_empty, acted}
 use Rattle.pks_search.proofs.LettingGo.{rest_ready, rest_unmet, best_of_rest}
 use Rattle.pks_search.specs.Near.{IsNear, AreNearAfter, is_far, is_tight}
 use Rattle.pks_search.specs.Spots.{MayGoOn}
@@ -115,34 +115,19 @@ best_by_branch-returns-then-is_beyond-clause-best t c =
 pub best_by_branch-returns-clause-best : goal.best_by_branch-returns-clause-best
 best_by_branch-returns-clause-best t c =
     let p = problem_of c.args.spot.now.problem.now in
+    let h = c.args.spot.now.history.now in
     let test = conj_of c.args.test.now in
-    let yes : IsBestTaking p c.args.spot.now.history.now (BranchOn test) AsTrue c.args.n (c.args.limit - 1) (Some (tree_of c.in-Some.yes)) = subst (λ o. IsBestTaking p c.args.spot.now.history.now (BranchOn test) AsTrue c.args.n (c.args.limit - 1) (option_map tree_of o)) c.in-Some.is c.in_ok-yes.ensures.best in
-    let no' : IsBestTaking p c.args.spot.now.history.now (BranchOn test) AsFalse c.args.n (c.args.limit - 1) (Some (tree_of c.in-Some-2.no)) = subst (λ o. IsBestTaking p c.args.spot.now.history.now (BranchOn test) AsFalse c.args.n (c.args.limit - 1) (option_map tree_of o)) c.in-Some-2.is c.in_ok-no.ensures.best in
-    found_branch p c.args.spot.now.history.now c.args.n c.args.limit test (tree_of c.in-Some.yes) (tree_of c.in-Some-2.no) (tree_of c.in_ok-tree.tree) c.if-limit-eq0.false c.requires.member c.requires.undecided yes no' c.in_ok-tree.ensures
+    let one = subst (λ o. IsBestTaking p h (BranchOn test) (side_of c.side_on.result) c.args.n (c.args.limit - 1) (option_map tree_of o)) c.in-Some.is c.in_ok-one.ensures.best in
+    let other = subst (λ o. IsBestTaking p h (BranchOn test) (side_of c.side_on-2.result) c.args.n (c.args.limit - 1) (option_map tree_of o)) c.in-Some-2.is c.in_ok-other.ensures.best in
+    found_sides p h c.args.n c.args.limit test (not c.is_first_on-is_true.result) (side_of c.side_on.result) (side_of c.side_on-2.result) (tree_of c.in-Some.one) (tree_of c.in-Some-2.other) (tree_of c.in_ok-tree.tree) c.if-limit-eq0.false c.requires.member c.requires.undecided c.side_on.ensures c.side_on-2.ensures one other c.in_ok-tree.ensures
 
 pub best_by_branch-returns-in_default-clause-best : goal.best_by_branch-returns-in_default-clause-best
 best_by_branch-returns-in_default-clause-best t c =
-    no_true_side (problem_of c.args.spot.now.problem.now) c.args.spot.now.history.now c.args.n c.args.limit (conj_of c.args.test.now) (option_map tree_of c.in_ok-yes.field-0) c.if-limit-eq0.false (ap (option_map tree_of) c.in_default.is) c.in_ok-yes.ensures.best
+    no_side (problem_of c.args.spot.now.problem.now) c.args.spot.now.history.now c.args.n c.args.limit (conj_of c.args.test.now) (not c.is_first_on-is_true.result) (side_of c.side_on.result) (option_map tree_of c.in_ok-one.field-0) c.if-limit-eq0.false c.side_on.ensures (ap (option_map tree_of) c.in_default.is) c.in_ok-one.ensures.best
 
 pub best_by_branch-returns-in_default-2-clause-best : goal.best_by_branch-returns-in_default-2-clause-best
 best_by_branch-returns-in_default-2-clause-best t c =
-    no_false_side (problem_of c.args.spot.now.problem.now) c.args.spot.now.history.now c.args.n c.args.limit (conj_of c.args.test.now) (option_map tree_of c.in_ok-no.field-0) c.if-limit-eq0.false (ap (option_map tree_of) c.in_default-2.is) c.in_ok-no.ensures.best
-
-pub best_from_false-returns-clause-best : goal.best_from_false-returns-clause-best
-best_from_false-returns-clause-best t c =
-    let p = problem_of c.args.spot.now.problem.now in
-    let test = conj_of c.args.test.now in
-    let yes : IsBestTaking p c.args.spot.now.history.now (BranchOn test) AsTrue c.args.n (c.args.limit - 1) (Some (tree_of c.in-Some-2.yes)) = subst (λ o. IsBestTaking p c.args.spot.now.history.now (BranchOn test) AsTrue c.args.n (c.args.limit - 1) (option_map tree_of o)) c.in-Some-2.is c.in_ok-yes.ensures.best in
-    let no' : IsBestTaking p c.args.spot.now.history.now (BranchOn test) AsFalse c.args.n (c.args.limit - 1) (Some (tree_of c.in-Some.no)) = subst (λ o. IsBestTaking p c.args.spot.now.history.now (BranchOn test) AsFalse c.args.n (c.args.limit - 1) (option_map tree_of o)) c.in-Some.is c.in_ok-no.ensures.best in
-    found_branch p c.args.spot.now.history.now c.args.n c.args.limit test (tree_of c.in-Some-2.yes) (tree_of c.in-Some.no) (tree_of c.in_ok-tree.tree) (some_limit c.args.limit c.requires.some) c.requires.member c.requires.undecided yes no' c.in_ok-tree.ensures
-
-pub best_from_false-returns-in_default-clause-best : goal.best_from_false-returns-in_default-clause-best
-best_from_false-returns-in_default-clause-best t c =
-    no_false_side (problem_of c.args.spot.now.problem.now) c.args.spot.now.history.now c.args.n c.args.limit (conj_of c.args.test.now) (option_map tree_of c.in_ok-no.field-0) (some_limit c.args.limit c.requires.some) (ap (option_map tree_of) c.in_default.is) c.in_ok-no.ensures.best
-
-pub best_from_false-returns-in_default-2-clause-best : goal.best_from_false-returns-in_default-2-clause-best
-best_from_false-returns-in_default-2-clause-best t c =
-    no_true_side (problem_of c.args.spot.now.problem.now) c.args.spot.now.history.now c.args.n c.args.limit (conj_of c.args.test.now) (option_map tree_of c.in_ok-yes.field-0) (some_limit c.args.limit c.requires.some) (ap (option_map tree_of) c.in_default-2.is) c.in_ok-yes.ensures.best
+    no_side (problem_of c.args.spot.now.problem.now) c.args.spot.now.history.now c.args.n c.args.limit (conj_of c.args.test.now) (not (not c.is_first_on-is_true.result)) (side_of c.side_on-2.result) (option_map tree_of c.in_ok-other.field-0) c.if-limit-eq0.false c.side_on-2.ensures (ap (option_map tree_of) c.in_default-2.is) c.in_ok-other.ensures.best
 
 -- ---- cases
 

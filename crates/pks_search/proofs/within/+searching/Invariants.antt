@@ -32,9 +32,6 @@ decreases-best_after l = l.n * 32 + 3
 abbrev pub decreases-best_by_branch : goal.decreases-best_by_branch
 decreases-best_by_branch l = l.n * 32 + 29
 
-abbrev pub decreases-best_from_false : goal.decreases-best_from_false
-decreases-best_from_false l = l.n * 32 + 28
-
 abbrev pub decreases-best_by_cases : goal.decreases-best_by_cases
 decreases-best_by_cases l = l.n * 32 + 29
 

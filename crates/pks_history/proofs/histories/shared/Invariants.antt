@@ -1,6 +1,0 @@
-use Rattle.std.proofs.Common.{◌≡◌, take}
-use Rattle.pks_history.specs.Moments.{moments_of}
-use Rattle.pks_history.proofs.histories.shared.Given as goal
-
-abbrev pub invariant-loop-m : goal.invariant-loop-m
-invariant-loop-m l = moments_of l.all.items ≡ moments_of (take l.m-index l.moments)

@@ -1,4 +1,0 @@
-pub mod Families
-pub mod Ended
-pub mod Regionless
-pub mod Looks

@@ -1,5 +1,0 @@
-use Rattle.std.proofs.Common.{length}
-use Rattle.pks_progress.proofs.loose.+are_objects.Given as goal
-
-abbrev pub decreases-are_objects : goal.decreases-are_objects
-decreases-are_objects l = length l.terms.now

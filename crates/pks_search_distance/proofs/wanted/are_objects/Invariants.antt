@@ -1,8 +1,0 @@
-use Rattle.std.proofs.Common.{◌≡◌, drop}
-use Rattle.std.specs.List.{list_all}
-use Rattle.pks_terms.specs.Views.{terms_of}
-use Rattle.pks_search_distance.specs.Counted.{is_object}
-use Rattle.pks_search_distance.proofs.wanted.are_objects.Given as goal
-
-abbrev pub invariant-loop-t : goal.invariant-loop-t
-invariant-loop-t l = list_all is_object (terms_of (drop l.t-index l.ts)) ≡ list_all is_object (terms_of l.ts)
