@@ -10,7 +10,7 @@ ghost use Rattle.pks_terms.specs.Moments.{AreMomentsOf, IsMomentOf};
 ghost use Rattle.pks_laws.specs.OfSignature.{IsSideOf};
 ghost use Rattle.pks_query_lookup.specs.Fives.{five_of};
 ghost use Rattle.pks_terms.specs.ChoiceViews.{choice_of, side_of};
-ghost use Rattle.pks_tests_steps.specs.Walks.{MayGoOn};
+ghost use Rattle.pks_history_replay.specs.Walking.{HasRoom};
 
 use crate::domains::DomainText;
 use crate::rows::{Sides, Then, WalkRow, WrongRow};
@@ -121,7 +121,9 @@ pub(crate) fn offered(
 
 /// The history longer by an action.
 fn acted(alloc: Global, p: &Problem<'_>, h: &History, wanted: &str) -> Result<History, Fail>
-    requires ready { MayGoOn p.now h.now 1 }
+    requires valid { IsValidProblem p.now }
+    requires justified { AllJustified (problem_of p.now) }
+    requires room { HasRoom (problem_of p.now) 1 h.now }
     ensures moments { IfOk result (λ g. AreMomentsOf (problem_of p.now) g) }
     ensures longer { IfOk result (λ g. length g.steps ≡ length h.now.steps + 1) }
 {
@@ -137,7 +139,9 @@ fn acted(alloc: Global, p: &Problem<'_>, h: &History, wanted: &str) -> Result<Hi
 
 /// The history longer by these actions.
 fn longer(alloc: Global, p: &Problem<'_>, h: History, actions: &[&str]) -> Result<History, Fail>
-    requires ready { MayGoOn p.now h (length actions.now) }
+    requires valid { IsValidProblem p.now }
+    requires justified { AllJustified (problem_of p.now) }
+    requires room { HasRoom (problem_of p.now) (length actions.now) h }
     ensures moments { IfOk result (λ g. AreMomentsOf (problem_of p.now) g) }
 {
     match actions {

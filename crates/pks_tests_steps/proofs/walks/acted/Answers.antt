@@ -14,7 +14,7 @@ use Rattle.pks_search.proofs.Children.{acted}
 use Rattle.pks_tests_steps.proofs.walks.acted.Goals as goal
 
 pub progress-requires-clause-moment : goal.progress-requires-clause-moment
-progress-requires-clause-moment c = subst (IsMomentOf (problem_of c.args.p.now).signature) (sym c.last.ensures) (last_of_it (problem_of c.args.p.now) c.requires.ready.valid.says c.args.h.now c.requires.ready.moments)
+progress-requires-clause-moment c = subst (IsMomentOf (problem_of c.args.p.now).signature) (sym c.last.ensures) (last_of_it (problem_of c.args.p.now) c.requires.valid.says c.args.h.now c.requires.room.moments)
 
 pub progress-requires-clause-choice : goal.progress-requires-clause-choice
 progress-requires-clause-choice c =
@@ -33,5 +33,5 @@ returns-clause-moments c =
     let choice = chosen_action p d i acts in
     let progress = acted p c.args.h.now i (five_of c.last.result.now) (five_of c.in-Next.d) (outcome_of c.in_ok-d.field-0) c.last.ensures (ap outcome_of c.in-Next.is) c.in_ok-d.ensures.progress in
     let e = five_of c.in-Next.d in
-    let moments = acts_of p c.requires.ready.valid.says c.args.h.now (pushed c.args.h.now i e) i c.requires.ready.moments choice (record { outcome = Next e; progress = progress; gives = refl }) in
+    let moments = acts_of p c.requires.valid.says c.args.h.now (pushed c.args.h.now i e) i c.requires.room.moments choice (record { outcome = Next e; progress = progress; gives = refl }) in
     subst (AreMomentsOf p) (sym c.in_ok-longer.ensures) moments
