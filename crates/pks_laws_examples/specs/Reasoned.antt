@@ -7,7 +7,7 @@ use Rattle.pks_terms.specs.Branching.{BranchOn, Side, AsFalse}
 use Rattle.pks_terms.specs.Printed.{Names}
 use Rattle.pks_terms.specs.Proofs.{Fact, FactLit, FactKx, FactLcw, Path, Went, Took, Reason, ByGiven, BySide, BySwap, ByOnly, ByOthers, ByRange, ByClosed, ByKeep, ByBack, ByEffect, ByMust, ByCannot, ByClear, Line, Proof}
 use Rattle.pks_terms.specs.Explained.{Entry}
-use Rattle.pks_laws_examples.specs.Worked.{fact, equal, unequal, shape, facts_alone, known, action, alive, poison, pour, look}
+use Rattle.pks_laws_examples.specs.Worked.{fact, equal, unequal, shape, facts_alone, known, action, doing, stating, alive, poison, pour, look}
 
 -- a literal at a moment, for a reason that cites these lines
 abbrev pub proved : ℕ → Literal → Reason → List ℕ → Line
@@ -21,7 +21,7 @@ open_door = fact 0
 
 -- the problem of the door
 abbrev pub door : Problem
-door = record { version = 1; signature = facts_alone (shape [] ∷ []); schemas = []; init = StartKf open_door ∷ []; goal = Now (known open_door) ∷ [] }
+door = stating (facts_alone (shape [] ∷ [])) [] (StartKf open_door ∷ []) (Now (known open_door) ∷ [])
 
 -- that it is open by an initial item
 abbrev pub door_given : ℕ → Proof
@@ -108,13 +108,8 @@ only_shelved atoms = FactLcw (record { pattern = any_shelved; listed = atoms })
 
 -- what is known at first, and the one action's effects
 abbrev pub shelf : List Start → List Effect → Problem
-shelf init es = record {
-  version = 1;
-  signature = record { types = 1; parents = None ∷ []; objects = 0 ∷ 0 ∷ []; predicates = shape (0 ∷ []) ∷ shape [] ∷ []; functions = shape [] ∷ [] };
-  schemas = record { cost = 1; parameters = []; pre = []; effects = es; senses = []; adds = [] } ∷ [];
-  init = init;
-  goal = [];
-}
+shelf init es =
+    stating (record { types = 1; parents = None ∷ []; objects = 0 ∷ 0 ∷ []; predicates = shape (0 ∷ []) ∷ shape [] ∷ []; functions = shape [] ∷ [] }) (doing [] es [] [] ∷ []) init []
 
 -- the one action is done
 abbrev pub acted : Path

@@ -4,8 +4,8 @@ use Rattle.pks_terms.specs.Syntax.{Object, Parameter, Apply, Inner, Term, Named,
 use Rattle.pks_terms.specs.Signatures.{Shape, Signature}
 use Rattle.pks_terms.specs.Databases.{Five}
 use Rattle.pks_terms.specs.Queries.{Know, KnowWhether, Query}
-use Rattle.pks_terms.specs.Actions.{Set, Unset, Clear, SenseWhether, ItemKf, ItemKw, ItemLcw, Add, Schema, Instance}
-use Rattle.pks_terms.specs.Problems.{Start, StartKf, StartKw, StartKx, Now, Problem}
+use Rattle.pks_terms.specs.Actions.{Set, Unset, Clear, Effect, Sense, SenseWhether, ItemKf, ItemKw, ItemLcw, Add, Schema, Instance}
+use Rattle.pks_terms.specs.Problems.{Start, StartKf, StartKw, StartKx, Aim, Now, Problem}
 use Rattle.pks_terms.specs.Settling.{History, State, At}
 use Rattle.pks_terms.specs.Trees.{Tree, Goal, Do, Branch}
 use Rattle.pks_terms.specs.Nodes.{Node, GoalNode, DoNode, BranchNode}
@@ -55,6 +55,14 @@ adding l = record { given = []; item = ItemKf l }
 abbrev pub action : ℕ → Instance
 action n = record { action = n; arguments = [] }
 
+-- the text of such an action, which costs 1: its preconditions, effects, senses and adds
+abbrev pub doing : List Query → List Effect → List Sense → List Add → Schema
+doing pre effects senses adds = record { cost = 1; parameters = []; pre = pre; effects = effects; senses = senses; adds = adds }
+
+-- a problem of the first version: its signature, actions, initial items and goal
+abbrev pub stating : Signature → List Schema → List Start → List Aim → Problem
+stating signature schemas init goal = record { version = 1; signature = signature; schemas = schemas; init = init; goal = goal }
+
 -- ---- the lawn: it is alive; poison, of which nothing is known, would kill it where one pours; looking tells whether it is alive; is the can poisoned?
 
 -- the lawn is alive
@@ -75,15 +83,10 @@ look = action 1
 
 -- the problem of the lawn
 abbrev pub lawn : Problem
-lawn = record {
-  version = 1;
-  signature = facts_alone (shape [] ∷ shape [] ∷ []);
-  schemas =
-      record { cost = 1; parameters = []; pre = []; effects = record { condition = poison ∷ []; target = Unset (record { predicate = 0; arguments = [] }) } ∷ []; senses = []; adds = [] }
-      ∷ record { cost = 1; parameters = []; pre = []; effects = []; senses = SenseWhether (alive ∷ []) ∷ []; adds = record { given = []; item = ItemKw (alive ∷ []) } ∷ [] } ∷ [];
-  init = StartKf alive ∷ [];
-  goal = Now (known_either_way (poison ∷ [])) ∷ [];
-}
+lawn = stating (facts_alone (shape [] ∷ shape [] ∷ []))
+    (doing [] (record { condition = poison ∷ []; target = Unset (record { predicate = 0; arguments = [] }) } ∷ []) [] []
+    ∷ doing [] [] (SenseWhether (alive ∷ []) ∷ []) (record { given = []; item = ItemKw (alive ∷ []) } ∷ []) ∷ [])
+    (StartKf alive ∷ []) (Now (known_either_way (poison ∷ [])) ∷ [])
 
 -- the lawn before anything is done
 abbrev pub lawn_at_first : History
@@ -141,21 +144,9 @@ sweep = action 0
 
 -- the problem of the alias, with these initial items
 abbrev pub alias : List Start → Problem
-alias init = record {
-  version = 1;
-  signature = record { types = 2; parents = None ∷ None ∷ []; objects = 0 ∷ 0 ∷ 1 ∷ []; predicates = shape (1 ∷ 0 ∷ []) ∷ shape [] ∷ []; functions = shape [] ∷ [] };
-  schemas =
-      record {
-        cost = 1;
-        parameters = [];
-        pre = [];
-        effects = record { condition = []; target = Unset (record { predicate = 0; arguments = key ∷ place_swept ∷ [] }) } ∷ record { condition = []; target = Set (record { predicate = 1; arguments = [] }) } ∷ [];
-        senses = [];
-        adds = adding done ∷ [];
-      } ∷ [];
-  init = init;
-  goal = Now (known done) ∷ Now (known key_in_hall) ∷ [];
-}
+alias init = stating (record { types = 2; parents = None ∷ None ∷ []; objects = 0 ∷ 0 ∷ 1 ∷ []; predicates = shape (1 ∷ 0 ∷ []) ∷ shape [] ∷ []; functions = shape [] ∷ [] })
+    (doing [] (record { condition = []; target = Unset (record { predicate = 0; arguments = key ∷ place_swept ∷ [] }) } ∷ record { condition = []; target = Set (record { predicate = 1; arguments = [] }) } ∷ []) [] (adding done ∷ []) ∷ [])
+    init (Now (known done) ∷ Now (known key_in_hall) ∷ [])
 
 -- of the place that is swept nothing is known
 abbrev pub alias_open : Problem
@@ -177,13 +168,9 @@ r = fact 0
 
 -- the problem of the groups
 abbrev pub groups : Problem
-groups = record {
-  version = 1;
-  signature = facts_alone (shape [] ∷ shape [] ∷ shape [] ∷ shape [] ∷ shape [] ∷ []);
-  schemas = [];
-  init = StartKx (r ∷ fact 1 ∷ fact 2 ∷ []) ∷ StartKx (r ∷ fact 3 ∷ fact 4 ∷ []) ∷ StartKx (fact 1 ∷ fact 3 ∷ []) ∷ StartKw (r ∷ []) ∷ [];
-  goal = Now (known (negated r)) ∷ [];
-}
+groups = stating (facts_alone (shape [] ∷ shape [] ∷ shape [] ∷ shape [] ∷ shape [] ∷ [])) []
+    (StartKx (r ∷ fact 1 ∷ fact 2 ∷ []) ∷ StartKx (r ∷ fact 3 ∷ fact 4 ∷ []) ∷ StartKx (fact 1 ∷ fact 3 ∷ []) ∷ StartKw (r ∷ []) ∷ [])
+    (Now (known (negated r)) ∷ [])
 
 -- the groups before anything is assumed
 abbrev pub groups_start : Five
@@ -205,13 +192,7 @@ q = fact 1
 
 -- the problem of the pair, with more initial items
 abbrev pub pair : List Start → Problem
-pair more = record {
-  version = 1;
-  signature = facts_alone (shape [] ∷ shape [] ∷ []);
-  schemas = [];
-  init = StartKw (p ∷ q ∷ []) ∷ more;
-  goal = Now (known_either_way (q ∷ [])) ∷ [];
-}
+pair more = stating (facts_alone (shape [] ∷ shape [] ∷ [])) [] (StartKw (p ∷ q ∷ []) ∷ more) (Now (known_either_way (q ∷ [])) ∷ [])
 
 -- one moment at which these literals and formulas are known
 abbrev pub one_moment : List Literal → List (List Literal) → History
@@ -253,22 +234,10 @@ any_full = record { predicate = 0; slots = None ∷ [] }
 
 -- the goal is that a splash is done and this tub is known not to be full
 abbrev pub tubs : Term → Problem
-tubs wanted = record {
-  version = 1;
-  signature = record { types = 1; parents = None ∷ []; objects = 0 ∷ 0 ∷ []; predicates = shape (0 ∷ []) ∷ shape [] ∷ shape [] ∷ []; functions = [] };
-  schemas =
-      record { cost = 1; parameters = []; pre = []; effects = record { condition = []; target = Clear any_full } ∷ []; senses = []; adds = record { given = []; item = ItemLcw any_full } ∷ [] }
-      ∷ record {
-        cost = 1;
-        parameters = [];
-        pre = known (negated (full second_tub)) ∷ [];
-        effects = record { condition = wet ∷ []; target = Set (record { predicate = 0; arguments = first_tub ∷ [] }) } ∷ record { condition = []; target = Set (record { predicate = 2; arguments = [] }) } ∷ [];
-        senses = [];
-        adds = adding splashed ∷ [];
-      } ∷ [];
-  init = [];
-  goal = Now (known splashed) ∷ Now (known (negated (full wanted))) ∷ [];
-}
+tubs wanted = stating (record { types = 1; parents = None ∷ []; objects = 0 ∷ 0 ∷ []; predicates = shape (0 ∷ []) ∷ shape [] ∷ shape [] ∷ []; functions = [] })
+    (doing [] (record { condition = []; target = Clear any_full } ∷ []) [] (record { given = []; item = ItemLcw any_full } ∷ [])
+    ∷ doing (known (negated (full second_tub)) ∷ []) (record { condition = wet ∷ []; target = Set (record { predicate = 0; arguments = first_tub ∷ [] }) } ∷ record { condition = []; target = Set (record { predicate = 2; arguments = [] }) } ∷ []) [] (adding splashed ∷ []) ∷ [])
+    [] (Now (known splashed) ∷ Now (known (negated (full wanted))) ∷ [])
 
 -- nothing is known
 abbrev pub tubs_start : Five
