@@ -71,7 +71,7 @@ fn with_formula(
 ) -> Result<Five, AllocError>
     ensures { IfOk result (λ next. five_of next ≡ assumed_formula (five_of five.now) (conj_of c.now) (literals_in news.items)) }
 {
-    let kf = five.kf.added(alloc, news)?;
+    let kf = five.kf.with_all(alloc, news)?;
     let kw = other_formulas(alloc, &five.kw, c)?;
     let kv = five.kv.share()?;
     let kx = five.kx.share()?;

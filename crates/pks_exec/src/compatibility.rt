@@ -14,7 +14,7 @@ ghost use Rattle.pks_world.specs.Few.{few_of};
 ghost use Rattle.pks_exec.specs.Instances.{is_value, lists, is_listed, is_told, is_region, all_instances};
 
 use pks_terms::ids::{ItemNo, ObjId, PredId};
-use pks_terms::literal::{Atom, Literal, Pattern, PredAtom, affirmed};
+use pks_terms::literal::{Atom, Literal, Pattern, PredAtom, positive_literal};
 use pks_terms::problem::{Init, InitItem, Problem};
 use pks_terms::term::{Term, front};
 use pks_world::{Few, World};
@@ -73,7 +73,7 @@ fn is_told(p: &Problem<'_>, w: &World, pred: PredId, objects: &Few) -> bool
     ensures { result ≡ is_told (problem_of p.now) (world_of w.now) pred.0 (few_of objects.now) }
 {
     let a = objects.atom(pred);
-    !w.holds(&affirmed(&a)) || is_listed(p, w, &a)
+    !w.holds(&positive_literal(&a)) || is_listed(p, w, &a)
 }
 
 /// Whether each true instance of the slots behind these objects is told of.

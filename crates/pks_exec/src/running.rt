@@ -17,7 +17,7 @@ use pks_terms::problem::Problem;
 use pks_terms::schema::Instance;
 use pks_terms::sequence::Sequence;
 use pks_terms::term::front;
-use pks_world::{World, argument_value, grounded};
+use pks_world::{World, argument_value, ground_instance};
 use std::alloc::{AllocError, Global};
 
 /// The values of the arguments.
@@ -46,7 +46,7 @@ fn add_action(
 {
     let values = argument_values(alloc, w, i)?;
     to.push(Event::Do(i.act, values))?;
-    let seen = after.observe(alloc, p, &grounded(w, i))?;
+    let seen = after.observe(alloc, p, &ground_instance(w, i))?;
     for found in seen.into_vec() {
         to.push(Event::Saw(found))?;
     }
@@ -69,7 +69,7 @@ fn run_tree(
         Tree::Goal => to.push(Event::End(End::Goal))?,
         Tree::Impossible => to.push(Event::End(End::Impossible))?,
         Tree::Act { step, next } => {
-            let after = w.apply(p, &grounded(w, step))?;
+            let after = w.apply(p, &ground_instance(w, step))?;
             add_action(alloc, p, w, &after, step, to)?;
             run_tree(alloc, p, next, &after, to)?;
         }

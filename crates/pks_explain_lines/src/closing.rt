@@ -11,7 +11,7 @@ use pks_terms::term::Term;
 use std::alloc::{AllocError, Global};
 
 /// How many are not set.
-fn unset(marks: &[bool]) -> usize {
+fn count_unset(marks: &[bool]) -> usize {
     marks.iter().filter(|mark| !**mark).count()
 }
 
@@ -91,7 +91,7 @@ fn first_holding(
 /// The group that a fact states.
 fn group_in(fact: &Fact) -> Result<Group, AllocError> {
     match fact {
-        Fact::Kx(group) => group.copied(),
+        Fact::Kx(group) => group.copy(),
         Fact::Lit(_) | Fact::Lcw(_) => Err(missing_as_memory()),
     }
 }
@@ -161,7 +161,7 @@ impl LineTable<'_> {
         of: Members<'_>,
         denied: &[bool],
     ) -> Result<(), AllocError> {
-        let open = unset(denied);
+        let open = count_unset(denied);
         if open > 1 {
             return Ok(());
         }

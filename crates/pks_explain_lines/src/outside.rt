@@ -3,11 +3,11 @@
 use crate::showing::line_or_missing;
 use crate::table::LineTable;
 use pks_explain_moment::{
-    LiteralRewrite, MomentLines, are_plainly_apart, denial_of, missing_as_memory, push, with_fixed,
+    LiteralRewrite, MomentLines, are_plainly_apart, missing_as_memory, push, with_fixed,
 };
 use pks_lcw::Entry;
 use pks_proof_lines::Reason;
-use pks_terms::literal::{Atom, Literal, PredAtom};
+use pks_terms::literal::{Atom, Literal, PredAtom, atom_literal};
 use std::alloc::{AllocError, Global};
 
 /// A region that shuts an atom out, and its line.
@@ -90,7 +90,7 @@ impl LineTable<'_> {
         self.add_shown(
             alloc,
             at,
-            &denial_of(fixed),
+            &atom_literal(fixed, false),
             Reason::Closed,
             cites.as_slice(),
         )?;

@@ -76,9 +76,9 @@ impl LineTable<'_> {
         group: &Group,
         reason: Reason,
     ) -> Result<(), AllocError> {
-        let fact = Fact::Kx(group.copied()?);
+        let fact = Fact::Kx(group.copy()?);
         let line = self.add(at.number(), fact, reason, Vec::new(alloc))?;
-        at.add_group(alloc, group.copied()?, line)
+        at.add_group(alloc, group.copy()?, line)
     }
 
     fn put_region(

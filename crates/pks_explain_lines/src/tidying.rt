@@ -46,7 +46,7 @@ impl LineTable<'_> {
         step: GroupStep,
         line: u32,
     ) -> Result<GroupLine, AllocError> {
-        let fact = Fact::Kx(step.group.copied()?);
+        let fact = Fact::Kx(step.group.copy()?);
         let line = self.add_swap(alloc, at, fact, line, step.equation)?;
         Ok(GroupLine {
             group: step.group,

@@ -102,7 +102,7 @@ impl MomentLines {
 
     /// The place has this value, and the answer is whether it had none before.
     fn put_value(&mut self, alloc: Global, by: &Valued) -> Result<bool, AllocError> {
-        let is_new = self.valued(&by.place).is_none();
+        let is_new = self.value_at(&by.place).is_none();
         put(alloc, &mut self.occurring.values, by.place, *by)?;
         if is_new {
             forget(&mut self.index);
@@ -146,7 +146,7 @@ impl MomentLines {
         let Some(place) = place_of(t) else {
             return Ok(());
         };
-        match self.valued(&place) {
+        match self.value_at(&place) {
             Some(by) => put_swaps(x, &by, to),
             None => Ok(()),
         }

@@ -20,4 +20,4 @@ pub use normalizing::{LiteralRewrite, NormalForm};
 pub use placing::{equal, unequal};
 pub use pushing::push;
 pub use tidying::{GroupStep, RegionStep};
-pub use ways::{are_plainly_apart, denial_of, with_fixed};
+pub use ways::{are_plainly_apart, with_fixed};

@@ -179,7 +179,7 @@ impl MomentLines {
     }
 
     /// The value of the application to objects, by the line of their equation.
-    pub(crate) fn valued(&self, place: &Inner) -> Option<Valued>
+    pub(crate) fn value_at(&self, place: &Inner) -> Option<Valued>
         ensures { result ≡ valued self.now (inner_of place.now) }
     {
         self.occurring.values.get(place).copied()

@@ -105,7 +105,7 @@ impl NormalForm {
         push(&mut self.by, equation_of(&step.by))
     }
 
-    fn copied(&self, alloc: Global) -> Result<NormalForm, AllocError> {
+    fn copy(&self, alloc: Global) -> Result<NormalForm, AllocError> {
         let by = Vec::from_slice(alloc, self.by.as_slice())?;
         Ok(NormalForm {
             term: self.term,
@@ -115,7 +115,7 @@ impl NormalForm {
 
     /// Another form, which is this one and one more step.
     fn then(&self, alloc: Global, step: &TermRewrite) -> Result<NormalForm, AllocError> {
-        let mut form = self.copied(alloc)?;
+        let mut form = self.copy(alloc)?;
         form.go(step)?;
         Ok(form)
     }
@@ -125,7 +125,7 @@ impl MomentLines {
     fn normal_inner(&self, t: &Inner) -> Inner
         ensures { inner_of result ≡ inner_normal self.now (inner_of t.now) }
     {
-        match self.valued(t) {
+        match self.value_at(t) {
             Some(by) => Inner::Obj(by.value),
             None => *t,
         }
@@ -138,13 +138,13 @@ impl MomentLines {
     }
 
     /// The application, or its value where it has one.
-    fn applied(&self, fun: FnId, n: u8, args: [Inner; 2]) -> Term
+    fn value_or_app(&self, fun: FnId, n: u8, args: [Inner; 2]) -> Term
         ensures { term_of result ≡ applied self.now fun.0 (first_inners n args) }
     {
         let Some(own) = objects(n, &args) else {
             return Term::App { fun, n, args };
         };
-        match self.valued(&Inner::App { fun, n, args: own }) {
+        match self.value_at(&Inner::App { fun, n, args: own }) {
             Some(by) => Term::Obj(by.value),
             None => Term::App { fun, n, args },
         }
@@ -156,7 +156,7 @@ impl MomentLines {
     {
         match t {
             Term::Obj(_) | Term::Param(_) => *t,
-            Term::App { fun, n, args } => self.applied(*fun, *n, self.normal_inners(args)),
+            Term::App { fun, n, args } => self.value_or_app(*fun, *n, self.normal_inners(args)),
         }
     }
 
@@ -185,7 +185,7 @@ impl MomentLines {
 
     /// The replacement at this spot of the term.
     fn step(&self, t: &Term, spot: usize) -> Option<TermRewrite> {
-        let by = self.valued(&place_at(t, spot)?)?;
+        let by = self.value_at(&place_at(t, spot)?)?;
         let term = with_object(t, spot, by.value);
         Some(TermRewrite { term, by })
     }

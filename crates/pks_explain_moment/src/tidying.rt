@@ -86,7 +86,7 @@ fn with_slot(p: &Pattern, position: usize, t: &Term) -> Pattern {
 }
 
 fn put_group(group: &Group, line: u32, to: &mut Vec<(Group, u32)>) -> Result<(), AllocError> {
-    let group = group.copied()?;
+    let group = group.copy()?;
     push(to, (group, line))
 }
 

@@ -5,18 +5,10 @@ use crate::moment::MomentLines;
 use crate::normalizing::{LiteralRewrite, TermRewrite, first_of_chain};
 use crate::placing::{with_arguments, with_term};
 use crate::pushing::push;
-use pks_terms::literal::{Atom, Literal, Pattern, PredAtom};
+use pks_terms::literal::{Literal, Pattern, PredAtom, atom_literal};
 use pks_terms::problem::Signature;
 use pks_terms::term::{Term, are_two_objects, front};
 use std::alloc::{AllocError, Global};
-
-/// The denial of the atom.
-pub fn denial_of(a: &PredAtom) -> Literal {
-    Literal {
-        atom: Atom::Pred(*a),
-        positive: false,
-    }
-}
 
 fn fixed_or(p: &Pattern, position: usize, t: &Term) -> Term {
     match front(&p.args, p.n).get(position) {
@@ -88,7 +80,7 @@ fn put_link(
     push(
         to,
         LiteralRewrite {
-            literal: denial_of(a),
+            literal: atom_literal(a, false),
             equation: step.by.line,
         },
     )
@@ -168,7 +160,7 @@ impl MomentLines {
         fixed: &PredAtom,
     ) -> Result<Vec<LiteralRewrite>, AllocError> {
         let mut chain = Vec::new(alloc);
-        push(&mut chain, first_of_chain(&denial_of(a)))?;
+        push(&mut chain, first_of_chain(&atom_literal(a, false)))?;
         self.put_ways(alloc, a, fixed, &mut chain)?;
         Ok(chain)
     }

@@ -107,9 +107,9 @@ fn put_group(
     g: &Group,
     cites: Vec<u32>,
 ) -> Result<(), AllocError> {
-    let fact = Fact::Kx(g.copied()?);
+    let fact = Fact::Kx(g.copy()?);
     let line = lines.add_line(alloc, m, fact, Reason::Keep, cites)?;
-    lines.add_group(alloc, m, g.copied()?, line)
+    lines.add_group(alloc, m, g.copy()?, line)
 }
 
 /// The group, which has this line before the action, stays where the action spoils none of it.

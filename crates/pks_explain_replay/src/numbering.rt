@@ -199,7 +199,7 @@ fn ranks_of(alloc: Global, marks: &[bool]) -> Result<Vec<u32>, AllocError> {
 fn copy_of(f: &Fact) -> Result<Fact, AllocError> {
     match f {
         Fact::Lit(l) => Ok(Fact::Lit(*l)),
-        Fact::Kx(g) => Ok(Fact::Kx(g.copied()?)),
+        Fact::Kx(g) => Ok(Fact::Kx(g.copy()?)),
         Fact::Lcw(e) => Ok(Fact::Lcw(e.share()?)),
     }
 }
@@ -234,7 +234,7 @@ impl Rests {
     }
 
     /// The line, what it cites numbered anew.
-    fn renumbered(&self, alloc: Global, ranks: &[u32], line: &Line) -> Result<Line, AllocError> {
+    fn renumber(&self, alloc: Global, ranks: &[u32], line: &Line) -> Result<Line, AllocError> {
         let cites = self.new_cites(alloc, ranks, line.cites.as_slice())?;
         Ok(Line {
             moment: line.moment,
@@ -250,7 +250,7 @@ impl Rests {
         let mut kept = Vec::new(alloc);
         for (place, line) in lines.iter().enumerate() {
             if let Some(true) = self.marks.as_slice().get(place) {
-                kept.push(self.renumbered(alloc, ranks.as_slice(), line)?)?;
+                kept.push(self.renumber(alloc, ranks.as_slice(), line)?)?;
             }
         }
         Ok(Sequence::of(kept))

@@ -130,7 +130,7 @@ pub fn hides_nothing(
     ensures { IfOk result (λ b. b ≡ hides_nothing (problem_of p.now) (five_of before.now) (instance_of i.now) (five_of after.now)) }
 {
     let written = effects_of(alloc, p, i)?;
-    let known = before.derived();
+    let known = before.lookup();
     let effects = in_normal_form(alloc, known.normals(), written.as_slice())?;
     let (before, after, effects) = (before.parts(), after.parts(), effects.as_slice());
     Ok(

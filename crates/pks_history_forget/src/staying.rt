@@ -86,7 +86,7 @@ fn literal_stays(s: &Signature, step: &StepTaken<'_>, l: &Literal) -> bool
 {
     (is_of_objects(l) && all_leave(step.effects, l))
         && (are_alike(step.before.known(s, l), step.after.known(s, l))
-            && are_alike(step.before.denied(s, l), step.after.denied(s, l)))
+            && are_alike(step.before.denies(s, l), step.after.denies(s, l)))
 }
 
 /// Whether so does each of the literals.

@@ -80,8 +80,8 @@ impl AtomSet {
     pub fn of(alloc: Global, atoms: Vec<PredAtom>) -> Result<AtomSet, AllocError>
         ensures { IfOk result (λ set. set ≡ added (on atom_of atom_cmp) [] atoms.items) }
     {
-        let set = SetOf::empty().added(alloc, atoms)?;
-        let listed = listed(alloc, &set)?;
+        let set = SetOf::of(alloc, atoms)?;
+        let listed = slice_of(alloc, &set)?;
         Ok(listed)
     }
 
@@ -176,7 +176,7 @@ impl<'a> Iterator for AtomSetItems<'a> {
 }
 
 /// The members of a set of atoms as one slice.
-fn listed(alloc: Global, set: &SetOf<PredAtom>) -> Result<AtomSet, AllocError>
+fn slice_of(alloc: Global, set: &SetOf<PredAtom>) -> Result<AtomSet, AllocError>
     ensures { IfOk result (λ atoms. atoms ≡ set.now) }
 {
     let mut all = Vec::new(alloc);

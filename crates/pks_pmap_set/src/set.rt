@@ -148,9 +148,17 @@ impl<T: Ord + Drop> SetOf<T> {
         Ok(SetOf { entries })
     }
 
+    /// The set of these items, which come in any order, equal ones as often as they come. The error is want of memory.
+    pub fn of(alloc: Global, items: Vec<T>) -> Result<SetOf<T>, AllocError>
+        ensures { IfOk result (λ set. set ≡ added T.cmp [] items.items) }
+    {
+        let set = SetOf::empty().with_all(alloc, items)?;
+        Ok(set)
+    }
+
     /// The set with the items in it, one after another. A list in order is put into the empty set in a time that
     /// grows as its length.
-    pub fn added(&self, alloc: Global, items: Vec<T>) -> Result<SetOf<T>, AllocError>
+    pub fn with_all(&self, alloc: Global, items: Vec<T>) -> Result<SetOf<T>, AllocError>
         ensures { IfOk result (λ set. set ≡ added T.cmp self.now items.items) }
     {
         if self.len() == 0 && rises(items.as_slice()) {

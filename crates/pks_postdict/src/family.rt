@@ -51,11 +51,11 @@ pub(crate) struct Family {
 
 impl Held {
     /// Lends what looks literals up.
-    pub(crate) fn derived(&self) -> &Derived
+    pub(crate) fn lookup(&self) -> &Derived
         ensures { five_of result.now ≡ held_of self.now }
     {
         match self {
-            Held::Closed(db) => db.derived(),
+            Held::Closed(db) => db.lookup(),
             Held::Grown(rc) => rc,
         }
     }

@@ -36,7 +36,7 @@ fn own_news(alloc: Global, s: &Signature, place: &Place) -> Result<Vec<Literal>,
     if !place.is_unread() {
         return Ok(Vec::new(alloc));
     }
-    let all = additions(alloc, s, place.held.derived())?;
+    let all = additions(alloc, s, place.held.lookup())?;
     Ok(all)
 }
 
@@ -58,8 +58,8 @@ fn forward_news(
         alloc,
         p,
         &link.step,
-        before.held.derived(),
-        link.place.held.derived(),
+        before.held.lookup(),
+        link.place.held.lookup(),
     )?;
     Ok(all)
 }
@@ -85,8 +85,8 @@ fn backward_news(
                 alloc,
                 p,
                 &link.step,
-                place.held.derived(),
-                link.place.held.derived(),
+                place.held.lookup(),
+                link.place.held.lookup(),
             )?;
             Ok(all)
         }
@@ -94,7 +94,7 @@ fn backward_news(
 }
 
 /// These databases, to look literals up in.
-fn hold(alloc: Global, five: Five) -> Result<Held, AllocError>
+fn held_open(alloc: Global, five: Five) -> Result<Held, AllocError>
     ensures says { IfOk result (λ h. held_of h ≡ five_of five) }
     ensures unread { IfOk result (λ h. is_unread h true ≡ true) }
     ensures fine { (s : SSignature) → IfOk result (IsFine s) }
@@ -105,19 +105,19 @@ fn hold(alloc: Global, five: Five) -> Result<Held, AllocError>
 }
 
 /// The moment with these literals known too.
-fn grown(alloc: Global, place: &Place, news: Vec<Literal>) -> Result<Place, AllocError>
+fn with_news(alloc: Global, place: &Place, news: Vec<Literal>) -> Result<Place, AllocError>
     ensures known { IfOk result (λ next. held_of next.held ≡ record (held_of place.now.held) { kf = added literal_cmp (held_of place.now.held).kf (literals_of news.items) }) }
     ensures growth { IfOk result (λ next. IsGrowth place.now next) }
     ensures ordered { OnOk result (IsOrdered literal_cmp (held_of place.now.held).kf) }
 {
-    let five = place.held.derived().five();
-    let kf = five.kf.added(alloc, news)?;
+    let five = place.held.lookup().five();
+    let kf = five.kf.with_all(alloc, news)?;
     if kf.len() == five.kf.len() {
         let held = place.held.share()?;
         return Ok(Place { held, grew: false });
     }
     let next = five.with_known(kf)?;
-    let held = hold(alloc, next)?;
+    let held = held_open(alloc, next)?;
     Ok(Place { held, grew: true })
 }
 
@@ -155,7 +155,7 @@ fn next_link(
     ensures growth { IfOk result (λ next. IsLinkGrowth link.now next) }
 {
     let news = link_news(alloc, p, before, link, rest)?;
-    let place = grown(alloc, &link.place, news)?;
+    let place = with_news(alloc, &link.place, news)?;
     Ok(Link {
         step: link.step,
         place,
@@ -196,7 +196,7 @@ fn next_start(alloc: Global, p: &Problem<'_>, family: &Family) -> Result<Place, 
     let mut news = own_news(alloc, &p.signature, &family.start)?;
     let after = backward_news(alloc, p, &family.start, family.later.as_slice())?;
     news.extend_from_slice(&after)?;
-    let place = grown(alloc, &family.start, news)?;
+    let place = with_news(alloc, &family.start, news)?;
     Ok(place)
 }
 

@@ -21,7 +21,7 @@ use crate::round::last_family;
 use pks_history::histories::History;
 use pks_query::databases::Db;
 use pks_query_closing::closing::first_clash;
-use pks_query_closing::tidied::tidied;
+use pks_query_closing::tidied::with_normal_parts;
 use pks_terms::problem::{Problem, Signature};
 use std::alloc::{AllocError, Global};
 
@@ -82,7 +82,7 @@ fn tidy(alloc: Global, s: &Signature, held: &Held) -> Result<Db, AllocError>
         Held::Grown(derived) => {
             let five = derived.five().share()?;
             let same = derived.again(five)?;
-            let derived = tidied(alloc, same)?;
+            let derived = with_normal_parts(alloc, same)?;
             let db = Db::of_closed(alloc, s, derived)?;
             Ok(db)
         }

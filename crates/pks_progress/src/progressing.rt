@@ -44,11 +44,11 @@ fn with_gains(alloc: Global, kept: &Five, gains: Gains) -> Result<Five, AllocErr
     ensures groups { IfOk result (λ five. groups_of five.kx ≡ groups_of kept.now.kx) }
     ensures regions { IfOk result (λ five. entries_of five.lcw ≡ added entry_cmp (entries_of kept.now.lcw) (entries_of gains.lcw.items)) }
 {
-    let kf = kept.kf.added(alloc, gains.kf)?;
-    let kw = kept.kw.added(alloc, gains.kw)?;
-    let kv = kept.kv.added(alloc, gains.kv)?;
+    let kf = kept.kf.with_all(alloc, gains.kf)?;
+    let kw = kept.kw.with_all(alloc, gains.kw)?;
+    let kv = kept.kv.with_all(alloc, gains.kv)?;
     let kx = kept.kx.share()?;
-    let lcw = kept.lcw.added(alloc, gains.lcw)?;
+    let lcw = kept.lcw.with_all(alloc, gains.lcw)?;
     Ok(Five {
         kf,
         kw,
@@ -67,12 +67,12 @@ fn gained_literals(alloc: Global, gains: &Gains) -> Result<Vec<Literal>, AllocEr
 }
 
 /// What lasts, with what the adds of the instance give, before it is closed.
-fn progressed(alloc: Global, p: &Problem<'_>, d: &Db, i: &Instance) -> Result<PutIn, AllocError>
+fn put_in_adds(alloc: Global, p: &Problem<'_>, d: &Db, i: &Instance) -> Result<PutIn, AllocError>
     requires { IsValidProblem p.now }
     ensures puts { IfOk result (λ put. PutsIn (problem_of p.now).signature (five_of d.now) (effects_of (problem_of p.now) (instance_of i.now)) (five_of put.kept) (literals_of put.literals.items) (five_of put.five)) }
     ensures five { IfOk result (λ put. five_of put.five ≡ progressed (problem_of p.now).signature (five_of d.now) (schema_of (problem_of p.now) (instance_of i.now).action) (instance_of i.now).arguments) }
 {
-    let kept = kept_after(alloc, &p.signature, d.derived(), effects_of(p, i))?;
+    let kept = kept_after(alloc, &p.signature, d.lookup(), effects_of(p, i))?;
     let gains = gains(alloc, p, d, i)?;
     let literals = gained_literals(alloc, &gains)?;
     let five = with_gains(alloc, &kept, gains)?;
@@ -120,8 +120,8 @@ pub fn progress(alloc: Global, p: &Problem<'_>, d: &Db, i: &Instance) -> Result<
         let v = after_action q w g in let v' = after_action q w' g' in
         IsTrueOf q.signature w w' (five_of d.now) → observations q v g ≡ observations q v' g' → IfOk result (λ o. IsNextWith (IsTrueOf q.signature v v') (outcome_of o)) }
 {
-    let put = progressed(alloc, p, d, i)?;
-    let ahead = grown_or_still(alloc, &p.signature, d.derived(), effects_of(p, i), put)?;
+    let put = put_in_adds(alloc, p, d, i)?;
+    let ahead = grown_or_still(alloc, &p.signature, d.lookup(), effects_of(p, i), put)?;
     let step = close_ahead(alloc, &p.signature, ahead)?;
     Ok(step)
 }

@@ -250,6 +250,6 @@ pub(crate) fn kept_regions(
     let atoms = atoms_set(alloc, s, d, es)?;
     let changed = changed_entries(alloc, s, d, es, atoms.as_slice())?;
     let same = same_entries(alloc, s, d, es, atoms.as_slice())?;
-    let kept = same.added(alloc, changed)?;
+    let kept = same.with_all(alloc, changed)?;
     Ok(kept)
 }

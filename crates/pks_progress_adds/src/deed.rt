@@ -70,21 +70,21 @@ impl Deed<'_, '_> {
     pub fn normals(&self) -> &Normals
         ensures { result.now ≡ self.now.before.now }
     {
-        self.before.derived().normals()
+        self.before.lookup().normals()
     }
 
     /// The term is stable.
     pub fn is_stable(&self, t: &Term) -> bool
         ensures { result ≡ is_stable (signature_in self.now) (five_in self.now) (effects_in self.now) (term_of t.now) }
     {
-        is_stable(self.signature, self.before.derived(), self.effects(), t)
+        is_stable(self.signature, self.before.lookup(), self.effects(), t)
     }
 
     /// Each term is stable.
     pub fn are_stable(&self, ts: &[Term]) -> bool
         ensures { result ≡ are_stable (signature_in self.now) (five_in self.now) (effects_in self.now) (terms_of ts.now) }
     {
-        are_stable(self.signature, self.before.derived(), self.effects(), ts)
+        are_stable(self.signature, self.before.lookup(), self.effects(), ts)
     }
 
     /// Each argument of an application is stable.

@@ -44,7 +44,7 @@ pub fn gains_by(
     ensures values { IfOk result (λ g. terms_of g.kv.items ≡ values_by (signature_of s.now) (five_of d.now) (schema_of schema.now) (given_of i.now)) }
     ensures regions { IfOk result (λ g. entries_of g.lcw.items ≡ regions_by (signature_of s.now) (five_of d.now) (schema_of schema.now) (given_of i.now)) }
 {
-    let normal = normal_instance(d.derived().normals(), i);
+    let normal = normal_instance(d.lookup().normals(), i);
     let deed = Deed {
         signature: s,
         before: d,

@@ -2,4 +2,3 @@ pub mod Alike
 pub mod Found
 pub mod Sound
 pub mod Still
-pub mod Carried

@@ -47,21 +47,21 @@ impl Db {
         ensures tells { result ≡ holds (signature_of s.now) (five_of self.now) (literal_of l.now) }
         ensures so { IsTrue result → (w w' : World) → IsTrueOf (signature_of s.now) w w' (five_of self.now) → (true_in w (literal_of l.now) ≡ true) × (true_in w' (literal_of l.now) ≡ true) }
     {
-        self.derived().holds(s, l)
+        self.lookup().holds(s, l)
     }
 
     /// Whether the literal is derived false. It takes no memory.
-    pub fn denied(&self, s: &Signature, l: &Literal) -> bool
+    pub fn denies(&self, s: &Signature, l: &Literal) -> bool
         ensures { result ≡ holds (signature_of s.now) (five_of self.now) (negated (literal_of l.now)) }
     {
-        self.derived().denies(s, l)
+        self.lookup().denies(s, l)
     }
 
     /// The normal form of the term. It takes no memory.
     pub fn normal(&self, t: &Term) -> Term
         ensures { term_of result ≡ normal (literals_of self.now.kf) (term_of t.now) }
     {
-        self.derived().normals().normal(t)
+        self.lookup().normals().normal(t)
     }
 
     /// Whether the normal form is an object or the term of a known value.
@@ -89,7 +89,7 @@ impl Db {
         ensures { result ≡ is_member (five_of self.now) (conj_of c.now) }
     {
         let five = self.parts();
-        let form = normal_conj(self.derived().normals(), c);
+        let form = normal_conj(self.lookup().normals(), c);
         has_formula(&five.kw, &form)
     }
 
@@ -115,7 +115,7 @@ impl Db {
     fn is_decided(&self, s: &Signature, l: &Literal) -> bool
         ensures { result ≡ is_decided (signature_of s.now) (five_of self.now) (literal_of l.now) }
     {
-        (self.known(s, l) || self.denied(s, l))
+        (self.known(s, l) || self.denies(s, l))
             || ((self.is_alone(l) || self.is_alone(&l.negated())) || self.has_known_sides(l))
     }
 
@@ -123,7 +123,7 @@ impl Db {
     pub fn some_denied(&self, s: &Signature, ls: &[Literal]) -> bool
         ensures { result ≡ list_any (λ l. holds (signature_of s.now) (five_of self.now) (negated l)) (literals_in ls.now) }
     {
-        self.derived().some_denied(s, ls)
+        self.lookup().some_denied(s, ls)
     }
 
     /// Whether each of the literals alone is known to be true or false.

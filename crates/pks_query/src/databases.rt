@@ -18,9 +18,10 @@ ghost use Rattle.pks_query.specs.Steps.{outcome_of, IfNext, IsNextWith};
 
 use crate::initial::initial;
 use pks_query_closing::closing::{CloseEnd, close, close_unless_clash};
-use pks_query_closing::tidied::tidied;
+use pks_query_closing::tidied::with_normal_parts;
 use pks_query_lookup::derived::Derived;
 use pks_query_lookup::five::Five;
+use pks_query_lookup::normals::behind_rc;
 use pks_terms::literal::Literal;
 use pks_terms::problem::{Problem, Signature};
 use std::alloc::{AllocError, Global};
@@ -52,14 +53,6 @@ pub enum Step {
     Next(Db),
     /// The least literal that is derived false.
     Clash(Literal),
-}
-
-// Databases behind a count of references.
-fn behind_rc(alloc: Global, derived: Derived) -> Result<Rc<Derived>, AllocError>
-    ensures { IfOk result (λ rc. rc.value ≡ derived) }
-{
-    let rc = Rc::new(alloc, derived)?;
-    Ok(rc)
 }
 
 impl Db {
@@ -132,7 +125,7 @@ impl Db {
         ensures { IfOk result (λ db. Closes (signature_of s.now) (five_of derived) (Next (five_of db))) }
     {
         let _known = derived.five().kf.len();
-        let whole = tidied(alloc, derived)?;
+        let whole = with_normal_parts(alloc, derived)?;
         let db = Db::of_closed(alloc, s, whole)?;
         Ok(db)
     }
@@ -199,7 +192,7 @@ impl Db {
     }
 
     /// Lends what looks literals up. It takes no memory.
-    pub fn derived(&self) -> &Derived
+    pub fn lookup(&self) -> &Derived
         ensures { result.now ≡ self.now }
     {
         &self.derived

@@ -46,7 +46,7 @@ fn sorted_items(alloc: Global, init: &[InitItem]) -> Result<ItemsByKind, AllocEr
             Init::Kf(l) => sorted.known.push(*l)?,
             Init::Kw(c) => sorted.whether.push(*c)?,
             Init::Kv(t) => sorted.values.push(*t)?,
-            Init::Kx(g) => sorted.groups.push(g.copied()?)?,
+            Init::Kx(g) => sorted.groups.push(g.copy()?)?,
             Init::Lcw(pattern) => sorted.regions.push(*pattern)?,
         }
     }
@@ -152,25 +152,17 @@ fn regions(alloc: Global, kf: &Kf, patterns: &[Pattern]) -> Result<Vec<Entry>, A
     Ok(items)
 }
 
-/// The set of the items.
-fn set_of<T: Ord + Drop>(alloc: Global, items: Vec<T>) -> Result<SetOf<T>, AllocError>
-    ensures { IfOk result (λ set. set ≡ added T.cmp [] items.items) }
-{
-    let set = SetOf::empty().added(alloc, items)?;
-    Ok(set)
-}
-
 /// The databases of the problem's initial items, not closed. The error is want of memory.
 pub fn initial(alloc: Global, p: &Problem) -> Result<Five, AllocError>
     ensures { IfOk result (λ d. five_of d ≡ initial (problem_of p.now)) }
 {
     let sorted = sorted_items(alloc, p.init.as_slice())?;
-    let kf = set_of(alloc, sorted.known)?;
-    let kw = set_of(alloc, sorted.whether)?;
-    let kv = set_of(alloc, sorted.values)?;
-    let kx = set_of(alloc, sorted.groups)?;
+    let kf = SetOf::of(alloc, sorted.known)?;
+    let kw = SetOf::of(alloc, sorted.whether)?;
+    let kv = SetOf::of(alloc, sorted.values)?;
+    let kx = SetOf::of(alloc, sorted.groups)?;
     let entries = regions(alloc, &kf, sorted.regions.as_slice())?;
-    let lcw = set_of(alloc, entries)?;
+    let lcw = SetOf::of(alloc, entries)?;
     Ok(Five {
         kf,
         kw,

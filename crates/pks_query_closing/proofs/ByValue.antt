@@ -155,10 +155,10 @@ carries_weaker us vs old new within carries = record {
 }
 
 -- the set of some literals has none but these
-pub from_nothing : (values kf none : List DLiteral) → kf ≡ added (on literal_of literal_cmp) none values → none ≡ [] → Within (literals_of kf) (literals_of values)
-from_nothing values kf none all e m i =
-    ⊎_elim (λ j. absurd (subst (IsIn m) (ap literals_of e) j)) (λ j. j)
-    (in_added literal_cmp_total literal_cmp_tells (literals_of none) (literals_of values) m (subst (IsIn m) (ap literals_of all ∙ map-added literal_of literal_cmp none values) i))
+pub from_nothing : (values kf : List DLiteral) → kf ≡ added (on literal_of literal_cmp) [] values → Within (literals_of kf) (literals_of values)
+from_nothing values kf all m i =
+    ⊎_elim absurd (λ j. j)
+    (in_added literal_cmp_total literal_cmp_tells [] (literals_of values) m (subst (IsIn m) (ap literals_of all ∙ map-added literal_of literal_cmp [] values) i))
 
 -- ---- from the start to the end
 

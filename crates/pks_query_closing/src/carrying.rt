@@ -44,7 +44,7 @@ pub(crate) struct Carrying {
 fn normals_of(alloc: Global, values: Vec<Literal>) -> Result<Normals, AllocError>
     ensures { IfOk result (λ n. Within (literals_of n.kf) (literals_of values.items)) }
 {
-    let kf = Kf::empty().added(alloc, values)?;
+    let kf = Kf::of(alloc, values)?;
     let five = Five {
         kf,
         kw: Kw::empty(),
@@ -326,7 +326,7 @@ fn group_list(alloc: Global, kx: &Kx) -> Result<Vec<Group>, AllocError>
 {
     let mut all = Vec::new(alloc);
     for g in kx.items() {
-        let group = g.copied()?;
+        let group = g.copy()?;
         all.push(group)?;
     }
     Ok(all)

@@ -16,7 +16,7 @@ ghost use Rattle.pks_query_closing.specs.declared.closing.CloseEnd.TheVariants.{
 
 use crate::clashing::least_clash;
 use crate::rounds::last_round;
-use crate::tidied::tidied;
+use crate::tidied::with_normal_parts;
 use crate::working::work_out;
 use pks_query_lookup::derived::Derived;
 use pks_query_lookup::five::Five;
@@ -74,7 +74,7 @@ pub fn close(alloc: Global, s: &Signature, five: Five) -> Result<Derived, CloseE
             Err(CloseEnd::Clash(l))
         }
         None => {
-            let d = tidied(alloc, last)?;
+            let d = with_normal_parts(alloc, last)?;
             Ok(d)
         }
     }
@@ -102,6 +102,6 @@ pub fn close_unless_clash(
         drop(last);
         return Ok(None);
     }
-    let d = tidied(alloc, last)?;
+    let d = with_normal_parts(alloc, last)?;
     Ok(Some(d))
 }

@@ -18,7 +18,7 @@ use pks_query_lookup::ranges::range_of;
 use pks_terms::ids::ObjId;
 use pks_terms::literal::{Literal, equation};
 use pks_terms::problem::Signature;
-use pks_terms::term::{Inner, Term, applied, front};
+use pks_terms::term::{Inner, Term, application, front};
 use std::alloc::{AllocError, Global};
 
 /// Which objects of a range are not shut out.
@@ -166,7 +166,7 @@ fn put_inner(to: &mut Vec<Term>, t: &Inner) -> Result<(), AllocError>
     let Inner::App { fun, n, args } = t else {
         return Ok(());
     };
-    to.push(applied(*fun, *n, args))?;
+    to.push(application(*fun, *n, args))?;
     Ok(())
 }
 
@@ -220,7 +220,7 @@ fn applications(alloc: Global, d: &Derived) -> Result<SetOf<Term>, AllocError>
     ensures { IfOk result (λ set. terms_of set ≡ set_of term_cmp (occurring (literals_of d.now.kf))) }
 {
     let all = occurring(alloc, d)?;
-    let set = SetOf::empty().added(alloc, all)?;
+    let set = SetOf::of(alloc, all)?;
     Ok(set)
 }
 

@@ -51,7 +51,7 @@ fn known_after(alloc: Global, s: &Signature, d: &Derived) -> Result<Kf, AllocErr
     ensures { IfOk result (λ kf. literals_of kf ≡ (round (signature_of s.now) (five_of d.now)).kf) }
 {
     let more = additions(alloc, s, d)?;
-    let kf = d.five().kf.added(alloc, more)?;
+    let kf = d.five().kf.with_all(alloc, more)?;
     Ok(kf)
 }
 

@@ -47,7 +47,7 @@ impl Carrying {
     fn with_alone(&self, alloc: Global, values: Vec<Literal>) -> Result<Derived, AllocError>
         ensures { IfOk result (λ d. five_of d ≡ record (five_of self.now.five) { kf = added literal_cmp [] (literals_of values.items) }) }
     {
-        let kf = Kf::empty().added(alloc, values)?;
+        let kf = Kf::of(alloc, values)?;
         let five = self.five.with_known(kf)?;
         let d = Derived::of(alloc, five)?;
         Ok(d)

@@ -60,7 +60,7 @@ fn formulas(alloc: Global, d: &Derived) -> Result<Kw, AllocError>
         return Ok(same);
     }
     let all = normal_formulas(alloc, d)?;
-    let set = Kw::empty().added(alloc, all)?;
+    let set = Kw::of(alloc, all)?;
     Ok(set)
 }
 
@@ -109,7 +109,7 @@ fn values(alloc: Global, d: &Derived) -> Result<Kv, AllocError>
         return Ok(same);
     }
     let all = normal_values(alloc, d)?;
-    let set = Kv::empty().added(alloc, all)?;
+    let set = Kv::of(alloc, all)?;
     Ok(set)
 }
 
@@ -147,7 +147,7 @@ fn groups(alloc: Global, d: &Derived) -> Result<Kx, AllocError>
         return Ok(same);
     }
     let all = normal_groups(alloc, d)?;
-    let set = Kx::empty().added(alloc, all)?;
+    let set = Kx::of(alloc, all)?;
     Ok(set)
 }
 
@@ -185,7 +185,7 @@ fn regions(alloc: Global, d: &Derived) -> Result<Lcw, AllocError>
         return Ok(same);
     }
     let all = normal_entries(alloc, d)?;
-    let set = Lcw::empty().added(alloc, all)?;
+    let set = Lcw::of(alloc, all)?;
     Ok(set)
 }
 
@@ -220,7 +220,7 @@ fn tidied_beside(alloc: Global, d: &Derived) -> Result<Derived, AllocError>
 
 /// The databases with formulas, terms, groups and regions in normal form, and without the terms that come to be objects.
 /// The one error is want of memory.
-pub fn tidied(alloc: Global, d: Derived) -> Result<Derived, AllocError>
+pub fn with_normal_parts(alloc: Global, d: Derived) -> Result<Derived, AllocError>
     ensures { IfOk result (λ e. five_of e ≡ tidied (five_of d)) }
 {
     let tidied = tidied_beside(alloc, &d);

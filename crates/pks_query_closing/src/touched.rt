@@ -5,7 +5,7 @@ use crate::standing::{Standing, places_in, put_places_in};
 use pks_lcw::{Entry, Lcw};
 use pks_terms::group::Group;
 use pks_terms::ids::PredId;
-use pks_terms::literal::{Atom, Literal, Pattern, PredAtom, affirmed};
+use pks_terms::literal::{Atom, Literal, Pattern, PredAtom, positive_literal};
 use pks_terms::term::{Inner, Term, front};
 use std::alloc::{AllocError, Global};
 
@@ -56,7 +56,7 @@ fn places_of(alloc: Global, region: &Entry) -> Result<Vec<Inner>, AllocError> {
 
 /// What stands for the predicate among atoms: it at no arguments.
 fn predicate(pred: PredId) -> Literal {
-    affirmed(&PredAtom {
+    positive_literal(&PredAtom {
         pred,
         n: 0,
         args: [Term::default(); 3],
@@ -77,7 +77,7 @@ fn atom_of(pattern: &Pattern) -> Option<Literal> {
     for i in 0..(pattern.n as usize).min(3) {
         args[i] = object_in(&pattern.args[i])?;
     }
-    Some(affirmed(&PredAtom {
+    Some(positive_literal(&PredAtom {
         pred: pattern.pred,
         n: pattern.n,
         args,

@@ -15,7 +15,7 @@ use std::alloc::{AllocError, Global};
 use std::mem::drop;
 
 /// The databases with what follows from them by what the old ones don't have.
-fn grown(alloc: Global, s: &Signature, old: &Derived, five: Five) -> Result<Derived, AllocError>
+fn grow(alloc: Global, s: &Signature, old: &Derived, five: Five) -> Result<Derived, AllocError>
     requires few { length s.now.objects ≤ 65536 }
     requires values { HasValues (signature_of s.now) }
     ensures { IfOk result (λ e. GrowsTo (signature_of s.now) (five_of five) (five_of e)) }
@@ -50,7 +50,7 @@ pub(crate) fn work_out(
             }
             Ok(None) => return Ok(Some(d)),
             Ok(Some(next)) => {
-                let grown = grown(alloc, s, &d, next);
+                let grown = grow(alloc, s, &d, next);
                 drop(d);
                 d = grown?;
             }

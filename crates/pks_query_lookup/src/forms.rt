@@ -38,6 +38,6 @@ pub(crate) fn forms_of(alloc: Global, normals: &Normals) -> Result<Kf, AllocErro
 {
     let others = other_forms(alloc, normals)?;
     let own = normals.five().kf.kept(alloc, |k| is_normal(normals, k))?;
-    let forms = own.added(alloc, others)?;
+    let forms = own.with_all(alloc, others)?;
     Ok(forms)
 }

@@ -56,11 +56,11 @@ fn object(t: &Inner) -> Option<ObjId>
     }
 }
 
-// A table behind a count of references.
-fn behind_rc(alloc: Global, table: Table) -> Result<Rc<Table>, AllocError>
-    ensures { IfOk result (λ rc. rc.value ≡ table) }
+/// The value behind a count of references. The error is want of memory.
+pub fn behind_rc<T: Drop>(alloc: Global, value: T) -> Result<Rc<T>, AllocError>
+    ensures { IfOk result (λ rc. rc.value ≡ value) }
 {
-    let rc = Rc::new(alloc, table)?;
+    let rc = Rc::new(alloc, value)?;
     Ok(rc)
 }
 
@@ -151,7 +151,7 @@ impl Normals {
     }
 
     /// The application, or the least value that the literals give at it.
-    fn applied(&self, fun: FnId, n: u8, args: [Inner; 2]) -> Term
+    fn value_or_app(&self, fun: FnId, n: u8, args: [Inner; 2]) -> Term
         ensures { term_of result ≡ applied as_object (literals_of self.now.kf) fun.0 (first_inners n args) }
     {
         let Some(own) = objects(n, &args) else {
@@ -169,7 +169,7 @@ impl Normals {
         ensures { term_of result ≡ normal (literals_of self.now.kf) (term_of t.now) }
     {
         match t {
-            Term::App { fun, n, args } => self.applied(*fun, *n, self.normal_inners(args)),
+            Term::App { fun, n, args } => self.value_or_app(*fun, *n, self.normal_inners(args)),
             Term::Obj(_) | Term::Param(_) => *t,
         }
     }

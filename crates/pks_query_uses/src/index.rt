@@ -57,7 +57,7 @@ pub(crate) fn terms_of<T: Indexed>(alloc: Global, x: &T) -> Result<SetOf<Term>, 
 {
     let mut all = Vec::new(alloc);
     x.put(&mut all)?;
-    let ts = SetOf::empty().added(alloc, all)?;
+    let ts = SetOf::of(alloc, all)?;
     Ok(ts)
 }
 

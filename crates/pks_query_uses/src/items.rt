@@ -105,7 +105,7 @@ impl Indexed for Group {
     }
 
     fn again(&self) -> Result<Group, AllocError> {
-        self.copied()
+        self.copy()
     }
 }
 

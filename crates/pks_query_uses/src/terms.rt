@@ -6,7 +6,7 @@ ghost use Rattle.pks_terms.specs.Views.{object_of, inner_of, term_of, terms_of};
 ghost use Rattle.pks_query_uses.specs.Occurring.{terms_within, terms_in};
 
 use pks_terms::ids::ObjId;
-use pks_terms::term::{Inner, Term, applied, front};
+use pks_terms::term::{Inner, Term, application, front};
 use std::alloc::AllocError;
 
 /// Puts the objects as terms after the others.
@@ -35,7 +35,7 @@ fn put_argument(to: &mut Vec<Term>, t: &Inner) -> Result<(), AllocError>
             Ok(())
         }
         Inner::App { fun, n, args } => {
-            to.push(applied(*fun, *n, args))?;
+            to.push(application(*fun, *n, args))?;
             put_objects(to, front(args, *n))?;
             Ok(())
         }

@@ -49,7 +49,7 @@ fn first_high(input: &[u8]) -> Option<u32>
 }
 
 // The refusal of a byte above 127.
-fn refusal_at(at: u32) -> Turned
+fn high_refusal(at: u32) -> Turned
     ensures { Turns (λ f. f ≡ (at, 101)) result }
 {
     Turned::Refused(Refusal::plain(at, 101))
@@ -115,7 +115,7 @@ pub fn read_file<'s>(alloc: Global, input: &'s [u8]) -> Result<InputFile<'s>, Tu
     ensures only_faulty { (fault : shaping.Fault) → IsFaulty input.now fault → (IsOk result → ⊥) × IfErr result (Turns (λ g. g ≡ fault)) }
 {
     match first_high(input) {
-        Some(at) => Err(refusal_at(at)),
+        Some(at) => Err(high_refusal(at)),
         None => match std::str::from_utf8(input) {
             Ok(source) => read_text(alloc, source),
             Err(_) => unreachable!(),

@@ -2,8 +2,7 @@
 ghost use Rattle.std.specs.Prelude.{◌≡◌, ◌≤◌, false, length, map, take, option_map};
 ghost use Rattle.pks_terms.specs.Sets.{Each, set_of};
 ghost use Rattle.pks_terms.specs.Orders.{literal_cmp};
-ghost use Rattle.pks_terms.specs.Counts.{AtomCounts, LiteralCounts, ConjCounts, SlotCounts, PatternCounts};
-ghost use Rattle.pks_terms.specs.Syntax.{Named};
+ghost use Rattle.pks_terms.specs.Counts.{LiteralCounts, ConjCounts, SlotCounts, PatternCounts};
 ghost use Rattle.pks_terms.specs.Views.{term_of, atom_of, literal_of, conj_of, pattern_of};
 ghost use Rattle.pks_text.specs.FormViews.{form_view, forms_view};
 ghost use Rattle.pks_reader_names.specs.Views.{scope_view};
@@ -15,7 +14,7 @@ use pks_reader_names::parts::{behind, behind_head, first_forms};
 use pks_reader_names::scope::Scope;
 use pks_reader_shape::walk::{head_of, is_headed};
 use pks_terms::ids::PredId;
-use pks_terms::literal::{Atom, Conj, Literal, Pattern, PredAtom, equation};
+use pks_terms::literal::{Conj, Literal, Pattern, PredAtom, atom_literal, equation};
 use pks_terms::term::{Term, UNUSED};
 use pks_text::Form;
 
@@ -40,18 +39,8 @@ fn equation_by(scope: &Scope<'_, '_>, sides: &[Form<'_>], positive: bool) -> Lit
     }
 }
 
-fn signed_atom(atom: PredAtom, positive: bool) -> Literal
-    ensures says { literal_of result ≡ record { relation = Named (atom_of atom).predicate; arguments = (atom_of atom).arguments; positive = positive } }
-    ensures counts { AtomCounts atom → LiteralCounts result }
-{
-    Literal {
-        atom: Atom::Pred(atom),
-        positive,
-    }
-}
-
 // An atom or an equation, affirmed or denied.
-fn with_sign(scope: &Scope<'_, '_>, form: &Form<'_>, positive: bool) -> Literal
+fn signed_literal(scope: &Scope<'_, '_>, form: &Form<'_>, positive: bool) -> Literal
     requires { IsSmall (scope_view scope.now) }
     ensures says { literal_of result ≡ signed_in (scope_view scope.now) positive (form_view form.now) }
     ensures counts { LiteralCounts result }
@@ -59,7 +48,7 @@ fn with_sign(scope: &Scope<'_, '_>, form: &Form<'_>, positive: bool) -> Literal
     if is_headed("=", form) {
         equation_by(scope, behind_head(form), positive)
     } else {
-        signed_atom(atom(scope, form), positive)
+        atom_literal(&atom(scope, form), positive)
     }
 }
 
@@ -70,7 +59,7 @@ fn only_denied(scope: &Scope<'_, '_>, forms: &[Form<'_>]) -> Literal
 {
     match forms {
         [] => no_literal(),
-        [form, _rest @ ..] => with_sign(scope, form, false),
+        [form, _rest @ ..] => signed_literal(scope, form, false),
     }
 }
 
@@ -84,7 +73,7 @@ pub fn literal(scope: &Scope<'_, '_>, form: &Form<'_>) -> Literal
     if is_headed("not", form) {
         only_denied(scope, behind_head(form))
     } else {
-        with_sign(scope, form, true)
+        signed_literal(scope, form, true)
     }
 }
 
@@ -100,7 +89,7 @@ pub fn only_literal(scope: &Scope<'_, '_>, forms: &[Form<'_>]) -> Literal
     }
 }
 
-fn set_of(scope: &Scope<'_, '_>, forms: &[Form<'_>]) -> Conj
+fn conj_of_all(scope: &Scope<'_, '_>, forms: &[Form<'_>]) -> Conj
     requires small { IsSmall (scope_view scope.now) }
     requires few { length forms.now ≤ 4 }
     ensures says { conj_of result ≡ set_of literal_cmp (all (literal_in (scope_view scope.now)) (forms_view forms.now)) }
@@ -120,7 +109,7 @@ pub fn conj(scope: &Scope<'_, '_>, forms: &[Form<'_>]) -> Conj
     ensures says { conj_of result ≡ conj_in (scope_view scope.now) (forms_view forms.now) }
     ensures counts { ConjCounts result }
 {
-    set_of(scope, first_forms(4, forms))
+    conj_of_all(scope, first_forms(4, forms))
 }
 
 // A wildcard or a term.

@@ -67,7 +67,7 @@ fn only_plain(scope: &Scope<'_, '_>, forms: &[Form<'_>]) -> Query
     }
 }
 
-fn denial_of(query: &Query) -> Query
+fn denied_query(query: &Query) -> Query
     ensures says { query_of result ≡ record (query_of query.now) { denied = true } }
     ensures counts { QueryCounts query.now → QueryCounts result }
 {
@@ -86,7 +86,7 @@ pub fn query(scope: &Scope<'_, '_>, form: &Form<'_>) -> Query
     ensures counts { QueryCounts result }
 {
     if is_headed("not-derived", form) {
-        denial_of(&only_plain(scope, behind_head(form)))
+        denied_query(&only_plain(scope, behind_head(form)))
     } else {
         plain(scope, form)
     }

@@ -58,7 +58,7 @@ fn is_pair(first: &str, second: &str, form: &Form<'_>) -> bool
 
 // The version that the form states.
 #[tactic(auto, unfolding(crate::specs::Files::stated))]
-fn stated(form: &Form<'_>) -> Option<Version>
+fn stated_version(form: &Form<'_>) -> Option<Version>
     ensures { result ≡ stated (form_view form.now) }
 {
     if is_pair("pks", "1", form) {
@@ -75,7 +75,7 @@ pub fn version_of(top: &[Form<'_>]) -> Version
     ensures { result ≡ version_of (map form_view top.now) }
 {
     match top {
-        [first, ..] => match stated(first) {
+        [first, ..] => match stated_version(first) {
             Some(version) => version,
             None => Version::First,
         },
@@ -98,7 +98,7 @@ fn version_fault(end: u32, form: Option<&Form<'_>>) -> Option<Refusal>
 {
     match form {
         None => Some(Refusal::plain(end, 120)),
-        Some(form) => match stated(form) {
+        Some(form) => match stated_version(form) {
             Some(_) => None,
             None => Some(Refusal::plain(place_of(form), 120)),
         },

@@ -69,7 +69,7 @@ fn objects(report: &mut Report, scope: &Scope<'_, '_>, wanted: &[TypeId], words:
 // ---- facts
 
 #[tactic(auto, using(pks_reader_names::proofs::FormLists::counted))]
-fn report_miscounted(report: &mut Report, shape: Option<&Shape>, words: &[Form<'_>], at: u32)
+fn require_count(report: &mut Report, shape: Option<&Shape>, words: &[Form<'_>], at: u32)
     ensures { found_of report.new ≡ all_noted (found_of report.old) (miscounted (option_map (λ x. shape_of x.now) shape.entry) (forms_view words.now) at) }
 {
     if let Some(shape) = shape {
@@ -85,7 +85,7 @@ fn fact(report: &mut Report, scope: &Scope<'_, '_>, shape: Option<&Shape>, form:
     ensures { found_of report.new ≡ all_noted (found_of report.old) (fact_faults (scope_view scope.now) (option_map (λ x. shape_of x.now) shape.entry) (form_view form.now)) }
 {
     report.require(shape.is_some(), place_of(first_in(form)), 301);
-    report_miscounted(report, shape, behind_head(form), place_of(form));
+    require_count(report, shape, behind_head(form), place_of(form));
     objects(report, scope, wanted_by(shape), behind_head(form));
 }
 

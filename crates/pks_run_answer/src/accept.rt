@@ -58,7 +58,7 @@ fn no_world(f: &InputFile<'_>) -> Refusal
 }
 
 /// A run in a world that breaks an initial item (311).
-fn broken(f: &InputFile<'_>, item: ItemNo) -> Refusal
+fn broken_item(f: &InputFile<'_>, item: ItemNo) -> Refusal
     ensures { printed_of f.now result ≡ refusal (file_of f.now).world_at 311 (codes " item " ++ decimal item.0) }
 {
     Refusal {
@@ -94,7 +94,7 @@ fn run_world(alloc: Global, f: &InputFile<'_>) -> Result<World, Turned>
     match stated_world(alloc, f) {
         Ok(None) => Err(Turned::Refused(no_world(f))),
         Ok(Some(w)) => match compatible(&f.problem, &w) {
-            Some(item) => Err(Turned::Refused(broken(f, item))),
+            Some(item) => Err(Turned::Refused(broken_item(f, item))),
             None => Ok(w),
         },
         Err(turned) => Err(turned),

@@ -90,7 +90,7 @@ fn same_item(item: &InitItem) -> Result<InitItem, AllocError>
         Init::Kf(l) => Init::Kf(*l),
         Init::Kw(c) => Init::Kw(*c),
         Init::Kv(t) => Init::Kv(*t),
-        Init::Kx(g) => Init::Kx(g.copied()?),
+        Init::Kx(g) => Init::Kx(g.copy()?),
         Init::Lcw(x) => Init::Lcw(*x),
     };
     Ok(InitItem {

@@ -46,7 +46,7 @@ pub(crate) fn some_is_met(s: &Signature, d: &Db, aims: &[Aim]) -> bool
 }
 
 /// The aims that they don't meet for good.
-fn unmet(alloc: Global, s: &Signature, d: &Db, aims: &[Aim]) -> Result<AimList, AllocError>
+fn unmet_aims(alloc: Global, s: &Signature, d: &Db, aims: &[Aim]) -> Result<AimList, AllocError>
     ensures { IfOk result (λ others. others ≡ unmet_aims (signature_of s.now) (five_of d.now) aims.now) }
 {
     let mut others = Vec::new(alloc);
@@ -74,6 +74,6 @@ pub(crate) fn without_met<'s>(
         init: same_init(alloc, p.init.as_slice())?,
         init_span: p.init_span,
         problem_span: p.problem_span,
-        goal: unmet(alloc, &p.signature, d, p.goal.as_slice())?,
+        goal: unmet_aims(alloc, &p.signature, d, p.goal.as_slice())?,
     })
 }

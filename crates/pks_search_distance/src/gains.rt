@@ -7,7 +7,7 @@ ghost use Rattle.pks_world.specs.Contents.{world_of};
 ghost use Rattle.pks_search_distance.specs.Gained.{given_of, given_to, is_cleared, may_be, values_at};
 
 use pks_terms::ids::{ObjId, PredId};
-use pks_terms::literal::{PredAtom, affirmed};
+use pks_terms::literal::{PredAtom, positive_literal};
 use pks_terms::term::Term;
 use pks_world::World;
 use std::alloc::{AllocError, Global};
@@ -86,7 +86,7 @@ impl Gains {
     pub(crate) fn may_be(&self, w: &World, positive: bool, a: &PredAtom) -> bool
         ensures { result ≡ may_be (world_of w.now) self.now positive (atom_of a.now) }
     {
-        let holds = w.holds(&affirmed(a));
+        let holds = w.holds(&positive_literal(a));
         if positive {
             holds || self.trues.contains(a)
         } else {

@@ -16,7 +16,7 @@ use crate::counted::Bound;
 use crate::deeds::Deeds;
 use crate::gains::Gains;
 use crate::landmarks::unmet_marks;
-use crate::wanted::unmet;
+use crate::wanted::count_unmet;
 use pks_terms::problem::Problem;
 use pks_world::World;
 use std::alloc::{AllocError, Global};
@@ -113,7 +113,7 @@ impl Deeds {
     fn few(&self, w: &World, most: u32) -> Option<u32>
         ensures { (p : SProblem) → AreItsDeeds p self.now → IsBound p (world_of w.now) result }
     {
-        let goals = fewest(self.met, unmet(w, self.wanted.as_slice()), most);
+        let goals = fewest(self.met, count_unmet(w, self.wanted.as_slice()), most);
         if is_enough(goals, most) {
             return goals;
         }

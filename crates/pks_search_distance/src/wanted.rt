@@ -159,7 +159,7 @@ pub(crate) fn most_met(deeds: &[Deed], wanted: &[Literal]) -> usize
 
 /// How many of the literals are false in the world.
 #[tactic(auto, using(crate::proofs::Unmet::counted_unmet))]
-pub(crate) fn unmet(w: &World, wanted: &[Literal]) -> usize
+pub(crate) fn count_unmet(w: &World, wanted: &[Literal]) -> usize
     ensures { result ≡ unmet (world_of w.now) (literals_in wanted.now) }
 {
     wanted.iter().filter(|l| !w.holds(*l)).count()

@@ -134,7 +134,7 @@ impl Alike {
             if self.classes.is_empty() {
                 break;
             }
-            let (next, now) = marks.sorted(alloc, &self.classes)?;
+            let (next, now) = marks.sort_moving(alloc, &self.classes)?;
             order = next;
             if now <= apart {
                 break;

@@ -69,7 +69,7 @@ impl Marks {
 
     /// Mixes what the last walk said of each object into its mark, and this into the mark of the whole, and gives the objects
     /// that aren't alone by class and mark, and how many are told apart. The error is want of memory.
-    pub(crate) fn sorted(
+    pub(crate) fn sort_moving(
         &mut self,
         alloc: Global,
         classes: &Classes,

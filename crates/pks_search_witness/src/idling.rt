@@ -7,7 +7,7 @@ ghost use Rattle.pks_terms.specs.Views.{given_of, instance_of, target_of, effect
 ghost use Rattle.pks_world.specs.Contents.{world_of};
 ghost use Rattle.pks_search_witness.specs.Idle.{is_written, is_idle, are_idle};
 
-use pks_terms::literal::affirmed;
+use pks_terms::literal::positive_literal;
 use pks_terms::lookup::written_effects;
 use pks_terms::problem::Problem;
 use pks_terms::schema::{Effect, Instance, Target};
@@ -18,8 +18,8 @@ fn is_written(w: &World, target: &Target) -> bool
     ensures { result ≡ is_written (world_of w.now) (target_of target.now) }
 {
     match target {
-        Target::Set(a) => w.holds(&affirmed(a)),
-        Target::Unset(a) => !w.holds(&affirmed(a)),
+        Target::Set(a) => w.holds(&positive_literal(a)),
+        Target::Unset(a) => !w.holds(&positive_literal(a)),
         Target::Clear(_) | Target::Assign { .. } => false,
     }
 }

@@ -10,25 +10,12 @@ use pks_terms::term::{Term, front};
 use pks_world::World;
 use std::alloc::AllocError;
 
-/// The atom with the values of its arguments in their place.
-fn with_values(w: &World, a: &PredAtom) -> PredAtom {
-    PredAtom {
-        pred: a.pred,
-        n: a.n,
-        args: [
-            Term::Obj(w.value(&a.args[0])),
-            Term::Obj(w.value(&a.args[1])),
-            Term::Obj(w.value(&a.args[2])),
-        ],
-    }
-}
-
 /// Makes the atom true at the values that its arguments have.
 pub(crate) fn put_atom(p: &Problem<'_>, a: &PredAtom, w: &mut World) -> Result<(), AllocError>
     requires { IsWorldOf (signature_of p.now.signature) w.old }
     ensures { IsWorldOf (signature_of p.now.signature) w.new }
 {
-    let at = with_values(w, a);
+    let at = w.with_values(a);
     if is_typed_atom(&p.signature, &at) {
         w.put_atom(&at)?;
     }

@@ -13,7 +13,7 @@ use crate::idling::is_idle;
 use pks_terms::ids::ActId;
 use pks_terms::problem::Problem;
 use pks_terms::schema::{Instance, Sense};
-use pks_world::{World, grounded};
+use pks_world::{World, ground_instance};
 use std::alloc::{AllocError, Global};
 use std::rc::Rc;
 
@@ -116,9 +116,9 @@ impl Twins {
         requires { IsValid (problem_of p.now) }
         ensures { IfOk result (λ o. IfSome o (AreAfter (problem_of p.now) (instance_of step.now) self.now)) }
     {
-        let i = grounded(&self.one, step);
+        let i = ground_instance(&self.one, step);
         let one = world_after(alloc, p, &self.one, &i)?;
-        let other = world_after(alloc, p, &self.other, &grounded(&self.other, step))?;
+        let other = world_after(alloc, p, &self.other, &ground_instance(&self.other, step))?;
         if !find_same(&one, &other, senses_of(p, step.act), &i) {
             return Ok(None);
         }

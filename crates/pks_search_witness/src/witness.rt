@@ -11,7 +11,7 @@ use crate::idling::is_idle;
 use pks_search_distance::Deeds;
 use pks_terms::problem::Problem;
 use pks_terms::schema::Instance;
-use pks_world::{World, grounded};
+use pks_world::{World, ground_instance};
 use std::alloc::{AllocError, Global};
 use std::rc::Rc;
 
@@ -57,7 +57,7 @@ impl Witness {
         ensures counted { IfOk result (IsCounted (problem_of p.now)) }
         ensures deeds { AreItsDeeds (problem_of p.now) deeds.new }
     {
-        let next = self.world.apply(p, &grounded(&self.world, step))?;
+        let next = self.world.apply(p, &ground_instance(&self.world, step))?;
         Witness::of(alloc, p, deeds, next, most)
     }
 
@@ -65,7 +65,7 @@ impl Witness {
     pub fn stays(&self, p: &Problem<'_>, step: &Instance) -> bool
         ensures { IsTrue result → after_action (problem_of p.now) (world_in self.now) (grounded (world_in self.now) (instance_of step.now)) ≡ world_in self.now }
     {
-        is_idle(p, &self.world, &grounded(&self.world, step))
+        is_idle(p, &self.world, &ground_instance(&self.world, step))
     }
 
     /// The same world with the same bound. The error is want of memory for one more reference.

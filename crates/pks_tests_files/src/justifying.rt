@@ -26,7 +26,7 @@ const AFTER: &str = ")))
 ";
 
 /// The text of these parts.
-fn joined(alloc: Global, parts: &[&str]) -> Result<String, AllocError> {
+fn concat(alloc: Global, parts: &[&str]) -> Result<String, AllocError> {
     let mut text = String::new(alloc);
     for part in parts {
         text.push_str(part)?;
@@ -55,7 +55,7 @@ fn first_case(p: &Problem<'_>) -> Result<Option<Case>, Fail>
 }
 
 /// The case of the first add, or none where it has no case; an add without one isn't justified.
-fn judged(p: &Problem<'_>) -> Result<Option<Case>, Fail>
+fn judge(p: &Problem<'_>) -> Result<Option<Case>, Fail>
     requires { IsValidProblem p.now }
 {
     let case = first_case(p)?;
@@ -68,13 +68,13 @@ fn judged(p: &Problem<'_>) -> Result<Option<Case>, Fail>
 /// The same of a file.
 fn judged_in(alloc: Global, text: &str) -> Result<Option<Case>, Fail> {
     let p = read(alloc, text)?;
-    let case = judged(&p)?;
+    let case = judge(&p)?;
     Ok(case)
 }
 
 /// The case of what the action of these parts knows, or none where it has no case.
 fn case(alloc: Global, parts: &str, knows: &str) -> Result<Option<Case>, Fail> {
-    let text = joined(alloc, &[BEFORE, parts, " (knows ", knows, AFTER])?;
+    let text = concat(alloc, &[BEFORE, parts, " (knows ", knows, AFTER])?;
     let case = judged_in(alloc, text.as_str())?;
     Ok(case)
 }
@@ -112,7 +112,7 @@ fn other_case(p: &Problem<'_>) -> Result<Option<Case>, Fail>
 
 /// Whether an add that doesn't stand in the action of these parts has this case in it.
 fn has_other_case(alloc: Global, add: &Add) -> Result<bool, Fail> {
-    let text = joined(alloc, &[BEFORE, add.0, OTHER, add.1, AFTER])?;
+    let text = concat(alloc, &[BEFORE, add.0, OTHER, add.1, AFTER])?;
     let p = read(alloc, text.as_str())?;
     let case = other_case(&p)?;
     Ok(case == add.2)

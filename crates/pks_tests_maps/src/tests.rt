@@ -97,7 +97,11 @@ fn old_versions_stay_without_clone(rt: HostRuntime) -> Result<(), Fail> {
 }
 
 // The numbers below 10,000 put in one after another.
-fn filled(alloc: Global, falling: bool, steps: &mut Steps) -> Result<PMap<u32, u32>, AllocError> {
+fn filled_map(
+    alloc: Global,
+    falling: bool,
+    steps: &mut Steps,
+) -> Result<PMap<u32, u32>, AllocError> {
     let mut map = PMap::empty();
     for number in 0..10_000u32 {
         let key = if falling { 9_999 - number } else { number };
@@ -122,8 +126,8 @@ fn counts_up(map: &PMap<u32, u32>) -> bool {
 fn ten_thousand_in_either_order(rt: HostRuntime) -> Result<(), Fail> {
     let alloc = rt.alloc();
     let mut steps = Steps::new();
-    let rising = filled(alloc, false, &mut steps)?;
-    let falling = filled(alloc, true, &mut steps)?;
+    let rising = filled_map(alloc, false, &mut steps)?;
+    let falling = filled_map(alloc, true, &mut steps)?;
     let mut none = Steps::new();
     let all = rising.kept(alloc, |_| true, &mut none)?;
     assert!(rt; counts_up(&rising));

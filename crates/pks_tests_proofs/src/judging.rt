@@ -53,7 +53,7 @@ impl<'a> Sheet<'a> {
     }
 
     /// The atoms of a formula that stands next, and none where no formula does.
-    fn listed(&mut self, alloc: Global) -> Result<AtomSet, Fail> {
+    fn next_atoms(&mut self, alloc: Global) -> Result<AtomSet, Fail> {
         match self.rest {
             [] => Ok(AtomSet::empty()),
             [item, rest @ ..] => match &item.start {
@@ -67,7 +67,7 @@ impl<'a> Sheet<'a> {
     }
 
     fn region(&mut self, alloc: Global, pattern: Pattern) -> Result<Fact, Fail> {
-        let list = self.listed(alloc)?;
+        let list = self.next_atoms(alloc)?;
         Ok(Fact::Lcw(Entry { pattern, list }))
     }
 
@@ -75,7 +75,7 @@ impl<'a> Sheet<'a> {
         match self.next()? {
             Init::Kf(l) => Ok(Fact::Lit(*l)),
             Init::Kx(group) => {
-                let group = group.copied()?;
+                let group = group.copy()?;
                 Ok(Fact::Kx(group))
             }
             Init::Lcw(pattern) => self.region(alloc, *pattern),
@@ -137,7 +137,7 @@ fn read<'s>(alloc: Global, text: &'s str) -> Result<Problem<'s>, Fail>
     Ok(p)
 }
 
-fn went(act: u8, n: u8, object: u16) -> Turn {
+fn turn_of_act(act: u8, n: u8, object: u16) -> Turn {
     Turn::Went(Instance {
         act: ActId(act),
         n,
@@ -147,8 +147,8 @@ fn went(act: u8, n: u8, object: u16) -> Turn {
 
 fn turn(sheet: &mut Sheet<'_>, piece: &Piece) -> Result<Turn, Fail> {
     match piece {
-        Piece::Act(act) => Ok(went(*act, 0, 0)),
-        Piece::At(act, object) => Ok(went(*act, 1, *object)),
+        Piece::Act(act) => Ok(turn_of_act(*act, 0, 0)),
+        Piece::At(act, object) => Ok(turn_of_act(*act, 1, *object)),
         Piece::True(_) => Ok(Turn::Took(Choice::Branch(sheet.formula()?), Side::True)),
         Piece::False(_) => Ok(Turn::Took(Choice::Branch(sheet.formula()?), Side::False)),
         Piece::Case(_, object) => {
@@ -270,7 +270,7 @@ fn long_proof(alloc: Global, l: &Literal, more: u32) -> Result<Proof, Fail> {
 pub fn is_long_accepted(alloc: Global, more: u32) -> Result<bool, Fail> {
     let p = read(alloc, WAITING)?;
     let l = goal(&p)?;
-    let path = [went(0, 0, 0)].to_vec(alloc)?;
+    let path = [turn_of_act(0, 0, 0)].to_vec(alloc)?;
     let proof = long_proof(alloc, &l, more)?;
     Ok(accepts(&p, &Sequence::of(path), &proof, &l))
 }

@@ -1,7 +1,7 @@
 //! Dialogues over files that are read, and sources that fail where they are read too early.
 use crate::files::{BOXES, LAWN, SAFE};
 use crate::rows::all_so;
-use crate::runs::{Ails, Followed, NOTHING, joined, run_over, sink_of, words_of};
+use crate::runs::{Ails, Followed, NOTHING, concat, run_over, sink_of, words_of};
 use pks_io::MemSource;
 use pks_run::Status::{Done, NoPlan, ReadFault, Refused, WriteFault};
 use pks_run::{Status, run};
@@ -122,7 +122,7 @@ fn led_until(
 
 /// A file of this many bytes, the full stop included, which are given in one piece; the call behind it is for the first answer.
 fn is_asked_first(alloc: Global, file: &str) -> Result<bool, AllocError> {
-    let mut input = joined(alloc, file, ".\n")?;
+    let mut input = concat(alloc, file, ".\n")?;
     let Ok(piece) = u32::try_from(input.len()) else {
         return Ok(false);
     };
@@ -139,7 +139,7 @@ fn questions_go_out_before_answers_are_read(rt: HostRuntime) -> Result<(), Fail>
 
 /// An answer of 65 bytes, which is given in one piece with the file; the call behind it is for what follows.
 fn is_refused_at_once(alloc: Global, file: &str) -> Result<bool, AllocError> {
-    let mut input = joined(alloc, file, ".\n")?;
+    let mut input = concat(alloc, file, ".\n")?;
     for _ in 0..65 {
         input.push_str("c")?;
     }
@@ -161,7 +161,7 @@ fn nothing_is_read_behind_a_long_answer(rt: HostRuntime) -> Result<(), Fail> {
 
 /// The first call of the sink that may fail without harm, where each before it leaves a front of the dialogue.
 fn first_without_harm(alloc: Global, text: &[u8]) -> Result<Option<u32>, AllocError> {
-    let input = joined(alloc, SAFE, ".\nc3\n")?;
+    let input = concat(alloc, SAFE, ".\nc3\n")?;
     for write in 1..100u32 {
         let ails = Ails { write, ..NOTHING };
         let (status, written) = run_over(alloc, "agent 2", input.as_bytes(), ails)?;
@@ -177,7 +177,7 @@ fn first_without_harm(alloc: Global, text: &[u8]) -> Result<Option<u32>, AllocEr
 
 /// What is written where the sink fails at this call.
 fn written_until(alloc: Global, write: u32) -> Result<(Status, Vec<u8>), AllocError> {
-    let input = joined(alloc, SAFE, ".\nc3\n")?;
+    let input = concat(alloc, SAFE, ".\nc3\n")?;
     let ails = Ails { write, ..NOTHING };
     run_over(alloc, "agent 2", input.as_bytes(), ails)
 }

@@ -93,7 +93,7 @@ impl Check for Answered {
 }
 
 /// One text behind another.
-pub(crate) fn joined(alloc: Global, front: &str, back: &str) -> Result<String, AllocError> {
+pub(crate) fn concat(alloc: Global, front: &str, back: &str) -> Result<String, AllocError> {
     let mut text = String::from_str(alloc, front)?;
     text.push_str(back)?;
     Ok(text)
@@ -110,7 +110,7 @@ pub(crate) struct Followed(
 
 impl Check for Followed {
     fn is_so(&self, alloc: Global) -> Result<bool, Fail> {
-        let input = joined(alloc, self.1, self.2)?;
+        let input = concat(alloc, self.1, self.2)?;
         let (status, written) = run_over(alloc, self.0, input.as_bytes(), NOTHING)?;
         Ok(status == self.3 && written.as_slice() == self.4.as_bytes())
     }

@@ -6,7 +6,7 @@ ghost use Rattle.pks_terms.specs.Moments.{AreMomentsOf};
 
 use crate::domains::{LETTERS, SUNNY_LAWN};
 use crate::rows::WrongRow;
-use crate::walks::{offered, read, text, walked};
+use crate::walks::{choice_of_line, read, text, walk};
 use pks_history::histories::History;
 use pks_history_replay::states::{State, start, taking};
 use pks_plan::print_literal;
@@ -61,7 +61,7 @@ const NAMED_CLASHES: &[NamedClash] = &[
 ];
 
 /// The text of the literal that is named, which is empty where none is.
-fn named(
+fn named_literal(
     alloc: Global,
     p: &Problem<'_>,
     end: &Result<Db, CloseEnd>,
@@ -81,8 +81,8 @@ fn is_named_in(alloc: Global, p: &Problem<'_>, literal: &str) -> Result<bool, Al
     let five = initial(alloc, p)?;
     let closed = Db::close(alloc, &p.signature, five);
     Ok(
-        named(alloc, p, &first)?.as_slice() == literal.as_bytes()
-            && named(alloc, p, &closed)?.as_slice() == literal.as_bytes(),
+        named_literal(alloc, p, &first)?.as_slice() == literal.as_bytes()
+            && named_literal(alloc, p, &closed)?.as_slice() == literal.as_bytes(),
     )
 }
 
@@ -100,7 +100,7 @@ fn clashes(alloc: Global, p: &Problem<'_>, h: &History, wanted: &str) -> Result<
     requires justified { AllJustified (problem_of p.now) }
     requires moments { AreMomentsOf (problem_of p.now) h.now }
 {
-    let Choice::Act(step) = offered(alloc, p, h, wanted)? else {
+    let Choice::Act(step) = choice_of_line(alloc, p, h, wanted)? else {
         return Err(Fail::new("the choice is no action"));
     };
     match progress(alloc, p, h.last(), &step)? {
@@ -112,7 +112,7 @@ fn clashes(alloc: Global, p: &Problem<'_>, h: &History, wanted: &str) -> Result<
 /// Whether the databases after the first action, in the file, clash.
 fn clashes_in(alloc: Global, text: &str, wanted: &str) -> Result<bool, Fail> {
     let p = read(alloc, text)?;
-    let h = walked(alloc, &p, &[])?;
+    let h = walk(alloc, &p, &[])?;
     clashes(alloc, &p, &h, wanted)
 }
 
@@ -130,7 +130,7 @@ fn is_closed(alloc: Global, p: &Problem<'_>, h: &History, wanted: &str) -> Resul
     requires valid { IsValidProblem p.now }
     requires moments { AreMomentsOf (problem_of p.now) h.now }
 {
-    let c = offered(alloc, p, h, wanted)?;
+    let c = choice_of_line(alloc, p, h, wanted)?;
     let Choice::Branch(_) = c else {
         return Err(Fail::new("the choice is no branch"));
     };
@@ -148,7 +148,7 @@ fn is_closed_after(
     wanted: &str,
 ) -> Result<bool, Fail> {
     let p = read(alloc, text)?;
-    let h = walked(alloc, &p, actions)?;
+    let h = walk(alloc, &p, actions)?;
     is_closed(alloc, &p, &h, wanted)
 }
 

@@ -3,11 +3,11 @@ ghost use Rattle.pks_terms.specs.Typed.{AllJustified};
 ghost use Rattle.pks_terms.specs.ValidProblems.{IsValidProblem};
 ghost use Rattle.pks_terms.specs.Views.{problem_of};
 
-use crate::walks::{offered, read, walked};
+use crate::walks::{choice_of_line, read, walk};
 use pks_search_symmetry::Alike;
 use pks_terms::choices::Choice;
 use pks_terms::problem::Problem;
-use pks_world::{World, grounded};
+use pks_world::{World, ground_instance};
 use std::alloc::Global;
 use std::test::Fail;
 
@@ -26,7 +26,7 @@ fn mark_after(alloc: Global, p: &Problem<'_>, actions: &[&str]) -> Result<u64, F
     requires valid { IsValidProblem p.now }
     requires justified { AllJustified (problem_of p.now) }
 {
-    let h = walked(alloc, p, actions)?;
+    let h = walk(alloc, p, actions)?;
     let alike = Alike::of(alloc, p)?;
     let key = alike.key_of(alloc, &h)?;
     let again = alike.key_of(alloc, &h)?;
@@ -48,13 +48,13 @@ fn world_after(alloc: Global, p: &Problem<'_>, actions: &[&str]) -> Result<World
     requires valid { IsValidProblem p.now }
     requires justified { AllJustified (problem_of p.now) }
 {
-    let start = walked(alloc, p, &[])?;
+    let start = walk(alloc, p, &[])?;
     let mut world = World::first(alloc, p)?;
     for action in actions {
-        let Choice::Act(step) = offered(alloc, p, &start, action)? else {
+        let Choice::Act(step) = choice_of_line(alloc, p, &start, action)? else {
             return Err(Fail::new("the choice is no action"));
         };
-        world = world.apply(p, &grounded(&world, &step))?;
+        world = world.apply(p, &ground_instance(&world, &step))?;
     }
     Ok(world)
 }

@@ -9,7 +9,7 @@ use std::alloc::Global;
 use std::test::Fail;
 
 /// The known literals among initial items, as they are written.
-fn written(alloc: Global, init: &str) -> Result<Vec<Literal>, Fail> {
+fn written_literals(alloc: Global, init: &str) -> Result<Vec<Literal>, Fail> {
     let text = text(alloc, &ALIAS, init)?;
     let p = read(alloc, text.as_str())?;
     let mut all = Vec::new(alloc);
@@ -32,7 +32,7 @@ fn uses_of(alloc: Global, init: &str) -> Result<Uses, Fail> {
 
 /// The place of the key, and the literal that says it is there.
 fn key_at_place(alloc: Global) -> Result<(Term, Literal), Fail> {
-    let all = written(alloc, "(kf (at key (where)))")?;
+    let all = written_literals(alloc, "(kf (at key (where)))")?;
     match all.as_slice().first() {
         Some(l) => Ok((l.atom.arguments().items[1], *l)),
         None => Err(Fail::new("there is no such literal")),
@@ -41,7 +41,7 @@ fn key_at_place(alloc: Global) -> Result<(Term, Literal), Fail> {
 
 /// Whether the literals in which the term occurs are these, and no group and no region has it.
 fn occurs_in(alloc: Global, uses: &Uses, t: &Term, literals: &str) -> Result<bool, Fail> {
-    let wanted = written(alloc, literals)?;
+    let wanted = written_literals(alloc, literals)?;
     Ok(
         uses.literals(t) == wanted.as_slice()
             && uses.groups(t).is_empty()

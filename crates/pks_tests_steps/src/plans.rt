@@ -26,7 +26,7 @@ goal
 ";
 
 /// The text of the best plan, which is empty where there is none.
-fn planned(alloc: Global, p: &Problem<'_>, depth: u8) -> Result<Vec<u8>, AllocError>
+fn plan_text(alloc: Global, p: &Problem<'_>, depth: u8) -> Result<Vec<u8>, AllocError>
     requires valid { IsValidProblem p.now }
     requires depth { depth ≤ 16 }
     requires justified { unjustified (problem_of p.now) ≡ [] }
@@ -39,14 +39,14 @@ fn planned(alloc: Global, p: &Problem<'_>, depth: u8) -> Result<Vec<u8>, AllocEr
 }
 
 /// The same of a problem whose first databases may clash.
-fn planned_from(alloc: Global, p: &Problem<'_>, depth: u8) -> Result<Vec<u8>, Fail>
+fn plan_text_from(alloc: Global, p: &Problem<'_>, depth: u8) -> Result<Vec<u8>, Fail>
     requires valid { IsValidProblem p.now }
     requires depth { depth ≤ 16 }
     requires justified { unjustified (problem_of p.now) ≡ [] }
 {
     match Db::first(alloc, p) {
         Ok(_first) => {
-            let text = planned(alloc, p, depth)?;
+            let text = plan_text(alloc, p, depth)?;
             Ok(text)
         }
         Err(_) => Err(Fail::new("the first databases clash")),
@@ -59,7 +59,7 @@ fn planned_in(alloc: Global, file: &str, depth: u8) -> Result<Vec<u8>, Fail>
 {
     let p = read(alloc, file)?;
     match justify(&p) {
-        Ok(()) => planned_from(alloc, &p, depth),
+        Ok(()) => plan_text_from(alloc, &p, depth),
         Err(_) => Err(Fail::new("an add isn't justified")),
     }
 }

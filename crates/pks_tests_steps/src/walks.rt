@@ -93,7 +93,7 @@ fn is_line(alloc: Global, p: &Problem<'_>, c: &Choice, line: &str) -> Result<boo
 
 /// The choice of this line.
 #[tactic(auto, using(crate::proofs::Walking::in_list))]
-fn chosen(alloc: Global, p: &Problem<'_>, all: &[Choice], wanted: &str) -> Result<Choice, Fail>
+fn find_choice(alloc: Global, p: &Problem<'_>, all: &[Choice], wanted: &str) -> Result<Choice, Fail>
     ensures { IfOk result (λ c. IsIn c all.now) }
 {
     for k in 0..all.len() {
@@ -105,7 +105,7 @@ fn chosen(alloc: Global, p: &Problem<'_>, all: &[Choice], wanted: &str) -> Resul
 }
 
 /// The choice of this line at the last moment.
-pub(crate) fn offered(
+pub(crate) fn choice_of_line(
     alloc: Global,
     p: &Problem<'_>,
     h: &History,
@@ -115,19 +115,19 @@ pub(crate) fn offered(
     ensures { IfOk result (λ c. IsIn (choice_of c) (choices (problem_of p.now) (last_moment h.now))) }
 {
     let all = choices(alloc, p, h.last())?;
-    let c = chosen(alloc, p, all.as_slice(), wanted)?;
+    let c = find_choice(alloc, p, all.as_slice(), wanted)?;
     Ok(c)
 }
 
 /// The history longer by an action.
-fn acted(alloc: Global, p: &Problem<'_>, h: &History, wanted: &str) -> Result<History, Fail>
+fn act(alloc: Global, p: &Problem<'_>, h: &History, wanted: &str) -> Result<History, Fail>
     requires valid { IsValidProblem p.now }
     requires justified { AllJustified (problem_of p.now) }
     requires room { HasRoom (problem_of p.now) 1 h.now }
     ensures moments { IfOk result (λ g. AreMomentsOf (problem_of p.now) g) }
     ensures longer { IfOk result (λ g. length g.steps ≡ length h.now.steps + 1) }
 {
-    let Choice::Act(step) = offered(alloc, p, h, wanted)? else {
+    let Choice::Act(step) = choice_of_line(alloc, p, h, wanted)? else {
         return Err(Fail::new("the choice is no action"));
     };
     let Step::Next(d) = progress(alloc, p, h.last(), &step)? else {
@@ -147,14 +147,14 @@ fn longer(alloc: Global, p: &Problem<'_>, h: History, actions: &[&str]) -> Resul
     match actions {
         [] => Ok(h),
         [action, rest @ ..] => {
-            let next = acted(alloc, p, &h, action)?;
+            let next = act(alloc, p, &h, action)?;
             longer(alloc, p, next, rest)
         }
     }
 }
 
 /// The history of these actions, at most 16, from the first databases.
-pub(crate) fn walked(alloc: Global, p: &Problem<'_>, actions: &[&str]) -> Result<History, Fail>
+pub(crate) fn walk(alloc: Global, p: &Problem<'_>, actions: &[&str]) -> Result<History, Fail>
     requires valid { IsValidProblem p.now }
     requires justified { AllJustified (problem_of p.now) }
     ensures moments { IfOk result (λ g. AreMomentsOf (problem_of p.now) g) }
@@ -168,7 +168,7 @@ pub(crate) fn walked(alloc: Global, p: &Problem<'_>, actions: &[&str]) -> Result
 }
 
 /// The history settled on a side, or none where it clashes.
-fn taken(
+fn take_side(
     alloc: Global,
     p: &Problem<'_>,
     h: &History,
@@ -190,7 +190,7 @@ fn taken(
 }
 
 /// The history settled on a side of a branch, or none where it clashes.
-fn branched(
+fn take_branch(
     alloc: Global,
     p: &Problem<'_>,
     h: &History,
@@ -200,12 +200,12 @@ fn branched(
     requires valid { IsValidProblem p.now }
     requires moments { AreMomentsOf (problem_of p.now) h.now }
 {
-    let c = offered(alloc, p, h, wanted)?;
+    let c = choice_of_line(alloc, p, h, wanted)?;
     let Choice::Branch(_) = c else {
         return Err(Fail::new("the choice is no branch"));
     };
     let side = if so { Side::True } else { Side::False };
-    taken(alloc, p, h, &c, side)
+    take_side(alloc, p, h, &c, side)
 }
 
 /// One of the objects that the term may have, counted from 0.
@@ -228,7 +228,7 @@ fn object_left(
 }
 
 /// The history settled on one of the cases, counted from 0, or none where it clashes.
-fn told(
+fn take_case(
     alloc: Global,
     p: &Problem<'_>,
     h: &History,
@@ -238,12 +238,12 @@ fn told(
     requires valid { IsValidProblem p.now }
     requires moments { AreMomentsOf (problem_of p.now) h.now }
 {
-    let c = offered(alloc, p, h, wanted)?;
+    let c = choice_of_line(alloc, p, h, wanted)?;
     let Choice::Cases(term) = c else {
         return Err(Fail::new("the choice has no cases"));
     };
     let object = object_left(alloc, p, h, &term, case)?;
-    taken(alloc, p, h, &c, Side::Is(object))
+    take_side(alloc, p, h, &c, Side::Is(object))
 }
 
 /// Whether the databases are the first ones of a problem.
@@ -325,7 +325,7 @@ fn is_side(
     requires valid { IsValidProblem p.now }
     requires moments { AreMomentsOf (problem_of p.now) h.now }
 {
-    let settled = branched(alloc, p, h, side.0, side.1)?;
+    let settled = take_branch(alloc, p, h, side.0, side.1)?;
     whole_of(alloc, domain, settled, moments)
 }
 
@@ -360,7 +360,7 @@ fn tells(
     requires valid { IsValidProblem p.now }
     requires moments { AreMomentsOf (problem_of p.now) h.now }
 {
-    let settled = told(alloc, p, h, case.0, case.1)?;
+    let settled = take_case(alloc, p, h, case.0, case.1)?;
     whole_of(alloc, domain, settled, moments)
 }
 
@@ -385,7 +385,7 @@ fn is_so_after(alloc: Global, p: &Problem<'_>, walk: &WalkRow) -> Result<bool, F
     requires valid { IsValidProblem p.now }
     requires justified { AllJustified (problem_of p.now) }
 {
-    let h = walked(alloc, p, walk.actions)?;
+    let h = walk(alloc, p, walk.actions)?;
     is_so(alloc, p, &h, walk)
 }
 

@@ -114,7 +114,7 @@ impl<'s> Pile<'s> {
     }
 }
 
-fn turned(fault: LexFault) -> FormFault
+fn form_fault(fault: LexFault) -> FormFault
     ensures { result ≡ fault_of fault }
 {
     match fault {
@@ -147,7 +147,7 @@ pub fn forms<'s>(alloc: Global, source: &'s str) -> Result<Forms<'s>, FormFault>
     loop {
         match tokens.next() {
             None => return pile.end(),
-            Some(Err(fault)) => return Err(turned(fault)),
+            Some(Err(fault)) => return Err(form_fault(fault)),
             Some(Ok(token)) => match pile.take(alloc, token) {
                 Ok(()) => {}
                 Err(fault) => return Err(fault),

@@ -38,7 +38,7 @@ fn effects_of<'a>(p: &'a Problem<'_>, act: ActId) -> &'a [Effect]
 impl World {
     /// An equal world.
     #[tactic(auto, unfolding(crate::specs::Contents::world_of, crate::specs::Contents::places_of))]
-    fn copied(&self) -> Result<World, AllocError>
+    fn copy(&self) -> Result<World, AllocError>
         ensures world { IfOk result (λ w. world_of w ≡ world_of self.now) }
         ensures places { IfOk result (λ w. places_of w ≡ places_of self.now) }
         ensures counts { WorldCounts self.now → IfOk result WorldCounts }
@@ -150,11 +150,11 @@ impl World {
     {
         match target {
             Target::Set(a) => {
-                self.put_atom(&old.valued(a))?;
+                self.put_atom(&old.with_values(a))?;
                 Ok(())
             }
             Target::Unset(a) => {
-                self.remove_atom(&old.valued(a));
+                self.remove_atom(&old.with_values(a));
                 Ok(())
             }
             Target::Clear(x) => {
@@ -201,7 +201,7 @@ impl World {
         ensures of_signature { IsValid (problem_of p.now) → AreArguments (signature_of p.now.signature) (world_of self.now) (schema_of (problem_of p.now) i.now.act.0).parameters (given_of i.now) → IsWorldOf (signature_of p.now.signature) self.now → IfOk result (IsWorldOf (signature_of p.now.signature)) }
         ensures counts { ProblemCounts p.now → InstanceCounts i.now → WorldCounts self.now → IfOk result WorldCounts }
     {
-        let mut next = self.copied()?;
+        let mut next = self.copy()?;
         next.write_all(self, effects_of(p, i.act), i)?;
         Ok(next)
     }

@@ -19,7 +19,7 @@ pub fn argument_value(w: &World, t: &Inner) -> ObjId
 }
 
 /// The action with the values that its arguments have in the world in their place. It takes no memory.
-pub fn grounded(w: &World, i: &Instance) -> Instance
+pub fn ground_instance(w: &World, i: &Instance) -> Instance
     ensures says { instance_of result ≡ grounded (world_of w.now) (instance_of i.now) }
     ensures counts { i.now.n ≤ 4 → InstanceCounts result }
 {

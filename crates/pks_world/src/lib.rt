@@ -10,6 +10,6 @@ mod same;
 mod worlds;
 
 pub use few::Few;
-pub use grounding::{argument_value, grounded};
+pub use grounding::{argument_value, ground_instance};
 pub use observe::{Obs, Seen};
 pub use worlds::World;

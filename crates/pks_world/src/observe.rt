@@ -191,7 +191,7 @@ impl World {
     }
 
     /// What the sense finds.
-    fn sensed(&self, alloc: Global, s: &Signature, sense: &Sense) -> Result<Seen, AllocError>
+    fn find_by(&self, alloc: Global, s: &Signature, sense: &Sense) -> Result<Seen, AllocError>
         requires { length s.now.objects ≤ 65536 }
         ensures seen { IfOk result (λ x. seen_of x ≡ seen (signature_of s.now) (world_of self.now) (sense_of sense.now)) }
         ensures ground { IfOk result AreGround }
@@ -217,7 +217,7 @@ impl World {
     {
         let mut all = Vec::new(alloc);
         for sense in senses_of(p, i.act) {
-            let seen = self.sensed(alloc, &p.signature, &sense.at(i))?;
+            let seen = self.find_by(alloc, &p.signature, &sense.at(i))?;
             all.push(seen)?;
         }
         Ok(Sequence::of(all))

@@ -14,7 +14,7 @@ ghost use Rattle.pks_world.specs.First.{IsWorldOf};
 
 use pks_terms::ids::{FnId, ObjId};
 use pks_terms::literal::{Atom, Literal, PredAtom};
-use pks_terms::term::{Inner, Term, applied};
+use pks_terms::term::{Inner, Term, application};
 use std::alloc::AllocError;
 use std::collections::{BTreeMap, BTreeSet};
 
@@ -63,7 +63,7 @@ impl World {
     fn at(&self, fun: FnId, n: u8, args: &[ObjId; 2]) -> ObjId
         ensures { result.0 ≡ (world_of self.now).value fun.0 (map object_of (take n args.now)) }
     {
-        match value_at(&self.values, &applied(fun, n, args)) {
+        match value_at(&self.values, &application(fun, n, args)) {
             Some(d) => d,
             None => elsewhere(&self.others, fun),
         }
@@ -99,8 +99,8 @@ impl World {
         }
     }
 
-    /// The atom with the values of its arguments in their place.
-    pub(crate) fn valued(&self, a: &PredAtom) -> PredAtom
+    /// The atom with the values of its arguments in their place. It takes no memory. `docs/RULES.md`, worlds.
+    pub fn with_values(&self, a: &PredAtom) -> PredAtom
         ensures says { atom_of result ≡ ground a.now.pred.0 (map (value_of (world_of self.now)) (map term_of (take a.now.n a.now.args))) }
         ensures counts { a.now.n ≤ 3 → AtomCounts result }
     {
@@ -121,7 +121,7 @@ impl World {
         ensures { result ≡ relates (world_of self.now) (relation_of atom.now) (map (value_of (world_of self.now)) (sides_of atom.now)) }
     {
         match atom {
-            Atom::Pred(a) => self.atoms.contains(&self.valued(a)),
+            Atom::Pred(a) => self.atoms.contains(&self.with_values(a)),
             Atom::Eq { left, right } => self.value(left) == self.value(right),
         }
     }

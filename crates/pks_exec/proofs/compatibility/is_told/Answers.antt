@@ -11,7 +11,7 @@ pub returns-then-not-holds : goal.returns-then-not-holds
 returns-then-not-holds c =
     let w = world_of c.args.w.now in
     let ds = few_of c.args.objects.now in
-    let holds = c.holds.ensures ∙ (ap (true_in w) c.affirmed.ensures ∙ true_of w c.args.pred.0 ds (atom_of c.atom-a.result) c.atom-a.ensures.says) in
+    let holds = c.holds.ensures ∙ (ap (true_in w) c.positive_literal.ensures ∙ true_of w c.args.pred.0 ds (atom_of c.atom-a.result) c.atom-a.ensures.says) in
     ap not c.if-not-holds.true ∙ sym (ap (λ b. b || is_listed (problem_of c.args.p.now) w c.args.pred.0 ds) (ap not (sym holds) ∙ ap not c.if-not-holds.true))
 
 pub returns-else-not-holds : goal.returns-else-not-holds
@@ -19,7 +19,7 @@ returns-else-not-holds c =
     let w = world_of c.args.w.now in
     let p = problem_of c.args.p.now in
     let ds = few_of c.args.objects.now in
-    let holds = c.holds.ensures ∙ (ap (true_in w) c.affirmed.ensures ∙ true_of w c.args.pred.0 ds (atom_of c.atom-a.result) c.atom-a.ensures.says) in
+    let holds = c.holds.ensures ∙ (ap (true_in w) c.positive_literal.ensures ∙ true_of w c.args.pred.0 ds (atom_of c.atom-a.result) c.atom-a.ensures.says) in
     c.is_listed.ensures
     ∙ (listed_of p w c.args.pred.0 ds (atom_of c.atom-a.result) c.atom-a.ensures.says
     ∙ sym (ap (λ b. b || is_listed p w c.args.pred.0 ds) (ap not (sym holds) ∙ ap not c.if-not-holds.false)))

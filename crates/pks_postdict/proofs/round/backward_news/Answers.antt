@@ -26,6 +26,6 @@ returns-in_ok-all-in-len1-up c =
     let i = instance_of x.step in
     let news = literals_of c.in_ok-all-in-len1-up.all.items in
     let given : Completes d.kf news (backward p i d (held_of x.place.held)) =
-    subst (λ (e : Five). Completes d.kf news (backward p i d e)) c.derived-in-len1-up.ensures
-    (subst (λ (e : Five). Completes e.kf news (backward p i e (five_of c.derived-in-len1-up.result.now))) c.derived.ensures c.in_ok-all-in-len1-up.ensures) in
+    subst (λ (e : Five). Completes d.kf news (backward p i d e)) c.lookup-in-len1-up.ensures
+    (subst (λ (e : Five). Completes e.kf news (backward p i e (five_of c.lookup-in-len1-up.result.now))) c.lookup.ensures c.in_ok-all-in-len1-up.ensures) in
     subst (Completes d.kf news) (sym (next_gives p d c.args.rest.now x c.in-len1-up.len_at_least c.link-item.is)) given

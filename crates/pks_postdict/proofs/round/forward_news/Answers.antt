@@ -19,5 +19,5 @@ returns c =
     let p = problem_of c.args.p.now in
     let i = instance_of c.args.link.now.step in
     let news = literals_of c.in_ok-all.all.items in
-    subst (λ (e : Five). Completes e.kf news (forward p i (held_of c.args.before.now.held))) c.derived-2.ensures
-    (subst (λ (e : Five). Completes (five_of c.derived-2.result.now).kf news (forward p i e)) c.derived.ensures c.in_ok-all.ensures)
+    subst (λ (e : Five). Completes e.kf news (forward p i (held_of c.args.before.now.held))) c.lookup-2.ensures
+    (subst (λ (e : Five). Completes (five_of c.lookup-2.result.now).kf news (forward p i e)) c.lookup.ensures c.in_ok-all.ensures)

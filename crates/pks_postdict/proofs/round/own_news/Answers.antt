@@ -18,4 +18,4 @@ pub returns : goal.returns
 returns c =
     let s = signature_of c.args.s.now in
     completes_members _ _ (additions s (held_of c.args.place.now.held))
-    (subst (λ (d : Five). HaveSameMembers (literals_of c.in_ok-all.all.items) (additions s d)) c.derived.ensures c.in_ok-all.ensures.members)
+    (subst (λ (d : Five). HaveSameMembers (literals_of c.in_ok-all.all.items) (additions s d)) c.lookup.ensures c.in_ok-all.ensures.members)

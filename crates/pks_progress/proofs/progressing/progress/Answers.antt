@@ -13,16 +13,16 @@ use Rattle.pks_progress.proofs.Stepping.{step_progress, step_moment, step_true}
 use Rattle.pks_progress.proofs.progressing.progress.Goals as goal
 
 pub grown_or_still-requires-clause-closed : goal.grown_or_still-requires-clause-closed
-grown_or_still-requires-clause-closed c = subst (λ x. IsClosed (problem_of c.args.p.now).signature (five_of x)) (sym c.derived.ensures) c.requires.moment.closed
+grown_or_still-requires-clause-closed c = subst (λ x. IsClosed (problem_of c.args.p.now).signature (five_of x)) (sym c.lookup.ensures) c.requires.moment.closed
 
 pub grown_or_still-requires-clause-sides : goal.grown_or_still-requires-clause-sides
-grown_or_still-requires-clause-sides c = subst (λ x. Each IsInOrder (literals_of x.kf)) (sym c.derived.ensures) c.requires.moment.ordered.known
+grown_or_still-requires-clause-sides c = subst (λ x. Each IsInOrder (literals_of x.kf)) (sym c.lookup.ensures) c.requires.moment.ordered.known
 
 pub grown_or_still-requires-clause-puts : goal.grown_or_still-requires-clause-puts
 grown_or_still-requires-clause-puts c =
     let s = (problem_of c.args.p.now).signature in
     let put = c.in_ok-put.put in
-    subst (λ x. PutsIn s (five_of x) (effects_in c.effects_of.result) (five_of put.kept) (literals_of put.literals.items) (five_of put.five)) (sym c.derived.ensures)
+    subst (λ x. PutsIn s (five_of x) (effects_in c.effects_of.result) (five_of put.kept) (literals_of put.literals.items) (five_of put.five)) (sym c.lookup.ensures)
     (subst (λ es. PutsIn s (five_of c.args.d.now) es (five_of put.kept) (literals_of put.literals.items) (five_of put.five)) (sym c.effects_of.ensures) c.in_ok-put.ensures.puts)
 
 pub returns-clause-progress : goal.returns-clause-progress

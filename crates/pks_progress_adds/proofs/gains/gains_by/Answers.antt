@@ -15,7 +15,7 @@ returns-clause-formulas c =
     let sc = schema_of c.args.schema.now in
     let given = given_of c.args.i.now in
     let normals : given_of c.normal_instance-normal.result ≡ map (inner_normal d.kf) given =
-    c.normal_instance-normal.ensures ∙ (λ i. map (inner_normal (literals_of ((c.normals.ensures ∙ c.derived.ensures) i).kf)) given) in
+    c.normal_instance-normal.ensures ∙ (λ i. map (inner_normal (literals_of ((c.normals.ensures ∙ c.lookup.ensures) i).kf)) given) in
     c.in_ok-gains.ensures.formulas
     ∙ (λ i. flat_map (λ a. formulas_added s d (map (effect_at given) sc.effects) given (normals i) (case_of sc a) a.item) (filter (is_applied_in s d given) (map add_of (c.as_slice.ensures i))))
 
@@ -26,7 +26,7 @@ returns-clause-values c =
     let sc = schema_of c.args.schema.now in
     let given = given_of c.args.i.now in
     let normals : given_of c.normal_instance-normal.result ≡ map (inner_normal d.kf) given =
-    c.normal_instance-normal.ensures ∙ (λ i. map (inner_normal (literals_of ((c.normals.ensures ∙ c.derived.ensures) i).kf)) given) in
+    c.normal_instance-normal.ensures ∙ (λ i. map (inner_normal (literals_of ((c.normals.ensures ∙ c.lookup.ensures) i).kf)) given) in
     c.in_ok-gains.ensures.values
     ∙ (λ i. flat_map (λ a. values_added s d (map (effect_at given) sc.effects) given (normals i) (case_of sc a) a.item) (filter (is_applied_in s d given) (map add_of (c.as_slice.ensures i))))
 

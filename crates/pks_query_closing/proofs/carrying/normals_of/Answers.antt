@@ -7,4 +7,4 @@ use Rattle.pks_query_closing.proofs.carrying.normals_of.Goals as goal
 
 pub returns : goal.returns
 returns c = λ m i.
-    from_nothing c.args.values.items c.in_ok-kf.kf c.empty.result c.in_ok-kf.ensures c.empty.ensures m (subst (λ (d : DFive). IsIn m (literals_of d.kf)) c.in_ok-by.ensures i)
+    from_nothing c.args.values.items c.in_ok-kf.kf c.in_ok-kf.ensures m (subst (λ (d : DFive). IsIn m (literals_of d.kf)) c.in_ok-by.ensures i)

@@ -1,9 +1,8 @@
 use Rattle.std.proofs.Common.{◌∙◌, ap, sym}
 use Rattle.pks_terms.specs.Orders.{conj_cmp}
-use Rattle.pks_terms.specs.Sets.{added}
 use Rattle.pks_terms.specs.Views.{literals_in}
 use Rattle.pks_kx.specs.Groups.{groups_of}
-use Rattle.pks_terms.proofs.SetLaws.{map-added}
+use Rattle.pks_terms.proofs.SetLaws.{map-set_of}
 use Rattle.pks_terms.specs.Totality.{conj_cmp_total}
 use Rattle.pks_kf.specs.Known.{literals_of}
 use Rattle.pks_query_lookup.specs.declared.five.Five.{Five as DFive}
@@ -17,4 +16,4 @@ returns-then-are_own_groups c =
 
 pub returns : goal.returns
 returns c =
-    ap groups_of c.in_ok-set.ensures ∙ map-added literals_in conj_cmp c.empty.result c.in_ok-all.all.items ∙ (λ i. added conj_cmp (groups_of (c.empty.ensures i)) (c.in_ok-all.ensures i))
+    map-set_of literals_in conj_cmp _ _ _ c.in_ok-set.ensures c.in_ok-all.ensures

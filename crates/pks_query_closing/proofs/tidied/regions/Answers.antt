@@ -1,8 +1,7 @@
 use Rattle.std.proofs.Common.{◌∙◌, ap, sym}
 use Rattle.pks_terms.specs.Databases.{entry_cmp}
-use Rattle.pks_terms.specs.Sets.{added}
 use Rattle.pks_lcw.specs.Entries.{entry_of, entries_of}
-use Rattle.pks_terms.proofs.SetLaws.{map-added}
+use Rattle.pks_terms.proofs.SetLaws.{map-set_of}
 use Rattle.pks_terms.specs.Totality.{entry_cmp_total}
 use Rattle.pks_query_lookup.specs.declared.five.Five.{Five as DFive}
 use Rattle.pks_query_closing.proofs.OwnSets.{set_stays}
@@ -15,4 +14,4 @@ returns-then-are_own_regions c =
 
 pub returns : goal.returns
 returns c =
-    ap entries_of c.in_ok-set.ensures ∙ map-added entry_of entry_cmp c.empty.result c.in_ok-all.all.items ∙ (λ i. added entry_cmp (entries_of (c.empty.ensures i)) (c.in_ok-all.ensures i))
+    map-set_of entry_of entry_cmp _ _ _ c.in_ok-set.ensures c.in_ok-all.ensures

@@ -1,10 +1,9 @@
 use Rattle.std.proofs.Common.{◌≡◌, ◌∙◌, List, [], map, true, sym, ap}
 use Rattle.pks_terms.specs.declared.literal.PredAtom.{PredAtom}
-use Rattle.pks_terms.specs.Sets.{added}
 use Rattle.pks_terms.specs.Orders.{atom_cmp}
 use Rattle.pks_terms.specs.Closure.{normal_atom}
 use Rattle.pks_terms.specs.Views.{atom_of}
-use Rattle.pks_terms.proofs.SetLaws.{map-added}
+use Rattle.pks_terms.proofs.SetLaws.{map-set_of}
 use Rattle.pks_kf.specs.Known.{literals_of}
 use Rattle.pks_lcw.specs.Entries.{atoms_of}
 use Rattle.pks_query_lookup.specs.Own.{have_objects}
@@ -22,4 +21,4 @@ returns c =
     let list : List PredAtom = c.args.list.now in
     let forms : atoms_of c.in_ok-all.all.items ≡ map (normal_atom (literals_of c.args.by.now.kf)) (atoms_of list) =
     c.in_ok-all.ensures ∙ ap (λ es. map (normal_atom (literals_of c.args.by.now.kf)) (atoms_of es)) c.as_slice-listed.ensures.members in
-    ap atoms_of c.in_ok-set.ensures ∙ map-added atom_of atom_cmp [] c.in_ok-all.all.items ∙ ap (added atom_cmp []) forms
+    map-set_of atom_of atom_cmp _ _ _ c.in_ok-set.ensures forms

@@ -21,9 +21,9 @@ returns-in-Some c =
       reads = tt;
       source = tt;
       whole = tt;
-      faulty = high_faulty input at c.refusal_at.result c.requires high c.refusal_at.ensures;
+      faulty = high_faulty input at c.high_refusal.result c.requires high c.high_refusal.ensures;
       only_read = λ f read. absurd (high_unread input at f high read);
-      only_faulty = λ f is. (λ ok. false≢true ok, high_only input at c.refusal_at.result c.requires high c.refusal_at.ensures f is);
+      only_faulty = λ f is. (λ ok. false≢true ok, high_only input at c.high_refusal.result c.requires high c.high_refusal.ensures f is);
     }
 
 pub returns-in-Ok : goal.returns-in-Ok

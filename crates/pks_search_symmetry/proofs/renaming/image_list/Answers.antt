@@ -1,8 +1,7 @@
 use Rattle.std.proofs.Common.{◌≡◌, ◌∙◌, [], map, ap}
-use Rattle.pks_terms.specs.Sets.{added}
 use Rattle.pks_terms.specs.Orders.{atom_cmp}
 use Rattle.pks_terms.specs.Views.{atom_of}
-use Rattle.pks_terms.proofs.SetLaws.{map-added}
+use Rattle.pks_terms.proofs.SetLaws.{map-set_of}
 use Rattle.pks_lcw.specs.Entries.{atoms_of}
 use Rattle.pks_laws_symmetry.specs.Renamed.{renamed_atom}
 use Rattle.pks_search_symmetry.specs.Renaming.{image_by}
@@ -12,4 +11,4 @@ pub returns : goal.returns
 returns c =
     let images : atoms_of c.in_ok-all.all.items ≡ map (renamed_atom (image_by c.args.to.now)) (atoms_of c.args.list.now) =
     c.in_ok-all.ensures ∙ ap (λ es. map (renamed_atom (image_by c.args.to.now)) (atoms_of es)) c.as_slice-members.ensures.members in
-    ap atoms_of c.in_ok-set.ensures ∙ map-added atom_of atom_cmp [] c.in_ok-all.all.items ∙ ap (added atom_cmp []) images
+    map-set_of atom_of atom_cmp _ _ _ c.in_ok-set.ensures images

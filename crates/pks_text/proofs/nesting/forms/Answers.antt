@@ -47,13 +47,13 @@ returns-in-None-clause-only c = ended_only c.args.source.now (marks_of c.loop-pi
 pub returns-in-Some-Err-clause-fault : goal.returns-in-Some-Err-clause-fault
 returns-in-Some-Err-clause-fault c =
     let bad : (n : ℕ) × BeginsBad (left_of c.loop-pile.tokens) n × (c.in-Some-Err.fault ≡ lex.BadByte (place_of c.loop-pile.tokens + n)) = rw c.in-Some-Err.field-0-is at c.in-Some-Err.ensures.bad in
-    let is : c.turned.result ≡ BadByte (place_of c.loop-pile.tokens + bad.0) = c.turned.ensures ∙ ap fault_of bad.2 in
+    let is : c.form_fault.result ≡ BadByte (place_of c.loop-pile.tokens + bad.0) = c.form_fault.ensures ∙ ap fault_of bad.2 in
     subst (IsFaultOf c.args.source.now) (sym is) (c.loop-pile.invariant.0.stops [] (BadByte (place_of c.loop-pile.tokens + bad.0)) (bad.0, bad.1, refl))
 
 pub returns-in-Some-Err-clause-only : goal.returns-in-Some-Err-clause-only
 returns-in-Some-Err-clause-only c fault first =
     let bad : (n : ℕ) × BeginsBad (left_of c.loop-pile.tokens) n × (c.in-Some-Err.fault ≡ lex.BadByte (place_of c.loop-pile.tokens + n)) = rw c.in-Some-Err.field-0-is at c.in-Some-Err.ensures.bad in
-    let is : c.turned.result ≡ BadByte (place_of c.loop-pile.tokens + bad.0) = c.turned.ensures ∙ ap fault_of bad.2 in
+    let is : c.form_fault.result ≡ BadByte (place_of c.loop-pile.tokens + bad.0) = c.form_fault.ensures ∙ ap fault_of bad.2 in
     (subst (IsAnswered fault) (sym is) (bad_only c.args.source.now (marks_of c.loop-pile.pile) (places_of c.loop-pile.pile) (left_of c.loop-pile.tokens) (place_of c.loop-pile.tokens) c.loop-pile.invariant.0 bad.0 bad.1 fault first), λ is_ok. false≢true is_ok)
 
 -- the token that was read, as a mark

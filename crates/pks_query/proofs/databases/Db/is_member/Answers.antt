@@ -13,5 +13,5 @@ pub returns : goal.returns
 returns c =
     c.has_formula.ensures
     ∙ ap (λ d. is_among conj_cmp (conj_of c.normal_conj-form.result) (formulas_of d.kw)) c.parts-five.ensures.lent
-    ∙ ap (λ f. is_among conj_cmp f (formulas_of c.args.self.now.kw)) (c.normal_conj-form.ensures.says ∙ ap (λ d. normal_conj (literals_of d.kf) (conj_of c.args.c.now)) (c.normals.ensures ∙ c.derived.ensures))
+    ∙ ap (λ f. is_among conj_cmp f (formulas_of c.args.self.now.kw)) (c.normal_conj-form.ensures.says ∙ ap (λ d. normal_conj (literals_of d.kf) (conj_of c.args.c.now)) (c.normals.ensures ∙ c.lookup.ensures))
     ∙ sym (formula_found (five_of c.args.self.now) (conj_of c.args.c.now) c.parts-five.ensures.closed)

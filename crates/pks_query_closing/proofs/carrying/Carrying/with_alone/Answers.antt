@@ -1,5 +1,4 @@
-use Rattle.std.proofs.Common.{◌∙◌, ap}
-use Rattle.pks_terms.specs.Sets.{added}
+use Rattle.std.proofs.Common.{[], ◌∙◌, ap}
 use Rattle.pks_terms.specs.Orders.{literal_cmp}
 use Rattle.pks_terms.specs.Views.{literal_of}
 use Rattle.pks_terms.proofs.SetLaws.{map-added}
@@ -9,7 +8,6 @@ use Rattle.pks_query_closing.proofs.carrying.Carrying.with_alone.Goals as goal
 
 pub returns : goal.returns
 returns c =
-    let values = c.args.values.items in
     ap five_of c.in_ok-d.ensures ∙ c.in_ok-five.ensures.five
     ∙ ap (λ ls. record (five_of c.args.self.now.five) { kf = ls })
-    (ap literals_of c.in_ok-kf.ensures ∙ map-added literal_of literal_cmp c.empty.result values ∙ ap (λ xs. added literal_cmp (literals_of xs) (literals_of values)) c.empty.ensures)
+    (ap literals_of c.in_ok-kf.ensures ∙ map-added literal_of literal_cmp [] c.args.values.items)

@@ -15,15 +15,15 @@ pub returns-then-is_enough : goal.returns-then-is_enough
 returns-then-is_enough c p d =
     let x = c.args.self.now in
     let w = world_of c.args.w.now in
-    let counted = c.unmet.ensures ∙ ap (λ (ls : List Literal). unmet w (literals_in ls)) c.as_slice.ensures.value in
-    least_bounds p w (literals_in x.wanted.items) x.met c.unmet.result c.args.most c.fewest-goals.result d.wanted d.few counted c.fewest-goals.ensures
+    let counted = c.count_unmet.ensures ∙ ap (λ (ls : List Literal). unmet w (literals_in ls)) c.as_slice.ensures.value in
+    least_bounds p w (literals_in x.wanted.items) x.met c.count_unmet.result c.args.most c.fewest-goals.result d.wanted d.few counted c.fewest-goals.ensures
 
 pub returns : goal.returns
 returns c p d =
     let x = c.args.self.now in
     let w = world_of c.args.w.now in
-    let counted = c.unmet.ensures ∙ ap (λ (ls : List Literal). unmet w (literals_in ls)) c.as_slice.ensures.value in
-    let goals = least_bounds p w (literals_in x.wanted.items) x.met c.unmet.result c.args.most c.fewest-goals.result d.wanted d.few counted c.fewest-goals.ensures in
+    let counted = c.count_unmet.ensures ∙ ap (λ (ls : List Literal). unmet w (literals_in ls)) c.as_slice.ensures.value in
+    let goals = least_bounds p w (literals_in x.wanted.items) x.met c.count_unmet.result c.args.most c.fewest-goals.result d.wanted d.few counted c.fewest-goals.ensures in
     let left = c.unmet_marks.ensures ∙ ap (λ (cs : List Landmark). unmet_marks w (landmarks_of cs)) c.as_slice-2.ensures.value in
     let marks = least_reached p w (landmarks_of x.landmarks.items) x.reached c.unmet_marks.result c.args.most c.fewest-marks.result (d.listed w).landmarks (d.listed w).reached left c.fewest-marks.ensures in
     subst (IsBound p w) (sym c.greater.ensures) (greater_bounds p w c.fewest-goals.result c.fewest-marks.result goals marks)

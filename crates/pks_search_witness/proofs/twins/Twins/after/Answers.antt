@@ -18,10 +18,10 @@ returns c =
     let v = world_of c.in_ok-one.one.value in
     let x = world_of c.in_ok-other.other.value in
     let g = grounded w i in
-    let is_g : instance_of c.grounded-i.result ≡ g = c.grounded-i.ensures.says ∙ ap (λ y. grounded (world_of y) i) c.deref.ensures in
-    let is_k : instance_of c.grounded.result ≡ grounded u i = c.grounded.ensures.says ∙ ap (λ y. grounded (world_of y) i) c.deref-2.ensures in
-    let found : list_all (finds_same v x) (map (sense_at (instance_of c.grounded-i.result).arguments) (schema_of p i.action).senses) ≡ true =
-    sym (c.find_same.ensures ∙ λ k. list_all (finds_same (world_of (c.deref-3.ensures k)) (world_of (c.deref-4.ensures k))) (map (sense_at (given_of c.grounded-i.result)) (c.senses_of.ensures k))) ∙ c.if-not-find_same.false in
+    let is_g : instance_of c.ground_instance-i.result ≡ g = c.ground_instance-i.ensures.says ∙ ap (λ y. grounded (world_of y) i) c.deref.ensures in
+    let is_k : instance_of c.ground_instance.result ≡ grounded u i = c.ground_instance.ensures.says ∙ ap (λ y. grounded (world_of y) i) c.deref-2.ensures in
+    let found : list_all (finds_same v x) (map (sense_at (instance_of c.ground_instance-i.result).arguments) (schema_of p i.action).senses) ≡ true =
+    sym (c.find_same.ensures ∙ λ k. list_all (finds_same (world_of (c.deref-3.ensures k)) (world_of (c.deref-4.ensures k))) (map (sense_at (given_of c.ground_instance-i.result)) (c.senses_of.ensures k))) ∙ c.if-not-find_same.false in
     record {
       first = c.in_ok-one.ensures ∙ ap (after_action p w) is_g;
       second = c.in_ok-other.ensures ∙ ap (after_action p u) is_k;

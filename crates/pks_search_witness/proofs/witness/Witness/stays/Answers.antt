@@ -13,4 +13,4 @@ returns c =
     let w = world_in c.args.self.now in
     let i = instance_of c.args.step.now in
     idle_stays p w (grounded w i) c.is_idle.result
-    (c.is_idle.ensures ∙ λ k. are_idle p (world_of (c.deref.ensures k)) ((c.grounded.ensures.says ∙ λ m. grounded (world_of (c.deref-2.ensures m)) i) k))
+    (c.is_idle.ensures ∙ λ k. are_idle p (world_of (c.deref.ensures k)) ((c.ground_instance.ensures.says ∙ λ m. grounded (world_of (c.deref-2.ensures m)) i) k))

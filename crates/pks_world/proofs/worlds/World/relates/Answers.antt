@@ -9,4 +9,4 @@ pub returns-in-Pred : goal.returns-in-Pred
 unfolding world_of
 returns-in-Pred c =
     let w = world_of c.args.self.now in
-    c.contains.ensures ∙ ap (is_listed c.args.self.now.atoms.keys) c.valued.ensures.says ∙ ap (λ (a : Atom). relates w (relation_of a) (map (value_of w) (sides_of a))) (sym c.in-Pred.is)
+    c.contains.ensures ∙ ap (is_listed c.args.self.now.atoms.keys) c.with_values.ensures.says ∙ ap (λ (a : Atom). relates w (relation_of a) (map (value_of w) (sides_of a))) (sym c.in-Pred.is)

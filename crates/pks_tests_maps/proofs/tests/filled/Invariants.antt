@@ -1,4 +1,0 @@
-use Rattle.pks_tests_maps.proofs.tests.filled.Given as goal
-
-abbrev pub invariant-loop-number : goal.invariant-loop-number
-invariant-loop-number l = Unit {0}
