@@ -19,7 +19,7 @@ use Rattle.pks_laws_forget.specs.Staying.{aims_stay}
 use Rattle.pks_laws_forget.proofs.Told.{cut_told}
 use Rattle.pks_laws_forget.proofs.Tested.{tested}
 use Rattle.pks_laws_forget.specs.Looks.{IsLook, AreWithout, without_looks}
-use Rattle.pks_laws_forget.proofs.Thinned.{without_none, without_short}
+use Rattle.pks_laws_forget.proofs.Thinned.{without_short}
 use Rattle.pks_laws_forget.proofs.TestedLooks.{unlooked_without}
 use Rattle.pks_laws_forget.proofs.TreesWithoutLooks.{moments_without}
 use Rattle.pks_laws_forget.proofs.TreesWithoutLooks as trees
@@ -118,16 +118,6 @@ stays_from p d (step ∷ steps) e = rw e refl
 pub stays : (p : Problem) (h : History) → first_hides_nothing p h ≡ false → without_settled p h ≡ h
 stays p h e = stays_from p h.start h.steps e
 
--- a history has its own trees
-pub same_itself : (p : Problem) (h : History) → AreMomentsOf p h → HasSameTrees p h h
-same_itself p h m =
-    let short : length h.steps ≤ length h.steps = omega arith in
-    record { moments = m; short = short; left = record { steps = h; without = without_none (IsLook p) h.start h.steps; end = whole_end h.start h.steps }; trees = λ t. (λ d. d, λ d. d) }
-
--- an end of it that has its trees is left of it
-pub same_end : (p : Problem) (h rest : History) → EndHasSameTrees p h rest → HasSameTrees p h rest
-same_end p h rest e = record { moments = e.moments; short = e.short; left = record { steps = h; without = without_none (IsLook p) h.start h.steps; end = e.end }; trees = e.trees }
-
 module _ (p : Problem) (h : History) (m : AreMomentsOf p h) (s : AreSetsAlong h) where
   some_out : AreWithout (IsLook p) h.start h.steps (without_looks p h).start (without_looks p h).steps
   some_out = unlooked_without p h.start h.steps s.start s.steps
@@ -137,13 +127,13 @@ module _ (p : Problem) (h : History) (m : AreMomentsOf p h) (s : AreSetsAlong h)
   kept_moments = moments_without p h (without_looks p h) m s some_out
 
   -- and has the same trees, so that it has those of what is left of that
-  pub same_without : (rest : History) → IsValid p → Each IsNow p.goal → EndHasSameTrees p (without_looks p h) rest → HasSameTrees p h rest
-  same_without rest v plain e =
+  pub same_without : (rest : History) → IsValid p → EndHasSameTrees p (without_looks p h) rest → HasSameTrees p h rest
+  same_without rest v e =
       let one : length (without_looks p h).steps ≤ length h.steps = without_short (IsLook p) h.start h.steps (without_looks p h).start (without_looks p h).steps some_out in
       let two : length rest.steps ≤ length (without_looks p h).steps = e.short in
       record {
         moments = e.moments;
         short = omega (arith, one, two);
         left = record { steps = without_looks p h; without = some_out; end = e.end };
-        trees = λ t. let k = trees.without_looks p v plain h (without_looks p h) t m s some_out in (λ d. (e.trees t).0 (k.0 d), λ d. k.1 ((e.trees t).1 d));
+        trees = λ t. let k = trees.without_looks p v h (without_looks p h) t m s some_out in (λ d. (e.trees t).0 (k.0 d), λ d. k.1 ((e.trees t).1 d));
       }

@@ -97,25 +97,23 @@ fn without_unasked(alloc: Global, p: &Problem<'_>, h: History) -> Result<History
     Ok(rest)
 }
 
-/// The history without its looks and its settled past: where each aim is one of the last moment, the databases after a look
-/// stand in the place of those before it, and then the first moment goes as long as the step from there hides nothing, and no
-/// longer. With aims over time it goes as long as that step leaves what they ask besides. The same trees are derived from what
-/// is left. It asks for a valid problem and for moments of it. The error is want
-/// of memory.
+/// The history without its looks and its settled past: the databases after a look stand in the place of those before it, and then
+/// the first moment goes as long as the step from there hides nothing, and no longer. With aims over time it goes as long as that
+/// step leaves what they ask besides. The same trees are derived from what is left. It asks for a valid problem and for moments of
+/// it. The error is want of memory.
 pub fn cut(alloc: Global, p: &Problem<'_>, h: &History) -> Result<History, AllocError>
     requires valid { IsValidProblem p.now }
     requires moments { AreMomentsOf (problem_of p.now) h.now }
     ensures trees { IfOk result (λ rest. HasSameTrees (problem_of p.now) h.now rest) }
     ensures exact { Each IsNow (problem_of p.now).goal → IfOk result (λ rest. rest ≡ without_settled (problem_of p.now) (without_looks (problem_of p.now) h.now)) }
-    ensures asked { (Each IsNow (problem_of p.now).goal → ⊥) → IfOk result (λ rest. rest ≡ without_unasked (problem_of p.now) h.now) }
+    ensures asked { (Each IsNow (problem_of p.now).goal → ⊥) → IfOk result (λ rest. rest ≡ without_unasked (problem_of p.now) (without_looks (problem_of p.now) h.now)) }
 {
     in_order(h);
+    let steps = without_looks(alloc, p, h)?;
     if !are_now(p.goal.as_slice()) {
-        let whole = h.share()?;
-        let rest = without_unasked(alloc, p, whole)?;
+        let rest = without_unasked(alloc, p, steps)?;
         return Ok(rest);
     }
-    let steps = without_looks(alloc, p, h)?;
     let rest = without_settled(alloc, p, steps)?;
     Ok(rest)
 }

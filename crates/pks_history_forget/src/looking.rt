@@ -1,22 +1,23 @@
 //! Looks, and a history without the moments before them. `docs/RULES.md` says what a look is.
-ghost use Rattle.std.specs.Prelude.{◌≡◌, ◌≤◌, ◌<◌, ◌+◌, ◌&&◌, IfOk, length};
+ghost use Rattle.std.specs.Prelude.{◌≡◌, ◌≤◌, ◌<◌, ◌+◌, ◌&&◌, IfOk, length, map};
 ghost use Rattle.std.specs.List.{list_all};
 ghost use Rattle.pks_terms.specs.Settling.{effects_of};
-ghost use Rattle.pks_terms.specs.Views.{instance_of, problem_of};
+ghost use Rattle.pks_terms.specs.Views.{query_of, aim_of, instance_of, signature_of, problem_of};
 ghost use Rattle.pks_kf.specs.Known.{literals_of};
 ghost use Rattle.pks_kx.specs.Groups.{groups_of};
 ghost use Rattle.pks_query_lookup.specs.Fives.{five_of};
 ghost use Rattle.pks_laws_forget.specs.Testing.{has};
-ghost use Rattle.pks_laws_forget.specs.Looks.{is_empty, has_group, lasts_in, is_look, unlooked_from, without_looks};
+ghost use Rattle.pks_laws_forget.specs.Looks.{is_told_alike, aim_is_told_alike, is_empty, has_group, lasts_in, is_look, unlooked_from, without_looks};
 ghost use Rattle.pks_history_forget.specs.Looking.{first_is_look, later_look, joined};
 
 use crate::effects::has;
 use crate::kept::{has_group, is_group_of_objects, regions_last};
+use crate::staying::are_alike;
 use pks_history::histories::History;
 use pks_query::databases::Db;
 use pks_query_lookup::five::Five;
-use pks_terms::problem::Problem;
-use pks_terms::schema::Instance;
+use pks_terms::problem::{Aim, Problem, Signature};
+use pks_terms::schema::{Instance, Query};
 use std::alloc::{AllocError, Global};
 
 /// Whether the action of the instance has no effects.
@@ -63,14 +64,54 @@ fn lasts_in(before: &Five, after: &Five) -> bool
     groups_stay(before, after) && regions_last(before, after)
 }
 
-/// Whether the step from the databases before by the instance to those after is a look: the action has no effects, what was
-/// known before is known after, and groups and regions are the same and speak of objects alone. It takes no memory.
+/// Whether the query asks for a known literal, and both databases tell this alike.
+fn is_told_alike(s: &Signature, before: &Db, after: &Db, q: &Query) -> bool
+    ensures { result ≡ is_told_alike (signature_of s.now) (five_of before.now) (five_of after.now) (query_of q.now).asks }
+{
+    match q {
+        Query::K(l) | Query::NotK(l) => are_alike(before.known(s, l), after.known(s, l)),
+        Query::Kw(_) | Query::NotKw(_) | Query::Kv(_) | Query::NotKv(_) => false,
+    }
+}
+
+/// Whether so does the aim, unless it is one of the last moment.
+fn aim_is_told_alike(s: &Signature, before: &Db, after: &Db, aim: &Aim) -> bool
+    ensures { result ≡ aim_is_told_alike (signature_of s.now) (five_of before.now) (five_of after.now) (aim_of aim.now) }
+{
+    match aim {
+        Aim::Now(_) => true,
+        Aim::AtStart(q) | Aim::Always(q) | Aim::Once(q) => is_told_alike(s, before, after, q),
+    }
+}
+
+/// Whether so does each of the aims.
+fn are_told_alike(s: &Signature, before: &Db, after: &Db, aims: &[Aim]) -> bool
+    ensures { result ≡ list_all (aim_is_told_alike (signature_of s.now) (five_of before.now) (five_of after.now)) (map aim_of aims.now) }
+{
+    for aim in aims {
+        if !aim_is_told_alike(s, before, after, aim) {
+            return false;
+        }
+    }
+    true
+}
+
+/// Whether what was known before is known after, and groups and regions are the same and speak of objects alone.
+fn continues(before: &Five, after: &Five) -> bool
+    ensures { result ≡ (list_all (has (five_of after.now)) (literals_of before.now.kf) && (lasts_in (five_of before.now) (five_of after.now) && lasts_in (five_of after.now) (five_of before.now))) }
+{
+    literals_stay(before, after) && (lasts_in(before, after) && lasts_in(after, before))
+}
+
+/// Whether the step from the databases before by the instance to those after is a look: the action has no effects, aims over
+/// time are told alike before and after, what was known before is known after, and groups and regions are the same and speak of
+/// objects alone. It takes no memory.
 pub fn is_look(p: &Problem<'_>, before: &Db, i: &Instance, after: &Db) -> bool
     ensures { result ≡ is_look (problem_of p.now) (five_of before.now) (instance_of i.now) (five_of after.now) }
 {
-    let (before, after) = (before.parts(), after.parts());
     has_no_effects(p, i)
-        && (literals_stay(before, after) && (lasts_in(before, after) && lasts_in(after, before)))
+        && (are_told_alike(&p.signature, before, after, p.goal.as_slice())
+            && continues(before.parts(), after.parts()))
 }
 
 /// Whether there is a first step, and it is a look.

@@ -9,8 +9,8 @@ ghost use Rattle.pks_terms.specs.Views.{terms_of, literal_of, literals_in, conj_
 ghost use Rattle.pks_kw.specs.Formulas.{formulas_of};
 ghost use Rattle.pks_query_lookup.specs.Fives.{five_of};
 ghost use Rattle.pks_laws_forget.specs.Transparent.{at_other_objects};
-ghost use Rattle.pks_laws_forget.specs.Looks.{is_empty};
-ghost use Rattle.pks_laws_forget.specs.Staying.{is_at_others, leaves, are_alike, literal_stays, is_said_in, says_more, query_stays, aim_stays, aims_stay};
+ghost use Rattle.pks_laws_forget.specs.Looks.{are_alike, is_empty};
+ghost use Rattle.pks_laws_forget.specs.Staying.{is_at_others, leaves, literal_stays, is_said_in, says_more, query_stays, aim_stays, aims_stay};
 
 use crate::effects::effects_of;
 use crate::touching::is_about;
@@ -66,7 +66,7 @@ fn all_leave(effects: &[Effect], l: &Literal) -> bool
 }
 
 /// Both or neither.
-fn are_alike(a: bool, b: bool) -> bool
+pub(crate) fn are_alike(a: bool, b: bool) -> bool
     ensures { result ≡ are_alike a b }
 {
     if a { b } else { !b }

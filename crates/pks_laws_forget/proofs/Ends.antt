@@ -126,7 +126,7 @@ first_within d (x ∷ xs) e [] w = absurd w
 
 -- ---- what is known at the moment before grows with what is known after
 
-all_more : {X : Type 0} (q r : X → Bool) → ((x : X) → q x ≡ true → r x ≡ true) → (xs : List X) → list_all q xs ≡ true → list_all r xs ≡ true
+pub all_more : {X : Type 0} (q r : X → Bool) → ((x : X) → q x ≡ true → r x ≡ true) → (xs : List X) → list_all q xs ≡ true → list_all r xs ≡ true
 all_more q r f [] h = refl
 all_more q r f (x ∷ xs) h = let p = and_parts (q x) _ h in and_from _ _ (f x p.0) (all_more q r f xs p.1)
 

@@ -1,18 +1,19 @@
--- Without the aims that the first databases meet for good a problem has the same derived trees.
-use Rattle.std.proofs.Common.{◌≡◌, ◌&&◌, ℕ, true, false, cond, not, List, [], ◌∷◌, Option, Some, None, refl, sym, ap, ◌∙◌, subst, inl, inr, ⊎_elim, true≢false}
-use Rattle.std.specs.List.{list_all}
+-- Without the aims that a history meets for good a problem has the same derived trees.
+use Rattle.std.proofs.Common.{◌≡◌, ◌&&◌, ◌||◌, ◌⊎◌, ◌++◌, ℕ, Bool, true, false, cond, not, List, [], ◌∷◌, map, Option, Some, None, refl, sym, ap, ◌∙◌, subst, inl, inr, ⊎_elim, true≢false}
+use Rattle.std.specs.List.{list_all, list_any}
 use Rattle.std.specs.declared.cmp.Ordering.TheVariants.{Less}
-use Rattle.std.proofs.lemmas.Bool.{and_parts, or_left, cases_Bool}
-use Rattle.pks_terms.specs.Syntax.{Literal}
+use Rattle.std.proofs.lemmas.Bool.{and_parts, or_left, or_right, or_cases, cases_Bool}
+use Rattle.pks_terms.specs.Sets.{Each}
+use Rattle.pks_terms.specs.Syntax.{Literal, negated}
 use Rattle.pks_terms.specs.Signatures.{Signature, HasValues}
 use Rattle.pks_terms.specs.Actions.{Instance}
-use Rattle.pks_terms.specs.Aims.{is_met, met}
+use Rattle.pks_terms.specs.Aims.{is_met, met, moments}
 use Rattle.pks_terms.specs.Branching.{Choice, Side, assumed, Assumes}
 use Rattle.pks_terms.specs.Closure.{Outcome, Next, Clash, Closes, first_clash, rounds, tidied}
 use Rattle.pks_terms.specs.Databases.{Five, holds}
 use Rattle.pks_terms.specs.Problems.{Aim, Now, AtStart, Always, Once, Problem, initial}
-use Rattle.pks_terms.specs.Queries.{Plain, Know, KnowWhether, KnowValue, Query, answers_plain, answers}
-use Rattle.pks_terms.specs.Saturated.{Within, IsSaturated}
+use Rattle.pks_terms.specs.Queries.{Plain, Know, KnowWhether, KnowValue, Query, is_member, known_whether, is_decided, answers_plain, answers}
+use Rattle.pks_terms.specs.Saturated.{Within, WithinAlong, ClosedAlong, IsSaturated}
 use Rattle.pks_terms.specs.Settling.{History, last_moment, with_last, settle_rounds, State, At, Stopped, clashes, tidied_history, Settles}
 use Rattle.pks_terms.specs.Trees.{Tree, tree_cmp, after_step, Acts, SettlesAfter, Takes, Derives, start_state, IsPlan, IsBefore, IsBest}
 use Rattle.pks_laws.proofs.Belonging.{saturated_end, end_of}
@@ -21,8 +22,8 @@ use Rattle.pks_laws.proofs.Least.{one_value, holds_grows}
 use Rattle.pks_laws.proofs.SettledEnd.{rounds_have_start, end_closed}
 use Rattle.pks_laws.proofs.Unique.{closes_one}
 use Rattle.pks_laws_forget.proofs.Cut.{assumed_more, rounds_have, rounds_leave}
-use Rattle.pks_laws_forget.proofs.Ends.{first_within, first_closed}
-use Rattle.pks_laws_forget.specs.Fewer.{is_known_literal, is_held, is_met_for_good, unmet, without_met}
+use Rattle.pks_laws_forget.proofs.Ends.{all_more}
+use Rattle.pks_laws_forget.specs.Fewer.{is_decided_by_literals, is_known_for_good, is_held, is_met_for_good, unmet, without_met}
 use Rattle.pks_laws_forget.proofs.OtherAims.{IfAt, Carries, trees_other, trees_back, costs_same}
 
 -- what holds in the one holds in the other
@@ -44,117 +45,210 @@ module _ (s : Signature) (inhabited : HasValues s) where
       subst (Upholds s a) (sym e.1)
       (end_upholds a end (saturated_end s end k.last) e.0 (λ l i. rounds_have s k.count (assumed s a c side) l (more.0 l i)) (more.1 ∙ keep.0) (more.2 ∙ keep.1))
 
-module _ (p : Problem) (inhabited : HasValues p.signature) (d : Five) where
+-- ---- lists
+
+any_more : {X : Type 0} (f g : X → Bool) → ((x : X) → f x ≡ true → g x ≡ true) → (xs : List X) → list_any f xs ≡ true → list_any g xs ≡ true
+any_more f g on [] k = k
+any_more f g on (x ∷ xs) k = ⊎_elim (λ e. or_left _ _ (on x e)) (λ e. or_right _ _ (any_more f g on xs e)) (or_cases (f x) _ k)
+
+-- ---- moments
+
+abbrev Steps : Type 0
+Steps = List (Instance × Five)
+
+-- so it is at some moment of the history
+abbrev HasMoment : (Five → Type 0) → Five → Steps → Type 0
+HasMoment P d [] = P d
+HasMoment P d (x ∷ xs) = P d ⊎ HasMoment P x.1 xs
+
+moment_behind : (P : Five → Type 0) (d : Five) (xs : Steps) (y : Instance × Five) → HasMoment P d xs → HasMoment P d (xs ++ y ∷ [])
+moment_behind P d [] y k = inl k
+moment_behind P d (x ∷ xs) y k = ⊎_elim (λ a. inl a) (λ a. inr (moment_behind P x.1 xs y a)) k
+
+module _ (s : Signature) (inhabited : HasValues s) (m : Five) where
+  -- ---- what holds there answers here
+
+  told_held : (d : Five) → Upholds s m d → (l : Literal) → (holds s m l || holds s m (negated l)) ≡ true → (holds s d l || holds s d (negated l)) ≡ true
+  told_held d up l e =
+      ⊎_elim (λ k. or_left (holds s d l) (holds s d (negated l)) (up l k)) (λ k. or_right (holds s d l) (holds s d (negated l)) (up (negated l) k)) (or_cases (holds s m l) (holds s m (negated l)) e)
+
+  decided_held : (d : Five) → Upholds s m d → (l : Literal) → (holds s m l || holds s m (negated l)) ≡ true → is_decided s d l ≡ true
+  unfolding is_decided
+  decided_held d up l e = or_left (holds s d l || holds s d (negated l)) _ (told_held d up l e)
+
+  abbrev some_false : Five → List Literal → Bool
+  some_false d c = list_any (λ l. holds s d (negated l)) c
+
+  whether_held : (d : Five) → Upholds s m d → (c : List Literal) → is_decided_by_literals s m c ≡ true → known_whether s d c ≡ true
+  unfolding known_whether
+  whether_held d up c k =
+      or_right (is_member d c) (some_false d c || list_all (is_decided s d) c)
+      (⊎_elim
+      (λ a. or_left (some_false d c) (list_all (is_decided s d) c) (any_more (λ l. holds s m (negated l)) (λ l. holds s d (negated l)) (λ l. up (negated l)) c a))
+      (λ a. or_right (some_false d c) (list_all (is_decided s d) c) (all_more (λ l. holds s m l || holds s m (negated l)) (is_decided s d) (decided_held d up) c a))
+      (or_cases (some_false m c) (list_all (λ l. holds s m l || holds s m (negated l)) c) k))
+
+  plain_held : (d : Five) → Upholds s m d → (q : Plain) → is_known_for_good s m q ≡ true → answers_plain s d q ≡ true
+  plain_held d up (Know l) k = up l k
+  plain_held d up (KnowWhether c) k = whether_held d up c k
+  plain_held d up (KnowValue t) k = absurd (true≢false (sym k))
+
+  held_answers : (d : Five) → Upholds s m d → (q : Query) → is_held s m q ≡ true → answers s d q ≡ true
+  held_answers d up q k =
+      let b = and_parts (not q.denied) (is_known_for_good s m q.asks) k in
+      elim q.denied as (λ b. not b ≡ true → cond b (not (answers_plain s d q.asks)) (answers_plain s d q.asks) ≡ true) [ true ↦ λ n. absurd (true≢false (sym n)) | false ↦ λ n. plain_held d up q.asks b.1 ] b.0
+
+  held_somewhere : (d : Five) (xs : Steps) → HasMoment (Upholds s m) d xs → (q : Query) → is_held s m q ≡ true → list_any (λ e. answers s e q) (d ∷ map (λ (x : Instance × Five). x.1) xs) ≡ true
+  held_somewhere d [] up q k = or_left _ _ (held_answers d up q k)
+  held_somewhere d (x ∷ xs) up q k = ⊎_elim (λ a. or_left _ _ (held_answers d a q k)) (λ a. or_right _ _ (held_somewhere x.1 xs a q k)) up
+
+  -- ---- by a side, and by settling
+
+  moment_replaced : (d : Five) (xs : Steps) (e : Five) (c : Choice) (side : Side) → HasMoment (Upholds s m) d xs → Assumes s (last_moment (record { start = d; steps = xs })) c side (Next e) → HasMoment (Upholds s m) (with_last (record { start = d; steps = xs }) e).start (with_last (record { start = d; steps = xs }) e).steps
+  moment_replaced d [] e c side up k = λ l i. side_upholds s inhabited d e c side k l (up l i)
+  moment_replaced d (x ∷ []) e c side up k = ⊎_elim (λ a. inl a) (λ a. inr (λ l i. side_upholds s inhabited x.1 e c side k l (a l i))) up
+  moment_replaced d (x ∷ y ∷ ys) e c side up k = ⊎_elim (λ a. inl a) (λ a. inr (moment_replaced x.1 (y ∷ ys) e c side a k)) up
+
+module _ (p : Problem) (inhabited : HasValues p.signature) (old : History) where
   abbrev S : Signature
   S = p.signature
 
-  -- the first moment upholds what held at first
-  abbrev Upheld : History → Type 0
-  Upheld h = Upholds S d h.start
+  -- the first moment upholds what held at the first, and for each moment some one upholds what held there
+  record IsUpheld (h : History) : Type 0 where
+    pub first : Upholds S old.start h.start
+    pub some : Each (λ m. HasMoment (Upholds S m) h.start h.steps) (moments old)
 
   -- ---- aims that are met for good
 
-  plain_held : (h : History) → Upheld h → (q : Plain) → is_known_literal S d q ≡ true → answers_plain S h.start q ≡ true
-  plain_held h up (Know l) k = up l k
-  plain_held h up (KnowWhether c) k = absurd (true≢false (sym k))
-  plain_held h up (KnowValue t) k = absurd (true≢false (sym k))
+  some_answers : (h : History) (q : Query) (ms : List Five) → Each (λ m. HasMoment (Upholds S m) h.start h.steps) ms → list_any (λ m. is_held S m q) ms ≡ true → list_any (λ d. answers S d q) (moments h) ≡ true
+  some_answers h q [] up k = absurd (true≢false (sym k))
+  some_answers h q (m ∷ ms) up k = ⊎_elim (λ a. held_somewhere S inhabited m h.start h.steps up.0 q a) (λ a. some_answers h q ms up.1 a) (or_cases (is_held S m q) _ k)
 
-  held_answers : (h : History) → Upheld h → (q : Query) → is_held S d q ≡ true → answers S h.start q ≡ true
-  held_answers h up q k =
-      let b = and_parts (not q.denied) (is_known_literal S d q.asks) k in
-      elim q.denied as (λ b. not b ≡ true → cond b (not (answers_plain S h.start q.asks)) (answers_plain S h.start q.asks) ≡ true) [ true ↦ λ n. absurd (true≢false (sym n)) | false ↦ λ n. plain_held h up q.asks b.1 ] b.0
-
-  met_for_good : (h : History) → Upheld h → (a : Aim) → is_met_for_good S d a ≡ true → is_met S h a ≡ true
+  met_for_good : (h : History) → IsUpheld h → (a : Aim) → is_met_for_good S old a ≡ true → is_met S h a ≡ true
   met_for_good h up (Now q) k = absurd (true≢false (sym k))
-  met_for_good h up (AtStart q) k = held_answers h up q k
+  met_for_good h up (AtStart q) k = held_answers S inhabited old.start h.start up.first q k
   met_for_good h up (Always q) k = absurd (true≢false (sym k))
-  met_for_good h up (Once q) k = or_left _ _ (held_answers h up q k)
+  met_for_good h up (Once q) k = some_answers h q (moments old) up.some k
 
-  unmet_enough : (h : History) → Upheld h → (xs : List Aim) → list_all (is_met S h) xs ≡ list_all (is_met S h) (unmet S d xs)
+  unmet_enough : (h : History) → IsUpheld h → (xs : List Aim) → list_all (is_met S h) xs ≡ list_all (is_met S h) (unmet S old xs)
   unmet_enough h up [] = refl
   unmet_enough h up (x ∷ xs) =
-      elim (is_met_for_good S d x) as (λ b. is_met_for_good S d x ≡ b → (is_met S h x && list_all (is_met S h) xs) ≡ list_all (is_met S h) (cond (not b) (x ∷ unmet S d xs) (unmet S d xs))) [
+      elim (is_met_for_good S old x) as (λ b. is_met_for_good S old x ≡ b → (is_met S h x && list_all (is_met S h) xs) ≡ list_all (is_met S h) (cond (not b) (x ∷ unmet S old xs) (unmet S old xs))) [
         | true ↦ λ k. ap (λ b. b && list_all (is_met S h) xs) (met_for_good h up x k) ∙ unmet_enough h up xs
         | false ↦ λ k. ap (λ b. is_met S h x && b) (unmet_enough h up xs)
       ] refl
 
-  same_goal : (h : History) → Upheld h → met p h ≡ met (without_met p d) h
+  same_goal : (h : History) → IsUpheld h → met p h ≡ met (without_met p old) h
   unfolding met
   same_goal h up = unmet_enough h up p.goal
 
-  -- ---- what the first moment becomes
+  -- ---- what the moments become
 
-  acts_uphold : (h : History) (i : Instance) (x : State) → Upheld h → Acts p h i x → IfAt x Upheld
-  acts_uphold h i x up a = subst (λ y. IfAt y Upheld) (sym a.gives) (go a.outcome)
+  each_somewhere : (P Q : Five → Type 0) → ((m : Five) → P m → Q m) → (ms : List Five) → Each P ms → Each Q ms
+  each_somewhere P Q on [] k = tt
+  each_somewhere P Q on (m ∷ ms) k = (on m k.0, each_somewhere P Q on ms k.1)
+
+  acts_uphold : (h : History) (i : Instance) (x : State) → IsUpheld h → Acts p h i x → IfAt x IsUpheld
+  acts_uphold h i x up a = subst (λ y. IfAt y IsUpheld) (sym a.gives) (go a.outcome)
     where
-      go : (o : Outcome) → IfAt (after_step h i o) Upheld
-      go (Next e) = up
+      go : (o : Outcome) → IfAt (after_step h i o) IsUpheld
+      go (Next e) = record {
+        first = up.first;
+        some = each_somewhere (λ m. HasMoment (Upholds S m) h.start h.steps) _ (λ m k. moment_behind (Upholds S m) h.start h.steps (i, e) k) (moments old) up.some;
+      }
       go (Clash l) = tt
 
-  settles_uphold : (h : History) (x : State) → Upheld h → Settles p h x → IfAt x Upheld
+  -- by the end of the rounds, tidied
+  moment_settled : (m d : Five) (xs : Steps) (e : Five) (ys : Steps) → WithinAlong d xs e ys → ClosedAlong p e ys → HasMoment (Upholds S m) d xs → HasMoment (Upholds S m) (tidied e) (map (λ (y : Instance × Five). (y.0, tidied y.1)) ys)
+  moment_settled m d [] e [] w c up = λ l i. end_upholds S inhabited d e c.0 c.1 w.0 w.1 w.2 l (up l i)
+  moment_settled m d [] e (y ∷ ys) w c up = absurd w
+  moment_settled m d (x ∷ xs) e [] w c up = absurd w
+  moment_settled m d (x ∷ xs) e (y ∷ ys) w c up =
+      ⊎_elim (λ a. inl (λ l i. end_upholds S inhabited d e c.0.0 c.0.1 w.0.0 w.0.1 w.0.2 l (a l i))) (λ a. inr (moment_settled m x.1 xs y.1 ys w.2 c.3 a)) up
+
+  first_settled : (d : Five) (xs : Steps) (e : Five) (ys : Steps) → WithinAlong d xs e ys → ClosedAlong p e ys → Upholds S d (tidied e)
+  first_settled d [] e [] w c = end_upholds S inhabited d e c.0 c.1 w.0 w.1 w.2
+  first_settled d [] e (y ∷ ys) w c = absurd w
+  first_settled d (x ∷ xs) e [] w c = absurd w
+  first_settled d (x ∷ xs) e (y ∷ ys) w c = end_upholds S inhabited d e c.0.0 c.0.1 w.0.0 w.0.1 w.0.2
+
+  end_upheld : (h end : History) → WithinAlong h.start h.steps end.start end.steps → ClosedAlong p end.start end.steps → IsUpheld h → IsUpheld (tidied_history end)
+  end_upheld h end w c up = record {
+    first = λ l i. first_settled h.start h.steps end.start end.steps w c l (up.first l i);
+    some = each_somewhere (λ m. HasMoment (Upholds S m) h.start h.steps) _ (λ m k. moment_settled m h.start h.steps end.start end.steps w c k) (moments old) up.some;
+  }
+
+  settles_uphold : (h : History) (x : State) → IsUpheld h → Settles p h x → IfAt x IsUpheld
   settles_uphold h x up k =
       let end : History = settle_rounds p k.count h in
-      subst (λ y. IfAt y Upheld) (sym k.gives)
+      subst (λ y. IfAt y IsUpheld) (sym k.gives)
       (⊎_elim
-      (λ t. subst (λ b. IfAt (cond b Stopped (At (tidied_history end))) Upheld) (sym t) tt)
-      (λ f.
-      let w = first_within h.start h.steps end.start end.steps (rounds_have_start p h k.count) in
-      let c = first_closed p inhabited end.start end.steps (end_closed p end k.last f) in
-      subst (λ b. IfAt (cond b Stopped (At (tidied_history end))) Upheld) (sym f) (λ l i. end_upholds S inhabited h.start end.start c.0 c.1 w.0 w.1 w.2 l (up l i)))
+      (λ t. subst (λ b. IfAt (cond b Stopped (At (tidied_history end))) IsUpheld) (sym t) tt)
+      (λ f. subst (λ b. IfAt (cond b Stopped (At (tidied_history end))) IsUpheld) (sym f) (end_upheld h end (rounds_have_start p h k.count) (end_closed p end k.last f) up))
       (cases_Bool (clashes S end)))
 
-  ended_upholds : (h : History) (e : Five) (c : Choice) (side : Side) → Upheld h → Assumes S (last_moment h) c side (Next e) → Upheld (with_last h e)
-  ended_upholds h e c side up k = go h.start h.steps up k
+  ended_upholds : (h : History) (e : Five) (c : Choice) (side : Side) → IsUpheld h → Assumes S (last_moment h) c side (Next e) → IsUpheld (with_last h e)
+  ended_upholds h e c side up k = record {
+    first = go h.start h.steps up.first k;
+    some = each_somewhere (λ m. HasMoment (Upholds S m) h.start h.steps) _ (λ m u. moment_replaced S inhabited m h.start h.steps e c side u k) (moments old) up.some;
+  }
     where
-      go : (b : Five) (xs : List (Instance × Five)) → Upholds S d b → Assumes S (last_moment (record { start = b; steps = xs })) c side (Next e) → Upheld (with_last (record { start = b; steps = xs }) e)
+      go : (b : Five) (xs : Steps) → Upholds S old.start b → Assumes S (last_moment (record { start = b; steps = xs })) c side (Next e) → Upholds S old.start (with_last (record { start = b; steps = xs }) e).start
       go b [] up k = λ l i. side_upholds S inhabited b e c side k l (up l i)
       go b (x ∷ xs) up k = up
 
-  takes_uphold : (h : History) (c : Choice) (side : Side) (x : State) → Upheld h → Takes p h c side x → IfAt x Upheld
+  takes_uphold : (h : History) (c : Choice) (side : Side) (x : State) → IsUpheld h → Takes p h c side x → IfAt x IsUpheld
   takes_uphold h c side x up t = go t.outcome t.assumed t.settled
     where
-      go : (o : Outcome) → Assumes S (last_moment h) c side o → SettlesAfter p h o x → IfAt x Upheld
+      go : (o : Outcome) → Assumes S (last_moment h) c side o → SettlesAfter p h o x → IfAt x IsUpheld
       go (Next e) a s = settles_uphold (with_last h e) x (ended_upholds h e c side up a) s
-      go (Clash l) a s = subst (λ y. IfAt y Upheld) (sym s) tt
+      go (Clash l) a s = subst (λ y. IfAt y IsUpheld) (sym s) tt
 
-  carries : Carries p (unmet S d p.goal) Upheld
+  carries : Carries p (unmet S old p.goal) IsUpheld
   carries = record { same_goal = same_goal; acts = acts_uphold; takes = takes_uphold }
 
   -- ---- trees
 
-  first : (steps : List (Instance × Five)) → Upheld (record { start = d; steps = steps })
-  first steps l i = i
+  own_moments : (d : Five) (xs : Steps) → Each (λ m. HasMoment (Upholds S m) d xs) (d ∷ map (λ (x : Instance × Five). x.1) xs)
+  own_moments d [] = ((λ l i. i), tt)
+  own_moments d (x ∷ xs) = (inl (λ l i. i), each_somewhere (λ m. HasMoment (Upholds S m) x.1 xs) _ (λ m k. inr k) (x.1 ∷ map (λ (x : Instance × Five). x.1) xs) (own_moments x.1 xs))
 
-  pub trees_without : (steps : List (Instance × Five)) (t : Tree) → (Derives p (At (record { start = d; steps = steps })) t → Derives (without_met p d) (At (record { start = d; steps = steps })) t) × (Derives (without_met p d) (At (record { start = d; steps = steps })) t → Derives p (At (record { start = d; steps = steps })) t)
-  trees_without steps t =
-      (trees_other p (unmet S d p.goal) Upheld carries t (At (record { start = d; steps = steps })) (first steps), trees_back p (unmet S d p.goal) Upheld carries t (At (record { start = d; steps = steps })) (first steps))
+  itself : IsUpheld old
+  itself = record { first = λ l i. i; some = own_moments old.start old.steps }
 
+  pub trees_without : (t : Tree) → (Derives p (At old) t → Derives (without_met p old) (At old) t) × (Derives (without_met p old) (At old) t → Derives p (At old) t)
+  trees_without t = (trees_other p (unmet S old p.goal) IsUpheld carries t (At old) itself, trees_back p (unmet S old p.goal) IsUpheld carries t (At old) itself)
+
+  before_other : (t u : Tree) → IsBefore p t u → IsBefore (without_met p old) t u
+  before_other t u (inl e) = inl e
+  before_other t u (inr e) = inr (subst (λ f. tree_cmp f t u ≡ Less) (sym (costs_same p (unmet S old p.goal))) e)
+
+  pub before_back : (t u : Tree) → IsBefore (without_met p old) t u → IsBefore p t u
+  before_back t u (inl e) = inl e
+  before_back t u (inr e) = inr (subst (λ f. tree_cmp f t u ≡ Less) (costs_same p (unmet S old p.goal)) e)
+
+module _ (p : Problem) (inhabited : HasValues p.signature) (d : Five) where
   -- ---- the best plan
 
-  plan_on : Closes S (initial p) (Next d) → (t : Tree) → IsPlan p t → IsPlan (without_met p d) t
+  abbrev Start : History
+  Start = record { start = d; steps = [] }
+
+  plan_on : Closes p.signature (initial p) (Next d) → (t : Tree) → IsPlan p t → IsPlan (without_met p Start) t
   unfolding initial
   plan_on c t k =
-      let one = closes_one S (initial p) k.outcome (Next d) k.closes c in
-      record { outcome = Next d; closes = record { count = c.count; last = c.last; gives = c.gives }; derives = (trees_without [] t).0 (subst (λ o. Derives p (start_state o) t) one k.derives) }
+      let one = closes_one p.signature (initial p) k.outcome (Next d) k.closes c in
+      record { outcome = Next d; closes = record { count = c.count; last = c.last; gives = c.gives }; derives = (trees_without p inhabited Start t).0 (subst (λ o. Derives p (start_state o) t) one k.derives) }
 
-  plan_back : Closes S (initial p) (Next d) → (t : Tree) → IsPlan (without_met p d) t → IsPlan p t
+  plan_back : Closes p.signature (initial p) (Next d) → (t : Tree) → IsPlan (without_met p Start) t → IsPlan p t
   unfolding initial
   plan_back c t k =
-      let one = closes_one S (initial p) k.outcome (Next d) (record { count = k.closes.count; last = k.closes.last; gives = k.closes.gives }) c in
-      record { outcome = Next d; closes = c; derives = (trees_without [] t).1 (subst (λ o. Derives (without_met p d) (start_state o) t) one k.derives) }
+      let one = closes_one p.signature (initial p) k.outcome (Next d) (record { count = k.closes.count; last = k.closes.last; gives = k.closes.gives }) c in
+      record { outcome = Next d; closes = c; derives = (trees_without p inhabited Start t).1 (subst (λ o. Derives (without_met p Start) (start_state o) t) one k.derives) }
 
-  before_other : (t u : Tree) → IsBefore p t u → IsBefore (without_met p d) t u
-  before_other t u (inl e) = inl e
-  before_other t u (inr e) = inr (subst (λ f. tree_cmp f t u ≡ Less) (sym (costs_same p (unmet S d p.goal))) e)
-
-  before_back : (t u : Tree) → IsBefore (without_met p d) t u → IsBefore p t u
-  before_back t u (inl e) = inl e
-  before_back t u (inr e) = inr (subst (λ f. tree_cmp f t u ≡ Less) (costs_same p (unmet S d p.goal)) e)
-
-  pub best_without : Closes S (initial p) (Next d) → (n : ℕ) (o : Option Tree) → IsBest p n o → IsBest (without_met p d) n o
+  pub best_without : Closes p.signature (initial p) (Next d) → (n : ℕ) (o : Option Tree) → IsBest p n o → IsBest (without_met p Start) n o
   best_without c n None b = λ t k. b t (plan_back c t k.0, k.1)
-  best_without c n (Some t) b = ((plan_on c t b.0.0, b.0.1), λ u k. before_other t u (b.1 u (plan_back c u k.0, k.1)))
+  best_without c n (Some t) b = ((plan_on c t b.0.0, b.0.1), λ u k. before_other p inhabited Start t u (b.1 u (plan_back c u k.0, k.1)))
 
-  pub best_back : Closes S (initial p) (Next d) → (n : ℕ) (o : Option Tree) → IsBest (without_met p d) n o → IsBest p n o
+  pub best_back : Closes p.signature (initial p) (Next d) → (n : ℕ) (o : Option Tree) → IsBest (without_met p Start) n o → IsBest p n o
   best_back c n None b = λ t k. b t (plan_on c t k.0, k.1)
-  best_back c n (Some t) b = ((plan_back c t b.0.0, b.0.1), λ u k. before_back t u (b.1 u (plan_on c u k.0, k.1)))
+  best_back c n (Some t) b = ((plan_back c t b.0.0, b.0.1), λ u k. before_back p inhabited Start t u (b.1 u (plan_on c u k.0, k.1)))

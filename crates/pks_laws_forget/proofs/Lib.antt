@@ -19,6 +19,7 @@ pub mod Thinned
 pub mod Still
 pub mod Families
 pub mod Looks
+pub mod MetAlike
 pub mod TreesWithoutLooks
 pub mod TestedLooks
 pub mod Worlds

@@ -1,11 +1,12 @@
 -- Words on lists and tests.
 use Rattle.std.proofs.Common.{◌≡◌, ◌⊎◌, ◌||◌, Bool, true, false, not, cond, find, List, [], ◌∷◌, map, Some, None, refl, sym, ap, ◌∙◌, subst, inl, inr, ⊎_elim}
 use Rattle.std.specs.List.{list_any}
-use Rattle.std.proofs.lemmas.Bool.{false_from_ne_true}
+use Rattle.std.proofs.lemmas.Bool.{false_from_ne_true, not-true}
 use Rattle.pks_terms.specs.Sets.{Each, IsIn, one_replaced, with_others}
 use Rattle.pks_terms.specs.Syntax.{Literal, negated}
 use Rattle.pks_terms.proofs.ListLaws.{found_in, any_in, in_appended, in_map, in_mapped}
 use Rattle.pks_laws.proofs.Least.{in_left, in_right}
+use Rattle.pks_laws_forget.specs.Looks.{are_alike}
 
 pub not_twice : (b : Bool) → not (not b) ≡ b
 not_twice true = refl
@@ -68,3 +69,14 @@ replaced_too {X} P step other f (x ∷ xs) ys a i =
     let q = replaced_too P step other f xs r.0 a.1 r.1 in
     (in_right (map (λ y. y ∷ xs) (other x)) (map (λ zs. x ∷ zs) (one_replaced other xs)) ys (subst (λ zs. IsIn zs (map (λ zs. x ∷ zs) (one_replaced other xs))) r.2 (in_map (λ zs. x ∷ zs) (one_replaced other xs) r.0 q.0)), subst (Each P) r.2 (a.0, q.1)))
     (in_appended (map (λ y. y ∷ xs) (step x)) (map (λ zs. x ∷ zs) (one_replaced step xs)) ys i)
+
+-- ---- tests that come to the same
+
+pub both_ways : (a b : Bool) → (a ≡ true → b ≡ true) → (b ≡ true → a ≡ true) → a ≡ b
+both_ways true b f g = sym (f refl)
+both_ways false true f g = g refl
+both_ways false false f g = refl
+
+pub alike_same : (a b : Bool) → are_alike a b ≡ true → a ≡ b
+alike_same true b h = sym h
+alike_same false b h = sym (not-true b h)

@@ -1,5 +1,5 @@
 -- A history without some moments before looks has the same ends.
-use Rattle.std.proofs.Common.{◌≡◌, [], ◌∷◌, refl, sym, ap, inl, inr, ⊎_elim}
+use Rattle.std.proofs.Common.{◌≡◌, true, [], ◌∷◌, refl, sym, ap, inl, inr, ⊎_elim}
 use Rattle.pks_terms.specs.Sets.{Each}
 use Rattle.pks_terms.specs.Databases.{Five, AreSets}
 use Rattle.pks_terms.specs.Actions.{Instance}
@@ -9,27 +9,35 @@ use Rattle.pks_terms.specs.Problems.{Problem}
 use Rattle.pks_terms.specs.Saturated.{WithinAlong}
 use Rattle.pks_terms.specs.Settling.{History, last_of, last_moment}
 use Rattle.pks_terms.specs.Valid.{IsValid}
-use Rattle.pks_laws_forget.specs.Looks.{IsLook, AreWithout}
+use Rattle.pks_laws_forget.specs.Looks.{aims_are_told_alike, IsLook, AreWithout}
 use Rattle.pks_laws_forget.specs.Transparent.{AreSetsAlong}
-use Rattle.pks_laws_forget.proofs.Still.{Continues, left_family, told_family}
-use Rattle.pks_laws_forget.proofs.Thinned.{Steps, thin, fat, without_last}
+use Rattle.pks_laws_forget.proofs.Still.{Continues, ContinuesAlike, left_family, told_family}
+use Rattle.pks_laws_forget.proofs.Thinned.{Steps, thin, fat, without_last, without_weaker}
 use Rattle.pks_laws_forget.specs.Ends.{EndsAmong, HaveSameEnds}
 use Rattle.pks_laws_forget.proofs.Families.{at_objects_still}
 
-look_continues : (p : Problem) (d : Five) (i : Instance) (x : Five) → IsMomentOf p.signature d → AreSets d → IsLook p d i x → Continues p d i x
-look_continues p d i x m a k =
-    let still = at_objects_still p d m a (record { groups = k.of_objects; regions = k.at_objects }) in
-    record { effects = k.effects; known = k.known; groups = k.groups; regions = k.regions; still_groups = still.groups; still_regions = still.regions }
+-- a step that continues, and leaves what aims over time ask
+pub record Leaves (p : Problem) (d : Five) (i : Instance) (x : Five) : Type 0 where
+  pub goes : Continues p d i x
+  pub aims : aims_are_told_alike p d x ≡ true
 
-pub looks_continue : (p : Problem) (d : Five) (xs : Steps) (e : Five) (ys : Steps) → IsMomentOf p.signature d → Each (λ (x : Instance × Five). IsStepOf p x.0 × IsMomentOf p.signature x.1) xs → AreSets d → Each (λ (x : Instance × Five). AreSets x.1) xs
-    → AreWithout (IsLook p) d xs e ys → AreWithout (Continues p) d xs e ys
-looks_continue p d [] e [] m ms a bs k = k
-looks_continue p d [] e (y ∷ ys) m ms a bs k = absurd k
-looks_continue p d (x ∷ xs) e [] m ms a bs k = (look_continues p d x.0 x.1 m a k.0, looks_continue p x.1 xs e [] ms.0.1 ms.1 bs.0 bs.1 k.1)
-looks_continue p d (x ∷ xs) e (y ∷ ys) m ms a bs k =
+look_leaves : (p : Problem) (d : Five) (i : Instance) (x : Five) → IsMomentOf p.signature d → AreSets d → IsLook p d i x → Leaves p d i x
+look_leaves p d i x m a k =
+    let still = at_objects_still p d m a (record { groups = k.of_objects; regions = k.at_objects }) in
+    record {
+      goes = record { effects = k.effects; known = k.known; groups = k.groups; regions = k.regions; still_groups = still.groups; still_regions = still.regions };
+      aims = k.aims;
+    }
+
+pub looks_leave : (p : Problem) (d : Five) (xs : Steps) (e : Five) (ys : Steps) → IsMomentOf p.signature d → Each (λ (x : Instance × Five). IsStepOf p x.0 × IsMomentOf p.signature x.1) xs → AreSets d → Each (λ (x : Instance × Five). AreSets x.1) xs
+    → AreWithout (IsLook p) d xs e ys → AreWithout (Leaves p) d xs e ys
+looks_leave p d [] e [] m ms a bs k = k
+looks_leave p d [] e (y ∷ ys) m ms a bs k = absurd k
+looks_leave p d (x ∷ xs) e [] m ms a bs k = (look_leaves p d x.0 x.1 m a k.0, looks_leave p x.1 xs e [] ms.0.1 ms.1 bs.0 bs.1 k.1)
+looks_leave p d (x ∷ xs) e (y ∷ ys) m ms a bs k =
     ⊎_elim
-    (λ l. inl (look_continues p d x.0 x.1 m a l.0, looks_continue p x.1 xs e (y ∷ ys) ms.0.1 ms.1 bs.0 bs.1 l.1))
-    (λ l. inr (l.0, l.1, looks_continue p x.1 xs y.1 ys ms.0.1 ms.1 bs.0 bs.1 l.2)) k
+    (λ l. inl (look_leaves p d x.0 x.1 m a l.0, looks_leave p x.1 xs e (y ∷ ys) ms.0.1 ms.1 bs.0 bs.1 l.1))
+    (λ l. inr (l.0, l.1, looks_leave p x.1 xs y.1 ys ms.0.1 ms.1 bs.0 bs.1 l.2)) k
 
 module _ (p : Problem) (v : IsValid p) where
   -- a family in which moments are told twice ends as it did
@@ -42,11 +50,11 @@ module _ (p : Problem) (v : IsValid p) where
 
   pub looks_keep_ends : (h g : History) → AreMomentsOf p h → AreSetsAlong h → AreWithout (IsLook p) h.start h.steps g.start g.steps → (last_moment h ≡ last_moment g) × HaveSameEnds p h g
   looks_keep_ends h g m a looks =
-      let k = looks_continue p h.start h.steps g.start g.steps m.start m.steps a.start a.steps looks in
+      let k = without_weaker (Leaves p) (Continues p) (λ b i a k. k.goes) h.start h.steps g.start g.steps (looks_leave p h.start h.steps g.start g.steps m.start m.steps a.start a.steps looks) in
       let on : EndsAmong p h g = λ family f.
       let t = thin (Continues p) h.start h.steps g.start g.steps k family.start family.steps in
       let r = left_family p v.signature.values h.start h.steps g.start g.steps k family.start family.steps f.over f.closed in
-      (t, record { over = r.over; closed = r.closed }, ap (λ (d : Five). d.kf) (sym (without_last (Continues p) family.start family.steps t.start t.steps r.without))) in
+      (t, record { over = r.over; closed = r.closed }, ap (λ (d : Five). d.kf) (sym (without_last (ContinuesAlike p) family.start family.steps t.start t.steps r.without))) in
       let back : EndsAmong p g h = λ family f.
       let t = fat (Continues p) h.start h.steps g.start g.steps k family.start family.steps in
       let r = told_family p v.signature.values h.start h.steps g.start g.steps k family.start family.steps f.over f.closed in

@@ -6,7 +6,7 @@ use Rattle.pks_terms.specs.Sets.{IsIn, IsOrdered, set_of, with_others, with_late
 use Rattle.pks_terms.specs.Syntax.{Relation, Named, Equality, Term, Literal, negated}
 use Rattle.pks_terms.specs.Orders.{literal_cmp, conj_cmp}
 use Rattle.pks_terms.specs.Signatures.{HasValues}
-use Rattle.pks_terms.specs.Databases.{entry_cmp, Five}
+use Rattle.pks_terms.specs.Databases.{entry_cmp, Five, holds}
 use Rattle.pks_terms.specs.Closure.{applications_in, first_clash, rounds, normal_group, normal_entry, tidied, Next}
 use Rattle.pks_terms.specs.Actions.{Instance}
 use Rattle.pks_terms.specs.Branching.{Choice, Side, assumed, Assumes}
@@ -16,9 +16,11 @@ use Rattle.pks_terms.specs.Settling.{History, effects_of, lasting, lasted, fired
 use Rattle.pks_terms.specs.Saturated.{Within, IsSaturated, WithinAlong, ClosedAlong}
 use Rattle.pks_terms.proofs.ListLaws.{in_filter, in_filtered, in_appended}
 use Rattle.pks_laws.proofs.Belonging.{end_of}
-use Rattle.pks_laws.proofs.Least.{in_left, holds_grows}
+use Rattle.pks_laws.proofs.ClosedAgain.{holds-tidied}
+use Rattle.pks_laws.proofs.Least.{in_left, one_value, holds_grows}
 use Rattle.pks_laws.proofs.LeastFamily.{backward_within, settled_least}
 use Rattle.pks_laws.proofs.SettledEnd.{rounds_have_start, end_closed}
+use Rattle.pks_laws_forget.proofs.Lists.{both_ways}
 use Rattle.pks_laws_forget.proofs.Cut.{assumed_more, rounds_have, rounds_leave}
 use Rattle.pks_laws_forget.proofs.Ends.{AreOrdered, forget, forget_steps, rounds_ordered, rounds_forget, along_same, first_within, quiet_within, first_closed}
 use Rattle.pks_laws_forget.specs.Looks.{AreWithout}
@@ -32,6 +34,11 @@ pub record Continues (p : Problem) (d : Five) (i : Instance) (x : Five) : Type 0
   pub regions : d.lcw ≡ x.lcw
   pub still_groups : (kf : List Literal) → set_of conj_cmp (map (normal_group kf) d.kx) ≡ d.kx
   pub still_regions : (kf : List Literal) → set_of entry_cmp (map (normal_entry kf) d.lcw) ≡ d.lcw
+
+-- such a step of which the same holds at both moments, once they are tidied
+pub record ContinuesAlike (p : Problem) (d : Five) (i : Instance) (x : Five) : Type 0 where
+  pub goes : Continues p d i x
+  pub alike : (l : Literal) → holds p.signature (tidied d) l ≡ holds p.signature (tidied x) l
 
 module _ (p : Problem) (inhabited : HasValues p.signature) where
   -- ---- such a step hands all on, and back, and nothing else
@@ -123,6 +130,18 @@ module _ (p : Problem) (inhabited : HasValues p.signature) where
         still_regions = λ kf. subst (λ rs. set_of entry_cmp (map (normal_entry kf) rs) ≡ rs) w.0.2 (k.still_regions kf);
       }
 
+  -- and the same holds at both
+  same_holds : (f g : Five) → IsSaturated p.signature f → first_clash p.signature f ≡ None → IsSaturated p.signature g → first_clash p.signature g ≡ None → AreLike f g → (l : Literal) → holds p.signature (tidied f) l ≡ holds p.signature (tidied g) l
+  same_holds f g sat fine sat' fine' a l =
+      holds-tidied p.signature f (one_value p.signature f inhabited sat fine) l
+      ∙ both_ways _ _ (holds_grows p.signature g inhabited sat' fine' f a.into a.groups a.regions l) (holds_grows p.signature f inhabited sat fine g a.back (sym a.groups) (sym a.regions) l)
+      ∙ sym (holds-tidied p.signature g (one_value p.signature g inhabited sat' fine') l)
+
+  alike_next : (d : Five) (x : Instance × Five) (xs : Steps) (f : Five) (z : Instance × Five) (zs : Steps) → Continues p d x.0 x.1 → WithinAlong d (x ∷ xs) f (z ∷ zs) → ClosedAlong p f (z ∷ zs) → ContinuesAlike p f z.0 z.1
+  alike_next d x xs f z zs k w c =
+      let own = first_closed p inhabited z.1 zs c.3 in
+      record { goes = still_next d x xs f z zs k w c; alike = same_holds f z.1 c.0.0 c.0.1 own.0 own.1 (like_next d x xs f z zs k w c) }
+
   -- what comes back from the like moment
   pub back_alike : (f : Five) (i : Instance) (z r : Five) → IsSaturated p.signature f → first_clash p.signature f ≡ None → IsSaturated p.signature z → first_clash p.signature z ≡ None → AreLike z r → Within (backward p i f r) (backward p i f z)
   back_alike f i z r sat fine sat' fine' a =
@@ -132,7 +151,7 @@ module _ (p : Problem) (inhabited : HasValues p.signature) where
     pub like : AreLike f g.start
     pub over : WithinAlong e ys g.start g.steps
     pub closed : ClosedAlong p g.start g.steps
-    pub without : Without f zs g.start g.steps
+    pub without : AreWithout (ContinuesAlike p) f zs g.start g.steps
 
   pub left_family : (d : Five) (xs : Steps) (e : Five) (ys : Steps) (k : Without d xs e ys) (f : Five) (zs : Steps) → WithinAlong d xs f zs → ClosedAlong p f zs → IsLeft d xs e ys f zs (left d xs e ys k f zs)
   left_family d [] e [] k f [] w c = record { like = like_itself f; over = subst (λ x. WithinAlong x [] f []) k w; closed = c; without = refl }
@@ -146,7 +165,7 @@ module _ (p : Problem) (inhabited : HasValues p.signature) where
         like = like_through f z.1 t.start (like_next d x xs f z zs k.0 w c) r.like;
         over = r.over;
         closed = r.closed;
-        without = one_goes (Continues p) f z zs t.start t.steps (still_next d x xs f z zs k.0 w c) r.without;
+        without = one_goes (ContinuesAlike p) f z zs t.start t.steps (alike_next d x xs f z zs k.0 w c) r.without;
       }
   left_family d (x ∷ xs) e (y ∷ ys) (inl k) f (z ∷ zs) w c =
       let r = left_family x.1 xs e (y ∷ ys) k.1 z.1 zs w.2 c.3 in
@@ -155,7 +174,7 @@ module _ (p : Problem) (inhabited : HasValues p.signature) where
         like = like_through f z.1 t.start (like_next d x xs f z zs k.0 w c) r.like;
         over = r.over;
         closed = r.closed;
-        without = one_goes (Continues p) f z zs t.start t.steps (still_next d x xs f z zs k.0 w c) r.without;
+        without = one_goes (ContinuesAlike p) f z zs t.start t.steps (alike_next d x xs f z zs k.0 w c) r.without;
       }
   left_family d (x ∷ xs) e (y ∷ ys) (inr k) f (z ∷ zs) w c =
       let r = left_family x.1 xs y.1 ys k.2 z.1 zs w.2 c.3 in
@@ -267,8 +286,8 @@ module _ (p : Problem) (inhabited : HasValues p.signature) where
         (q.0 ∙ ap (λ (h : History). forget h.start) own ∙ sym g'.0) (q.1 ∙ ap (λ (h : History). forget_steps h.steps) own ∙ sym g'.1) in
         λ i. record { start = same.0 i; steps = same.1 i }
 
-    pub ends_without : AreOrdered d xs → settle_round p end ≡ end → clashes p.signature end ≡ false → settle_round p end' ≡ end' → Without end.start end.steps end'.start end'.steps
-    ends_without ordered fixed quiet fixed' = subst (λ (h : History). Without end.start end.steps h.start h.steps) (meets ordered fixed quiet fixed') (rest_is fixed quiet).without
+    pub ends_without : AreOrdered d xs → settle_round p end ≡ end → clashes p.signature end ≡ false → settle_round p end' ≡ end' → AreWithout (ContinuesAlike p) end.start end.steps end'.start end'.steps
+    ends_without ordered fixed quiet fixed' = subst (λ (h : History). AreWithout (ContinuesAlike p) end.start end.steps h.start h.steps) (meets ordered fixed quiet fixed') (rest_is fixed quiet).without
 
   -- ---- in normal form
 

@@ -19,7 +19,7 @@ use Rattle.pks_laws_forget.specs.Transparent.{AreObjects, IsOfObjects}
 use Rattle.pks_laws_forget.specs.Testing.{has, lasts_as_region}
 use Rattle.pks_laws_forget.proofs.Objects.{of_objects}
 use Rattle.pks_laws_forget.proofs.Tested.{equal_of, has_in, region_lasts}
-use Rattle.pks_laws_forget.specs.Looks.{IsLook, AreWithout, is_empty, has_group, lasts_in, is_look, behind, unlooked_from}
+use Rattle.pks_laws_forget.specs.Looks.{aims_are_told_alike, IsLook, AreWithout, is_empty, has_group, lasts_in, is_look, behind, unlooked_from}
 use Rattle.pks_laws_forget.proofs.Thinned.{Steps, one_goes}
 
 none_of : {X : Type 0} (xs : List X) → is_empty xs ≡ true → xs ≡ []
@@ -41,7 +41,8 @@ regions_there d e h = each_from_all (λ r. AreObjects (entry_terms r) × IsIn r 
 pub tested : (p : Problem) (before : Five) (i : Instance) (after : Five) → AreSets before → AreSets after → is_look p before i after ≡ true → IsLook p before i after
 tested p before i after a b h =
     let q = and_parts (is_empty (effects_of p i)) _ h in
-    let r = and_parts (list_all (has after) before.kf) _ q.1 in
+    let aims = and_parts (aims_are_told_alike p before after) _ q.1 in
+    let r = and_parts (list_all (has after) before.kf) _ aims.1 in
     let t = and_parts (lasts_in before after) _ r.1 in
     let groups = groups_there before after t.0 in
     let groups' = groups_there after before t.1 in
@@ -49,6 +50,7 @@ tested p before i after a b h =
     let regions' = regions_there after before t.1 in
     record {
       effects = none_of (effects_of p i) q.0;
+      aims = aims.0;
       known = λ l j. each_in (λ l. IsIn l after.kf) before.kf l (each_from_all (λ l. IsIn l after.kf) (has after) (has_in after) before.kf r.0) j;
       groups = same_members conj_cmp_total conj_cmp_tells before.kx after.kx a.groups b.groups
           (λ g j. (each_in (λ g. Each IsOfObjects g × IsIn g after.kx) before.kx g groups j).1) (λ g j. (each_in (λ g. Each IsOfObjects g × IsIn g before.kx) after.kx g groups' j).1);

@@ -163,9 +163,18 @@ module _ (Goes : Five → Instance → Five → Type 0) where
       front (z ∷ zs) f g = g
   without_ended m d (x ∷ xs) e (y ∷ ys) f (inr k) = inr (k.0, k.1, without_ended m x.1 xs y.1 ys f k.2)
 
-  -- at each moment something is done that keeps what goes
-  pub without_mapped : (t : Five → Five) → ((b : Five) (i : Instance) (a : Five) → Goes b i a → Goes (t b) i (t a)) → (d : Five) (xs : Steps) (e : Five) (ys : Steps) → AreWithout Goes d xs e ys
-      → AreWithout Goes (t d) (map (λ (x : Instance × Five). let r : Instance × Five = (x.0, t x.1) in r) xs) (t e) (map (λ (x : Instance × Five). let r : Instance × Five = (x.0, t x.1) in r) ys)
+module _ (P Q : Five → Instance → Five → Type 0) where
+  -- where each step of the one kind is one of the other
+  pub without_weaker : ((b : Five) (i : Instance) (a : Five) → P b i a → Q b i a) → (d : Five) (xs : Steps) (e : Five) (ys : Steps) → AreWithout P d xs e ys → AreWithout Q d xs e ys
+  without_weaker f d [] e [] k = k
+  without_weaker f d [] e (y ∷ ys) k = absurd k
+  without_weaker f d (x ∷ xs) e [] k = (f d x.0 x.1 k.0, without_weaker f x.1 xs e [] k.1)
+  without_weaker f d (x ∷ xs) e (y ∷ ys) (inl k) = inl (f d x.0 x.1 k.0, without_weaker f x.1 xs e (y ∷ ys) k.1)
+  without_weaker f d (x ∷ xs) e (y ∷ ys) (inr k) = inr (k.0, k.1, without_weaker f x.1 xs y.1 ys k.2)
+
+  -- at each moment something is done that makes steps of the one kind steps of the other
+  pub without_mapped : (t : Five → Five) → ((b : Five) (i : Instance) (a : Five) → P b i a → Q (t b) i (t a)) → (d : Five) (xs : Steps) (e : Five) (ys : Steps) → AreWithout P d xs e ys
+      → AreWithout Q (t d) (map (λ (x : Instance × Five). let r : Instance × Five = (x.0, t x.1) in r) xs) (t e) (map (λ (x : Instance × Five). let r : Instance × Five = (x.0, t x.1) in r) ys)
   without_mapped t f d [] e [] k = ap t k
   without_mapped t f d [] e (y ∷ ys) k = absurd k
   without_mapped t f d (x ∷ xs) e [] k = (f d x.0 x.1 k.0, without_mapped t f x.1 xs e [] k.1)

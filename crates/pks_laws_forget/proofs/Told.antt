@@ -30,9 +30,10 @@ use Rattle.pks_laws.proofs.ClosedAgain.{holds-tidied}
 use Rattle.pks_laws.proofs.Least.{in_left, literal_eq_itself, one_value, addition_in}
 use Rattle.pks_laws.proofs.NormalMembers.{normal_in}
 use Rattle.pks_laws_forget.specs.Transparent.{AreObjects, IsOfObjects, is_about, at_other_objects, IsTransparent, AreSetsAlong, with_first}
-use Rattle.pks_laws_forget.specs.Staying.{is_at_others, leaves, are_alike, literal_stays, is_said_in, says_more, query_stays, aim_stays, aims_stay}
-use Rattle.pks_laws_forget.specs.Looks.{is_empty}
+use Rattle.pks_laws_forget.specs.Staying.{is_at_others, leaves, literal_stays, is_said_in, says_more, query_stays, aim_stays, aims_stay}
+use Rattle.pks_laws_forget.specs.Looks.{are_alike, is_empty}
 use Rattle.pks_laws_forget.proofs.Alike.{found_known, holds_cases, known_holds, normal_relation, evident_equation}
+use Rattle.pks_laws_forget.proofs.Lists.{both_ways, alike_same}
 use Rattle.pks_laws_forget.proofs.Cut.{KeepsGoal, cut_kept, assumed_more, rounds_leave}
 use Rattle.pks_laws_forget.proofs.Ends.{forget, first_closed}
 use Rattle.pks_laws_forget.proofs.Tested.{equal_of}
@@ -121,15 +122,6 @@ module _ (s : Signature) (inhabited : HasValues s) (d : Five) (bare : d.lcw ≡ 
 -- the literal and its negation hold in both or in neither
 abbrev pub IsSame : Signature → Five → Five → Literal → Type 0
 IsSame s d e l = (holds s d l ≡ holds s e l) × (holds s d (negated l) ≡ holds s e (negated l))
-
-both_ways : (a b : Bool) → (a ≡ true → b ≡ true) → (b ≡ true → a ≡ true) → a ≡ b
-both_ways true b f g = sym (f refl)
-both_ways false true f g = g refl
-both_ways false false f g = refl
-
-alike_same : (a b : Bool) → are_alike a b ≡ true → a ≡ b
-alike_same true b h = sym h
-alike_same false b h = sym (not-true b h)
 
 module _ (p : Problem) (inhabited : HasValues p.signature) (i : Instance) where
   abbrev S : Signature

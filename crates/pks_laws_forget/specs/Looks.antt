@@ -1,23 +1,47 @@
 -- Looks: steps of a history by actions without effects. Such a step makes no moment of its own.
-use Rattle.std.specs.Prelude.{◌≡◌, ◌⊎◌, ◌&&◌, Bool, true, false, cond, List, [], ◌∷◌}
+use Rattle.std.specs.Prelude.{◌≡◌, ◌⊎◌, ◌&&◌, Bool, true, false, not, cond, List, [], ◌∷◌}
 use Rattle.std.specs.List.{list_all, list_any}
 use Rattle.std.specs.Ordering.{is_eq}
 use Rattle.pks_terms.specs.Sets.{Each}
 use Rattle.pks_terms.specs.Syntax.{Literal}
 use Rattle.pks_terms.specs.Orders.{conj_cmp}
-use Rattle.pks_terms.specs.Databases.{Five}
+use Rattle.pks_terms.specs.Signatures.{Signature}
+use Rattle.pks_terms.specs.Databases.{Five, holds}
+use Rattle.pks_terms.specs.Queries.{Plain, Know, KnowWhether, KnowValue}
 use Rattle.pks_terms.specs.Actions.{Instance}
 use Rattle.pks_terms.specs.Progress.{entry_terms}
-use Rattle.pks_terms.specs.Problems.{Problem}
+use Rattle.pks_terms.specs.Problems.{Aim, Now, AtStart, Always, Once, Problem}
 use Rattle.pks_terms.specs.Settling.{History, effects_of}
 use Rattle.pks_terms.specs.Saturated.{Within}
 use Rattle.pks_terms.specs.Objects.{is_of_objects}
 use Rattle.pks_laws_forget.specs.Transparent.{AreObjects, IsOfObjects}
 use Rattle.pks_laws_forget.specs.Testing.{has, lasts_as_region}
 
--- the action has no effects, what was known before is known after, and groups and regions are the same and speak of objects alone
+-- both or neither
+abbrev pub are_alike : Bool → Bool → Bool
+are_alike a b = cond a b (not b)
+
+-- it is asked whether a literal is known, and this is told alike by both
+abbrev pub is_told_alike : Signature → Five → Five → Plain → Bool
+is_told_alike s d e (Know l) = are_alike (holds s d l) (holds s e l)
+is_told_alike s d e (KnowWhether c) = false
+is_told_alike s d e (KnowValue t) = false
+
+-- so of an aim, unless it is one of the last moment
+abbrev pub aim_is_told_alike : Signature → Five → Five → Aim → Bool
+aim_is_told_alike s d e (Now q) = true
+aim_is_told_alike s d e (AtStart q) = is_told_alike s d e q.asks
+aim_is_told_alike s d e (Always q) = is_told_alike s d e q.asks
+aim_is_told_alike s d e (Once q) = is_told_alike s d e q.asks
+
+-- so with each aim of the problem
+abbrev pub aims_are_told_alike : Problem → Five → Five → Bool
+aims_are_told_alike p d e = list_all (aim_is_told_alike p.signature d e) p.goal
+
+-- the action has no effects, aims over time are told alike before and after, what was known before is known after, and groups and regions are the same and speak of objects alone
 pub record IsLook (p : Problem) (before : Five) (i : Instance) (after : Five) : Type 0 where
   pub effects : effects_of p i ≡ []
+  pub aims : aims_are_told_alike p before after ≡ true
   pub known : Within before.kf after.kf
   pub groups : before.kx ≡ after.kx
   pub regions : before.lcw ≡ after.lcw
@@ -48,7 +72,7 @@ lasts_in d e = list_all (has_group e) d.kx && list_all (lasts_as_region e) d.lcw
 
 -- the step is a look
 abbrev pub is_look : Problem → Five → Instance → Five → Bool
-is_look p before i after = is_empty (effects_of p i) && (list_all (has after) before.kf && (lasts_in before after && lasts_in after before))
+is_look p before i after = is_empty (effects_of p i) && (aims_are_told_alike p before after && (list_all (has after) before.kf && (lasts_in before after && lasts_in after before)))
 
 -- the history behind a first moment
 abbrev pub behind : Five → Instance → History → History

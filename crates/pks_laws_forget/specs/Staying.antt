@@ -1,5 +1,5 @@
 -- Aims over time that a step leaves as they are: what they ask is told alike by the moment before it and by the one after.
-use Rattle.std.specs.Prelude.{Bool, true, false, cond, not, ◌&&◌, ◌||◌, List}
+use Rattle.std.specs.Prelude.{Bool, true, false, not, ◌&&◌, ◌||◌, List}
 use Rattle.std.specs.List.{list_any, list_all}
 use Rattle.pks_terms.specs.Syntax.{Term, Literal, negated}
 use Rattle.pks_terms.specs.Orders.{literal_eq}
@@ -11,7 +11,7 @@ use Rattle.pks_terms.specs.Problems.{Aim, Now, AtStart, Always, Once, Problem}
 use Rattle.pks_terms.specs.Settling.{effects_of}
 use Rattle.pks_terms.specs.Objects.{is_of_objects}
 use Rattle.pks_laws_forget.specs.Transparent.{is_about, at_other_objects}
-use Rattle.pks_laws_forget.specs.Looks.{is_empty}
+use Rattle.pks_laws_forget.specs.Looks.{are_alike, is_empty}
 
 -- the target makes an atom at other objects true or false
 abbrev pub is_at_others : Target → List Term → Bool
@@ -23,10 +23,6 @@ is_at_others (Assign f us value) ts = false
 -- the target is of another predicate than the literal, or at other objects
 abbrev pub leaves : Literal → Target → Bool
 leaves l x = not (is_about l.relation x) || is_at_others x l.arguments
-
--- both or neither
-abbrev pub are_alike : Bool → Bool → Bool
-are_alike a b = cond a b (not b)
 
 -- the literal is of a predicate at objects, no effect is of it, and it and its negation are told alike
 abbrev pub literal_stays : Signature → List Effect → Five → Five → Literal → Bool
