@@ -8,6 +8,8 @@ use Rattle.pks_terms.specs.Trees.{Tree, Goal}
 use Rattle.pks_terms.specs.Views.{problem_of}
 use Rattle.pks_terms.specs.Sets.{Each}
 use Rattle.pks_terms.specs.Versions.{IsNow}
+use Rattle.pks_laws_forget.specs.Looks.{without_looks}
+use Rattle.pks_laws_forget.specs.Transparent.{AreSetsAlong}
 use Rattle.pks_history_forget.specs.Same.{HasSameTrees, without_unasked}
 use Rattle.pks_search.specs.Limits.{IsBestWithin}
 use Rattle.pks_search.specs.Ready.{IsReady}
@@ -16,8 +18,8 @@ use Rattle.pks_search.proofs.Leaving.{left_read}
 use Rattle.pks_search.proofs.Unasked.{twins_left}
 
 -- the trees within a depth and a limit are among all
-pub all_within : (p : Problem) (h rest : History) (n limit : ℕ) → HasSameTrees p h rest → ((Each IsNow p.goal → ⊥) → rest ≡ without_unasked p h) → HasTreesWithin p h rest n limit
-all_within p h rest n limit same asked = record { moments = same.moments; short = same.short; left = same.left; twins = twins_left p h rest asked; trees = λ t deep cheap. same.trees t }
+pub all_within : (p : Problem) (h rest : History) (n limit : ℕ) → HasSameTrees p h rest → AreSetsAlong h → ((Each IsNow p.goal → ⊥) → rest ≡ without_unasked p (without_looks p h)) → HasTreesWithin p h rest n limit
+all_within p h rest n limit same sets asked = record { moments = same.moments; short = same.short; left = same.left; twins = twins_left p h rest sets asked; trees = λ t deep cheap. same.trees t }
 
 -- the search may go on from it
 pub rest_ready : (p : DProblem) (h rest : History) (m n limit : ℕ) → HasTreesWithin (problem_of p) h rest n limit → IsReady p h m n → IsReady p rest m n

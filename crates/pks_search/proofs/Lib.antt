@@ -12,5 +12,7 @@ pub mod Starting
 pub mod Witnessed
 pub mod Straight
 pub mod Unmet
+pub mod OtherGoal
+pub mod Shelving
 pub mod Twinned
 pub mod Unasked

@@ -18,6 +18,10 @@ use Rattle.pks_terms.specs.Objects.{is_object, are_objects, is_of_objects}
 use Rattle.pks_laws.proofs.Holding.{true_in-negated}
 use Rattle.pks_laws.proofs.Doing.{effects_do}
 use Rattle.pks_laws_forget.specs.Transparent.{at_other_objects}
+use Rattle.pks_laws_forget.specs.Looks.{IsLook, AreWithout, without_looks}
+use Rattle.pks_laws_forget.specs.Transparent.{AreSetsAlong}
+use Rattle.pks_laws_forget.proofs.TestedLooks.{unlooked_without}
+use Rattle.pks_laws_forget.proofs.Worlds.{both_without, same_present}
 use Rattle.pks_laws_forget.specs.Staying.{leaves, literal_stays, aim_stays, aims_stay}
 use Rattle.pks_history_forget.specs.Same.{may_go, asked_from, without_unasked}
 use Rattle.pks_search_distance.specs.Counted.{are_apart, may_make, may_meet}
@@ -134,6 +138,20 @@ module _ (p : Problem) where
   pub no_plain_twins : (h : History) (v v' : World) → Each IsNow p.goal → MayBeTwins p h v v' → ⊥
   no_plain_twins h v v' plain m = each_in IsNow p.goal _ plain m.apart.1
 
+  -- a look changes no world
+  unlooked_twins : (h g : History) (v v' : World) → AreWithout (IsLook p) h.start h.steps g.start g.steps → MayBeTwins p h v v' → MayBeTwins p g v v'
+  unlooked_twins h g v v' k m = record {
+    first = m.first;
+    second = m.second;
+    both = both_without p m.first m.second h g k m.both;
+    apart = m.apart;
+    leads = sym (same_present p m.first h.start h.steps g.start g.steps k) ∙ m.leads;
+    leads' = sym (same_present p m.second h.start h.steps g.start g.steps k) ∙ m.leads';
+  }
+
   -- twins at a history are twins at what is left of it
-  pub twins_left : (h rest : History) → ((Each IsNow p.goal → ⊥) → rest ≡ without_unasked p h) → (v v' : World) → MayBeTwins p h v v' → MayBeTwins p rest v v'
-  twins_left h rest asked v v' m = subst (λ g. MayBeTwins p g v v') (sym (asked (λ plain. no_plain_twins h v v' plain m))) (asked_twins h.start h.steps v v' m)
+  pub twins_left : (h rest : History) → AreSetsAlong h → ((Each IsNow p.goal → ⊥) → rest ≡ without_unasked p (without_looks p h)) → (v v' : World) → MayBeTwins p h v v' → MayBeTwins p rest v v'
+  twins_left h rest sets asked v v' m =
+      let g = without_looks p h in
+      subst (λ k. MayBeTwins p k v v') (sym (asked (λ plain. no_plain_twins h v v' plain m)))
+      (asked_twins g.start g.steps v v' (unlooked_twins h g v v' (unlooked_without p h.start h.steps sets.start sets.steps) m))

@@ -3,6 +3,7 @@ pub mod Ready
 pub mod Near
 pub mod Twins
 pub mod Straight
+pub mod Shelves
 pub mod Spots
 pub mod Fewer
 pub mod Sides

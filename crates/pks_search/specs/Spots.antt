@@ -6,6 +6,7 @@ use Rattle.pks_terms.specs.Views.{problem_of}
 use Rattle.pks_search_nogoods.specs.Failing.{AreRight}
 use Rattle.pks_search_nogoods.specs.Noted.{AreFound}
 use Rattle.pks_search.specs.Ready.{IsReady}
+use Rattle.pks_search.specs.Shelves.{IsShelved}
 use Rattle.pks_search_distance.specs.Remembered.{AreItsDeeds}
 use Rattle.pks_search.specs.Near.{IsNear}
 use Rattle.pks_search.specs.Twins.{AreTwins}
@@ -23,3 +24,4 @@ pub record AreSo (p : Problem) (x : Notes) : Type 0 where
   pub deeds : IfSome x.deeds (AreItsDeeds p)
   pub failures : AreRight p x.failures
   pub finds : AreFound p x.finds
+  pub shelf : Each (IsShelved p) x.shelf.items

@@ -1,70 +1,137 @@
-//! The problem without the aims that are met for good from the start. `docs/RULES.md` says when they are.
-ghost use Rattle.std.specs.Prelude.{◌≡◌, IfOk, map};
-ghost use Rattle.std.specs.List.{list_any};
-ghost use Rattle.pks_terms.specs.Views.{aim_of, query_of, signature_of};
+//! A problem without the aims that a history meets for good. `docs/RULES.md` says when it does.
+ghost use Rattle.std.specs.Prelude.{◌≡◌, ◌||◌, IsTrue, IfOk, map};
+ghost use Rattle.std.specs.List.{list_any, list_all};
+ghost use Rattle.pks_terms.specs.Aims.{moments};
+ghost use Rattle.pks_terms.specs.Databases.{holds};
+ghost use Rattle.pks_terms.specs.Syntax.{negated};
+ghost use Rattle.pks_terms.specs.Views.{literals_in, aim_of, query_of, signature_of};
 ghost use Rattle.pks_query_lookup.specs.Fives.{five_of};
 ghost use Rattle.pks_laws_forget.specs.Fewer.{is_held, is_met_for_good};
-ghost use Rattle.pks_search.specs.Fewer.{unmet_aims, with_unmet};
+ghost use Rattle.pks_search.specs.Fewer.{unmet_aims, with_goal};
 
 use crate::copying::{same_init, same_names, same_schemas, same_signature};
+use pks_history::histories::History;
 use pks_query::databases::Db;
+use pks_search_symmetry::same_query;
+use pks_terms::literal::Literal;
 use pks_terms::problem::{Aim, AimList, Problem, Signature};
 use pks_terms::schema::Query;
 use pks_terms::sequence::Sequence;
+use pks_terms::term::front;
 use std::alloc::{AllocError, Global};
 
-/// Whether the query asks for a literal that the databases know.
+/// Whether each of the literals is derived true or false.
+fn are_told(s: &Signature, d: &Db, literals: &[Literal]) -> bool
+    ensures { result ≡ list_all (λ l. holds (signature_of s.now) (five_of d.now) l || holds (signature_of s.now) (five_of d.now) (negated l)) (literals_in literals.now) }
+{
+    for l in literals {
+        if !(d.known(s, l) || d.denies(s, l)) {
+            return false;
+        }
+    }
+    true
+}
+
+/// Whether the query asks for a literal that the databases know, or about a formula that literals decide.
 fn is_held(s: &Signature, d: &Db, q: &Query) -> bool
     ensures { result ≡ is_held (signature_of s.now) (five_of d.now) (query_of q.now) }
 {
     match q {
         Query::K(l) => d.known(s, l),
-        Query::Kw(_) | Query::Kv(_) | Query::NotK(_) | Query::NotKw(_) | Query::NotKv(_) => false,
+        Query::Kw(c) => {
+            let literals = front(&c.literals, c.n);
+            d.some_denied(s, literals) || are_told(s, d, literals)
+        }
+        Query::Kv(_) | Query::NotK(_) | Query::NotKw(_) | Query::NotKv(_) => false,
     }
 }
 
-/// Whether the databases meet the aim for good.
-fn is_met_for_good(s: &Signature, d: &Db, aim: &Aim) -> bool
-    ensures { result ≡ is_met_for_good (signature_of s.now) (five_of d.now) (aim_of aim.now) }
+/// Whether so it is at some moment.
+fn is_held_once(s: &Signature, h: &History, q: &Query) -> bool
+    ensures { result ≡ list_any (λ d. is_held (signature_of s.now) d (query_of q.now)) (moments h.now) }
 {
-    match aim {
-        Aim::AtStart(q) | Aim::Once(q) => is_held(s, d, q),
-        Aim::Now(_) | Aim::Always(_) => false,
-    }
-}
-
-/// Whether they meet some aim for good.
-pub(crate) fn some_is_met(s: &Signature, d: &Db, aims: &[Aim]) -> bool
-    ensures { result ≡ list_any (is_met_for_good (signature_of s.now) (five_of d.now)) (map aim_of aims.now) }
-{
-    for aim in aims {
-        if is_met_for_good(s, d, aim) {
+    for moment in 0..h.len() {
+        if is_held(s, h.at(moment), q) {
             return true;
         }
     }
     false
 }
 
-/// The aims that they don't meet for good.
-fn unmet_aims(alloc: Global, s: &Signature, d: &Db, aims: &[Aim]) -> Result<AimList, AllocError>
-    ensures { IfOk result (λ others. others ≡ unmet_aims (signature_of s.now) (five_of d.now) aims.now) }
+/// Whether the history meets the aim for good.
+fn is_met_for_good(s: &Signature, h: &History, aim: &Aim) -> bool
+    ensures { result ≡ is_met_for_good (signature_of s.now) h.now (aim_of aim.now) }
+{
+    match aim {
+        Aim::AtStart(q) => is_held(s, h.at(0), q),
+        Aim::Once(q) => is_held_once(s, h, q),
+        Aim::Now(_) | Aim::Always(_) => false,
+    }
+}
+
+/// Whether it meets some aim for good.
+pub(crate) fn some_is_met(s: &Signature, h: &History, aims: &[Aim]) -> bool
+    ensures { result ≡ list_any (is_met_for_good (signature_of s.now) h.now) (map aim_of aims.now) }
+{
+    for aim in aims {
+        if is_met_for_good(s, h, aim) {
+            return true;
+        }
+    }
+    false
+}
+
+/// The aims that it doesn't meet for good.
+pub(crate) fn unmet_aims(
+    alloc: Global,
+    s: &Signature,
+    h: &History,
+    aims: &[Aim],
+) -> Result<AimList, AllocError>
+    ensures { IfOk result (λ others. others ≡ unmet_aims (signature_of s.now) h.now aims.now) }
 {
     let mut others = Vec::new(alloc);
     for aim in aims {
-        if !is_met_for_good(s, d, aim) {
+        if !is_met_for_good(s, h, aim) {
             others.push(*aim)?;
         }
     }
     Ok(Sequence::of(others))
 }
 
-/// The problem without the aims that these databases meet for good.
-pub(crate) fn without_met<'s>(
+/// Whether the aims are the same.
+fn same_aim(a: &Aim, b: &Aim) -> bool
+    ensures { IsTrue result → aim_of a.now ≡ aim_of b.now }
+{
+    match (a, b) {
+        (Aim::Now(q), Aim::Now(r)) => same_query(q, r),
+        (Aim::AtStart(q), Aim::AtStart(r)) => same_query(q, r),
+        (Aim::Always(q), Aim::Always(r)) => same_query(q, r),
+        (Aim::Once(q), Aim::Once(r)) => same_query(q, r),
+        _ => false,
+    }
+}
+
+/// Whether they are the same, each after each.
+pub(crate) fn same_aims(some: &[Aim], others: &[Aim]) -> bool
+    ensures { IsTrue result → map aim_of some.now ≡ map aim_of others.now }
+{
+    match some {
+        [] => others.is_empty(),
+        [a, some @ ..] => match others {
+            [] => false,
+            [b, others @ ..] => same_aim(a, b) && same_aims(some, others),
+        },
+    }
+}
+
+/// The problem with these aims alone.
+pub(crate) fn with_goal<'s>(
     alloc: Global,
     p: &Problem<'s>,
-    d: &Db,
+    goal: AimList,
 ) -> Result<Problem<'s>, AllocError>
-    ensures { IfOk result (λ fewer. fewer ≡ with_unmet p.now (five_of d.now)) }
+    ensures { IfOk result (λ other. other ≡ with_goal p.now goal) }
 {
     Ok(Problem {
         version: p.version,
@@ -74,6 +141,6 @@ pub(crate) fn without_met<'s>(
         init: same_init(alloc, p.init.as_slice())?,
         init_span: p.init_span,
         problem_span: p.problem_span,
-        goal: unmet_aims(alloc, &p.signature, d, p.goal.as_slice())?,
+        goal,
     })
 }

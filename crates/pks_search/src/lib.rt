@@ -8,6 +8,7 @@ mod nearing;
 mod parts;
 mod rising;
 pub mod searching;
+mod shelves;
 mod spots;
 mod twinning;
 mod within;

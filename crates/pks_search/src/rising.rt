@@ -16,12 +16,12 @@ use std::alloc::AllocError;
 /// The best tree that is derived at the history and no deeper than `full`, or `None` where there is none. The search goes
 /// from depth `n` on, and stops where deeper trees would cost more than the tree that was found. It asks that the best tree
 /// costs at most `limit`, unless one no deeper than `n` does. The error is want of memory.
-pub(crate) fn best_rising(
-    spot: &Spot<'_, '_>,
+pub(crate) fn best_rising<'s>(
+    spot: &Spot<'_, 's>,
     n: u32,
     full: u32,
     limit: u32,
-    notes: &mut Notes,
+    notes: &mut Notes<'s>,
 ) -> Result<Option<Tree>, AllocError>
     requires spot { MayGoOn spot.now full }
     requires within { n ≤ full }

@@ -13,7 +13,7 @@ ghost use Rattle.pks_query_lookup.specs.Fives.{five_of};
 ghost use Rattle.pks_plan.specs.TreeViews.{tree_of};
 ghost use Rattle.pks_terms.specs.Remembering.{RemembersPast};
 
-use crate::fewer::{some_is_met, without_met};
+use crate::fewer::{some_is_met, unmet_aims, with_goal};
 use crate::nearing::Start;
 use crate::rising::best_rising;
 use crate::spots::{Notes, Spot};
@@ -68,7 +68,7 @@ pub fn best_from(
     best_of_unmet(alloc, p, start, depth)
 }
 
-/// The same, searched without the aims that are met for good.
+/// The same, searched without the aims that the start meets for good.
 fn best_of_unmet(
     alloc: Global,
     p: &Problem<'_>,
@@ -81,41 +81,45 @@ fn best_of_unmet(
     requires start { Closes (problem_of p.now).signature (initial (problem_of p.now)) (Next (five_of start)) }
     ensures { IfOk result (λ o. IsBest (problem_of p.now) depth (option_map tree_of o)) }
 {
-    if !some_is_met(&p.signature, &start, p.goal.as_slice()) {
-        return best_of_all(alloc, p, start, depth);
+    let h = History::start(alloc, start)?;
+    if !some_is_met(&p.signature, &h, p.goal.as_slice()) {
+        return best_of_all(alloc, p, &h, depth);
     }
-    let fewer = without_met(alloc, p, &start)?;
-    best_of_all(alloc, &fewer, start, depth)
+    let goal = unmet_aims(alloc, &p.signature, &h, p.goal.as_slice())?;
+    let fewer = with_goal(alloc, p, goal)?;
+    best_of_all(alloc, &fewer, &h, depth)
 }
 
-/// The same, with each aim of the problem.
+/// The same from the history of the start alone, with each aim of the problem.
 fn best_of_all(
     alloc: Global,
     p: &Problem<'_>,
-    start: Db,
+    h: &History,
     depth: u8,
 ) -> Result<Option<Tree>, AllocError>
     requires valid { IsValidProblem p.now }
     requires depth { depth ≤ 16 }
     requires justified { unjustified (problem_of p.now) ≡ [] }
-    requires start { Closes (problem_of p.now).signature (initial (problem_of p.now)) (Next (five_of start)) }
+    requires start { Closes (problem_of p.now).signature (initial (problem_of p.now)) (Next h.now.start) }
+    requires alone { h.now.steps ≡ [] }
     ensures { IfOk result (λ o. IsBest (problem_of p.now) depth (option_map tree_of o)) }
 {
-    let h = History::start(alloc, start)?;
     let first = Start::of(alloc, p)?;
     let Start { near, deeds } = first;
     let twins = twins_of(alloc, p)?;
     let failures = Failures::new(alloc, p)?;
     let finds = Finds::new(alloc)?;
+    let shelf = Vec::new(alloc);
     let mut notes = Notes {
         deeds,
         failures,
         finds,
+        shelf,
     };
     let spot = Spot {
         alloc,
         problem: p,
-        history: &h,
+        history: h,
         unread: 0,
         near: near.as_slice(),
         twins: twins.as_slice(),

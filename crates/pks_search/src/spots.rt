@@ -8,6 +8,7 @@ ghost use Rattle.pks_search.specs.Straight.{last_alone, HasTreesWithin, LastFail
 ghost use Rattle.pks_search.specs.Spots.{MayGoOn};
 
 use crate::nearing::is_tight;
+use crate::shelves::Shelved;
 use pks_history::histories::History;
 use pks_history_forget::{are_now, cut};
 use pks_search_distance::Deeds;
@@ -30,13 +31,25 @@ pub(crate) struct Spot<'a, 's> {
     pub(crate) twins: &'a [Twins],
 }
 
-/// What a search takes along: the ground actions by which bounds are counted, or none, and the failures and the best trees
-/// that it met.
+/// What a search takes along: the ground actions by which bounds are counted, or none, the failures and the best trees that it
+/// met, and the same for problems with fewer aims.
 #[derive(Drop)]
-pub(crate) struct Notes {
+pub(crate) struct Notes<'s> {
     pub(crate) deeds: Option<Deeds>,
     pub(crate) failures: Failures,
     pub(crate) finds: Finds,
+    pub(crate) shelf: Vec<Shelved<'s>>,
+}
+
+/// While no more problems with fewer aims than this are kept, there may be one more: three aims leave as many.
+const MOST_SHELVED: usize = 7;
+
+impl Notes<'_> {
+    /// Whether aims are left out on the way: what fails there serves no images among the failures of other aims, so it is done
+    /// where no two objects are alike, and while few problems are kept.
+    pub(crate) fn leave_aims_out(&self) -> bool {
+        self.failures.serve_no_images() && self.shelf.len() <= MOST_SHELVED
+    }
 }
 
 /// What the first witness and the twins become by an action.
@@ -64,6 +77,7 @@ pub(crate) fn left_of(spot: &Spot<'_, '_>, n: u32, limit: u32) -> Result<History
     if is_tight(spot.near, n.min(limit)) && are_now(spot.problem.goal.as_slice()) {
         return last_alone(spot.alloc, spot.history);
     }
+    spot.history.in_order();
     let rest = cut(spot.alloc, spot.problem, spot.history)?;
     Ok(rest)
 }

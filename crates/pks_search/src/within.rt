@@ -16,10 +16,12 @@ ghost use Rattle.pks_search.specs.Near.{AreNearAfter};
 ghost use Rattle.pks_search.specs.Twins.{AreTwinsAfter};
 ghost use Rattle.pks_search.specs.Spots.{MayGoOn, AreSo};
 
+use crate::fewer::{some_is_met, unmet_aims};
 use crate::nearing::{
     all_witnesses, is_beyond, is_first_on, is_tight, near_after, on_side, others_of,
 };
 use crate::parts::{act, branch_of, cases, side_on};
+use crate::shelves::{Shelved, Taken, shelf_with, take};
 use crate::spots::{Notes, Spot, WorldsAfter, last_fails, left_of};
 use crate::twinning::{some_met, twins_after, twins_on};
 use pks_branch::assuming::assume;
@@ -38,15 +40,16 @@ use pks_terms::literal::Conj;
 use pks_terms::schema::Instance;
 use pks_terms::term::{Term, front};
 use std::alloc::AllocError;
+use std::mem::replace;
 
 /// The best tree that is derived at the history, no deeper than `n`, and costs at most `limit`; `None` where there is none.
 /// It asks for a history of the problem to which `n` more moments may be added. The error is want of memory.
 #[cycle(searching)]
-pub(crate) fn best_within(
-    spot: &Spot<'_, '_>,
+pub(crate) fn best_within<'s>(
+    spot: &Spot<'_, 's>,
     n: u32,
     limit: u32,
-    notes: &mut Notes,
+    notes: &mut Notes<'s>,
 ) -> Result<Option<Tree>, AllocError>
     requires spot { MayGoOn spot.now n }
     requires notes { AreSo (problem_of spot.now.problem.now) notes.now }
@@ -65,13 +68,90 @@ pub(crate) fn best_within(
     best_unmet(spot, n, limit, notes)
 }
 
-/// The same where the goal isn't met: what plays no part is let go of first, since without it the same trees are derived.
+/// The same where the goal isn't met: aims that are met for good play no part any more, and may be left out first.
 #[cycle(searching)]
-fn best_unmet(
-    spot: &Spot<'_, '_>,
+fn best_unmet<'s>(
+    spot: &Spot<'_, 's>,
     n: u32,
     limit: u32,
-    notes: &mut Notes,
+    notes: &mut Notes<'s>,
+) -> Result<Option<Tree>, AllocError>
+    requires spot { MayGoOn spot.now n }
+    requires unmet { met (problem_of spot.now.problem.now) spot.now.history.now ≡ false }
+    requires some { 1 ≤ n }
+    requires notes { AreSo (problem_of spot.now.problem.now) notes.now }
+    ensures best { IfOk result (λ o. IsBestWithin (problem_of spot.now.problem.now) (At spot.now.history.now) n limit (option_map tree_of o)) }
+    ensures notes { AreSo (problem_of spot.now.problem.now) notes.new }
+{
+    if notes.leave_aims_out()
+        && some_is_met(
+            &spot.problem.signature,
+            spot.history,
+            spot.problem.goal.as_slice(),
+        )
+    {
+        return best_of_fewer(spot, n, limit, notes);
+    }
+    best_of_left(spot, n, limit, notes)
+}
+
+/// The same without the aims that are met for good, by what was taken along for those that are left. No twins are: an aim that is
+/// left out may be what tells them apart.
+#[cycle(searching)]
+fn best_of_fewer<'s>(
+    spot: &Spot<'_, 's>,
+    n: u32,
+    limit: u32,
+    notes: &mut Notes<'s>,
+) -> Result<Option<Tree>, AllocError>
+    requires spot { MayGoOn spot.now n }
+    requires unmet { met (problem_of spot.now.problem.now) spot.now.history.now ≡ false }
+    requires some { 1 ≤ n }
+    requires notes { AreSo (problem_of spot.now.problem.now) notes.now }
+    ensures best { IfOk result (λ o. IsBestWithin (problem_of spot.now.problem.now) (At spot.now.history.now) n limit (option_map tree_of o)) }
+    ensures notes { AreSo (problem_of spot.now.problem.now) notes.new }
+{
+    let goal = unmet_aims(
+        spot.alloc,
+        &spot.problem.signature,
+        spot.history,
+        spot.problem.goal.as_slice(),
+    )?;
+    let shelf = replace(&mut notes.shelf, Vec::new(spot.alloc));
+    let taken = take(spot.alloc, spot.problem, goal, shelf)?;
+    let Taken { own, others } = taken;
+    let Shelved {
+        problem,
+        deeds,
+        failures,
+        finds,
+    } = own;
+    let mut fewer = Notes {
+        deeds,
+        failures,
+        finds,
+        shelf: others,
+    };
+    let there = Spot {
+        alloc: spot.alloc,
+        problem: &problem,
+        history: spot.history,
+        unread: spot.unread,
+        near: spot.near,
+        twins: &[],
+    };
+    let found = best_of_left(&there, n, limit, &mut fewer)?;
+    notes.shelf = shelf_with(problem, fewer)?;
+    Ok(found)
+}
+
+/// The same where no aim is left out: what plays no part is let go of first, since without it the same trees are derived.
+#[cycle(searching)]
+fn best_of_left<'s>(
+    spot: &Spot<'_, 's>,
+    n: u32,
+    limit: u32,
+    notes: &mut Notes<'s>,
 ) -> Result<Option<Tree>, AllocError>
     requires spot { MayGoOn spot.now n }
     requires unmet { met (problem_of spot.now.problem.now) spot.now.history.now ≡ false }
@@ -95,11 +175,11 @@ fn best_unmet(
 /// The same at what is left of a history: a failure in the table tells that there is none, and a find what is the best.
 /// What is found, or found to fail, is noted. So histories that differ in what was let go of share their failures and finds.
 #[cycle(searching)]
-fn best_of_rest(
-    spot: &Spot<'_, '_>,
+fn best_of_rest<'s>(
+    spot: &Spot<'_, 's>,
     n: u32,
     limit: u32,
-    notes: &mut Notes,
+    notes: &mut Notes<'s>,
 ) -> Result<Option<Tree>, AllocError>
     requires spot { MayGoOn spot.now n }
     requires unmet { met (problem_of spot.now.problem.now) spot.now.history.now ≡ false }
@@ -138,11 +218,11 @@ fn best_of_rest(
 /// The same where the goal isn't met, with `n` for what follows a choice: over the choices in order, where a later tree is
 /// better only if it costs less than the one that was found.
 #[cycle(searching)]
-fn best_of_choices(
-    spot: &Spot<'_, '_>,
+fn best_of_choices<'s>(
+    spot: &Spot<'_, 's>,
     n: u32,
     limit: u32,
-    notes: &mut Notes,
+    notes: &mut Notes<'s>,
 ) -> Result<Option<Tree>, AllocError>
     requires spot { MayGoOn spot.now (n + 1) }
     requires unmet { met (problem_of spot.now.problem.now) spot.now.history.now ≡ false }
@@ -165,12 +245,12 @@ fn best_of_choices(
 
 /// The best tree with the choice at its root.
 #[cycle(searching)]
-fn best_by_choice(
-    spot: &Spot<'_, '_>,
+fn best_by_choice<'s>(
+    spot: &Spot<'_, 's>,
     n: u32,
     limit: u32,
     c: &Choice,
-    notes: &mut Notes,
+    notes: &mut Notes<'s>,
 ) -> Result<Option<Tree>, AllocError>
     requires spot { MayGoOn spot.now (n + 1) }
     requires chosen { IsIn (choice_of c.now) (choices (problem_of spot.now.problem.now) (last_moment spot.now.history.now)) }
@@ -188,12 +268,12 @@ fn best_by_choice(
 /// The best tree with the action at its root. There is none where some twins become one world by it: both come to the same leaf,
 /// at which the aim that tells them apart isn't met.
 #[cycle(searching)]
-fn best_by_action(
-    spot: &Spot<'_, '_>,
+fn best_by_action<'s>(
+    spot: &Spot<'_, 's>,
     n: u32,
     limit: u32,
     step: &Instance,
-    notes: &mut Notes,
+    notes: &mut Notes<'s>,
 ) -> Result<Option<Tree>, AllocError>
     requires spot { MayGoOn spot.now (n + 1) }
     requires chosen { IsIn (instance_of step.now) (instances (problem_of spot.now.problem.now) (last_moment spot.now.history.now)) }
@@ -234,13 +314,13 @@ fn best_by_action(
 /// The best tree after the action, with what the first witness and the twins become by it: the other witnesses are asked before the
 /// search goes on.
 #[cycle(searching)]
-fn best_after(
-    spot: &Spot<'_, '_>,
+fn best_after<'s>(
+    spot: &Spot<'_, 's>,
     n: u32,
     limit: u32,
     step: &Instance,
     worlds: WorldsAfter,
-    notes: &mut Notes,
+    notes: &mut Notes<'s>,
 ) -> Result<Option<Tree>, AllocError>
     requires spot { MayGoOn spot.now (n + 1) }
     requires chosen { IsIn (instance_of step.now) (instances (problem_of spot.now.problem.now) (last_moment spot.now.history.now)) }
@@ -281,12 +361,12 @@ fn best_after(
 /// The best tree with the branch at its root. Where the side that is searched first has no tree, the other
 /// isn't searched; the first is the true side, unless the first witness is on the false one.
 #[cycle(searching)]
-fn best_by_branch(
-    spot: &Spot<'_, '_>,
+fn best_by_branch<'s>(
+    spot: &Spot<'_, 's>,
     n: u32,
     limit: u32,
     test: &Conj,
-    notes: &mut Notes,
+    notes: &mut Notes<'s>,
 ) -> Result<Option<Tree>, AllocError>
     requires spot { MayGoOn spot.now (n + 1) }
     requires member { IsIn (conj_of test.now) (last_moment spot.now.history.now).kw }
@@ -315,12 +395,12 @@ fn best_by_branch(
 
 /// The best tree with cases on the term at its root.
 #[cycle(searching)]
-fn best_by_cases(
-    spot: &Spot<'_, '_>,
+fn best_by_cases<'s>(
+    spot: &Spot<'_, 's>,
     n: u32,
     limit: u32,
     term: &Term,
-    notes: &mut Notes,
+    notes: &mut Notes<'s>,
 ) -> Result<Option<Tree>, AllocError>
     requires spot { MayGoOn spot.now (n + 1) }
     requires member { IsIn (term_of term.now) (last_moment spot.now.history.now).kv }
@@ -342,13 +422,13 @@ fn best_by_cases(
 
 /// The best cases on the objects. Where one has no tree, the later ones aren't searched.
 #[cycle(searching)]
-fn best_chain(
-    spot: &Spot<'_, '_>,
+fn best_chain<'s>(
+    spot: &Spot<'_, 's>,
     n: u32,
     limit: u32,
     term: &Term,
     objects: &[ObjId],
-    notes: &mut Notes,
+    notes: &mut Notes<'s>,
 ) -> Result<Option<CaseChain>, AllocError>
     requires spot { MayGoOn spot.now (n + 1) }
     requires member { IsIn (term_of term.now) (last_moment spot.now.history.now).kv }
@@ -378,13 +458,13 @@ fn best_chain(
 
 /// The best tree where the side is taken: assumed, and the history settled.
 #[cycle(searching)]
-fn best_taking(
-    spot: &Spot<'_, '_>,
+fn best_taking<'s>(
+    spot: &Spot<'_, 's>,
     n: u32,
     limit: u32,
     c: &Choice,
     side: Side,
-    notes: &mut Notes,
+    notes: &mut Notes<'s>,
 ) -> Result<Option<Tree>, AllocError>
     requires spot { MayGoOn spot.now (n + 1) }
     requires member { IsMember (last_moment spot.now.history.now) (choice_of c.now) }

@@ -121,6 +121,11 @@ fn put_in(table: &mut FailureTable, mark: u64, failure: Failure) -> Option<(u64,
 }
 
 impl Failures {
+    /// Whether each entry serves its own history alone, since no two objects of the problem are alike. It takes no memory.
+    pub fn serve_no_images(&self) -> bool {
+        self.alike.are_all_alone()
+    }
+
     /// The empty tables for a problem. The error is want of memory.
     pub fn new(alloc: Global, p: &Problem<'_>) -> Result<Failures, AllocError>
         ensures right { IfOk result (AreRight (problem_of p.now)) }

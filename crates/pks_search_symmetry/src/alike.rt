@@ -115,6 +115,12 @@ fn is_whole(p: &Problem<'_>) -> bool
 }
 
 impl Alike {
+    /// Whether no two objects are alike, so that a history has no image but itself. It takes no memory. `docs/RULES.md` says when
+    /// objects are alike.
+    pub fn are_all_alone(&self) -> bool {
+        self.classes.is_empty()
+    }
+
     /// What is known of the problem's renamings. The error is want of memory.
     pub fn of(alloc: Global, p: &Problem<'_>) -> Result<Alike, AllocError>
         ensures { IfOk result (IsOfProblem (problem_of p.now)) }

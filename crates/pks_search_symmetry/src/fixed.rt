@@ -267,8 +267,8 @@ fn same_term(t: &Term, u: &Term) -> bool
     t == u
 }
 
-/// Whether the queries are the same.
-fn same_query(q: &Query, r: &Query) -> bool
+/// Whether the queries are the same. It answers no where they differ, and takes no memory. `docs/RULES.md`, queries.
+pub fn same_query(q: &Query, r: &Query) -> bool
     ensures { IsTrue result → query_of q.now ≡ query_of r.now }
 {
     match (q, r) {

@@ -10,3 +10,4 @@ mod marks;
 mod renaming;
 
 pub use alike::{Alike, HistoryKey, Keyed};
+pub use fixed::same_query;

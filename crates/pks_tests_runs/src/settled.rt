@@ -237,6 +237,118 @@ fn an_aim_that_is_met_keeps_no_past(rt: HostRuntime) -> Result<(), Fail> {
     all_so(rt.alloc(), MET_AT_START)
 }
 
+/// Two aims of the start are met on the way, the one before the other or after it, and each room is shut where it wasn't.
+const SHUT_BEHIND: &str = "(pks 2)
+(domain (types room) (objects (room a b)) (predicates (closed room))
+  (action look (params (?r room)) (senses (sense (closed ?r))) (knows (kw (closed ?r))))
+  (action shut (params (?r room)) (effects (set (closed ?r))) (knows (kf (closed ?r)))))
+(problem (init) (goal (at-start (kw (closed a))) (at-start (kw (closed b))) (k (closed a)) (k (closed b))))
+";
+
+const SHUT_BEHIND_PLAN: &str = "plan depth 6
+(look a)
+(look b)
+branch (closed a)
+true
+  branch (closed b)
+  true
+    goal
+  false
+    (shut b)
+    goal
+false
+  (shut a)
+  branch (closed b)
+  true
+    goal
+  false
+    (shut b)
+    goal
+";
+
+/// Each of three rooms is to be shut once, and none at the end, while no two may be shut at a time.
+const SHUT_IN_TURN: &str = "(pks 2)
+(domain (types room) (objects (room a b c)) (predicates (closed room) (locked))
+  (action shut (params (?r room)) (pre (k (not (closed a))) (k (not (closed b))) (k (not (closed c)))) (effects (set (closed ?r))) (knows (kf (closed ?r))))
+  (action open (params (?r room)) (pre (k (closed ?r))) (effects (unset (closed ?r))) (knows (kf (not (closed ?r)))))
+  (action look (senses (sense (locked))) (knows (kw (locked)))))
+(problem (init (kf (not (closed a))) (kf (not (closed b))) (kf (not (closed c))))
+  (goal (once (k (closed a))) (once (k (closed b))) (once (k (closed c))) (k (not (closed a))) (k (not (closed b))) (k (not (closed c)))))
+";
+
+const SHUT_IN_TURN_PLAN: &str = "plan depth 6
+(shut a)
+(open a)
+(shut b)
+(open b)
+(shut c)
+(open c)
+goal
+";
+
+/// The same of two rooms of which one is to be shut in the end and the other open, so that they aren't alike.
+const APART_BEHIND: &str = "(pks 2)
+(domain (types room) (objects (room a b)) (predicates (closed room))
+  (action look (params (?r room)) (senses (sense (closed ?r))) (knows (kw (closed ?r))))
+  (action shut (params (?r room)) (effects (set (closed ?r))) (knows (kf (closed ?r))))
+  (action open (params (?r room)) (effects (unset (closed ?r))) (knows (kf (not (closed ?r))))))
+(problem (init) (goal (at-start (kw (closed a))) (at-start (kw (closed b))) (k (closed a)) (k (not (closed b)))))
+";
+
+const APART_BEHIND_PLAN: &str = "plan depth 6
+(look a)
+(look b)
+branch (closed a)
+true
+  branch (closed b)
+  true
+    (open b)
+    goal
+  false
+    goal
+false
+  (shut a)
+  branch (closed b)
+  true
+    (open b)
+    goal
+  false
+    goal
+";
+
+/// One room is to be shut once, the other open, each then as it was, and a third shut throughout.
+const APART_IN_TURN: &str = "(pks 2)
+(domain (types room) (objects (room a b c)) (predicates (closed room))
+  (action shut (params (?r room)) (effects (set (closed ?r))) (knows (kf (closed ?r))))
+  (action open (params (?r room)) (pre (k (closed ?r))) (effects (unset (closed ?r))) (knows (kf (not (closed ?r))))))
+(problem (init (kf (not (closed a))) (kf (closed b)) (kf (closed c)))
+  (goal (once (k (closed a))) (once (k (not (closed b)))) (always (k (closed c))) (k (not (closed a))) (k (closed b))))
+";
+
+const APART_IN_TURN_PLAN: &str = "plan depth 4
+(shut a)
+(open a)
+(open b)
+(shut b)
+goal
+";
+
+const MET_ON_THE_WAY: &[Answered] = &[
+    Answered("plan 5", SHUT_BEHIND, NoPlan, "none to depth 5\n"),
+    Answered("plan 16", SHUT_BEHIND, Done, SHUT_BEHIND_PLAN),
+    Answered("plan 5", SHUT_IN_TURN, NoPlan, "none to depth 5\n"),
+    Answered("plan 16", SHUT_IN_TURN, Done, SHUT_IN_TURN_PLAN),
+    Answered("plan 5", APART_BEHIND, NoPlan, "none to depth 5\n"),
+    Answered("plan 16", APART_BEHIND, Done, APART_BEHIND_PLAN),
+    Answered("plan 3", APART_IN_TURN, NoPlan, "none to depth 3\n"),
+    Answered("plan 16", APART_IN_TURN, Done, APART_IN_TURN_PLAN),
+];
+
+#[test]
+fn aims_that_are_met_on_the_way_ask_no_more(rt: HostRuntime) -> Result<(), Fail> {
+    all_so(rt.alloc(), MET_ON_THE_WAY)
+}
+
 /// What is asked of some moment is of a place that a step assigns: what is learnt of it later tells it of that moment.
 const ONCE_THERE: &str = "(pks 2)
 (domain (types t) (objects (t a b)) (predicates (q t) (done)) (functions (f t))

@@ -6,7 +6,7 @@ ghost use Rattle.pks_terms.specs.Moments.{AreMomentsOf};
 
 use crate::domains::{LETTERS, SUNNY_LAWN};
 use crate::rows::WrongRow;
-use crate::walks::{choice_of_line, read, text, walk};
+use crate::walks::{choice_of_line, history_after, read, text};
 use pks_history::histories::History;
 use pks_history_replay::states::{State, start, taking};
 use pks_plan::print_literal;
@@ -112,7 +112,7 @@ fn clashes(alloc: Global, p: &Problem<'_>, h: &History, wanted: &str) -> Result<
 /// Whether the databases after the first action, in the file, clash.
 fn clashes_in(alloc: Global, text: &str, wanted: &str) -> Result<bool, Fail> {
     let p = read(alloc, text)?;
-    let h = walk(alloc, &p, &[])?;
+    let h = history_after(alloc, &p, &[])?;
     clashes(alloc, &p, &h, wanted)
 }
 
@@ -148,7 +148,7 @@ fn is_closed_after(
     wanted: &str,
 ) -> Result<bool, Fail> {
     let p = read(alloc, text)?;
-    let h = walk(alloc, &p, actions)?;
+    let h = history_after(alloc, &p, actions)?;
     is_closed(alloc, &p, &h, wanted)
 }
 

@@ -3,7 +3,7 @@ ghost use Rattle.pks_terms.specs.Typed.{AllJustified};
 ghost use Rattle.pks_terms.specs.ValidProblems.{IsValidProblem};
 ghost use Rattle.pks_terms.specs.Views.{problem_of};
 
-use crate::walks::{choice_of_line, read, walk};
+use crate::walks::{choice_of_line, history_after, read};
 use pks_search_symmetry::Alike;
 use pks_terms::choices::Choice;
 use pks_terms::problem::Problem;
@@ -26,7 +26,7 @@ fn mark_after(alloc: Global, p: &Problem<'_>, actions: &[&str]) -> Result<u64, F
     requires valid { IsValidProblem p.now }
     requires justified { AllJustified (problem_of p.now) }
 {
-    let h = walk(alloc, p, actions)?;
+    let h = history_after(alloc, p, actions)?;
     let alike = Alike::of(alloc, p)?;
     let key = alike.key_of(alloc, &h)?;
     let again = alike.key_of(alloc, &h)?;
@@ -48,7 +48,7 @@ fn world_after(alloc: Global, p: &Problem<'_>, actions: &[&str]) -> Result<World
     requires valid { IsValidProblem p.now }
     requires justified { AllJustified (problem_of p.now) }
 {
-    let start = walk(alloc, p, &[])?;
+    let start = history_after(alloc, p, &[])?;
     let mut world = World::first(alloc, p)?;
     for action in actions {
         let Choice::Act(step) = choice_of_line(alloc, p, &start, action)? else {

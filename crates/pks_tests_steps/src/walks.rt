@@ -154,7 +154,11 @@ fn longer(alloc: Global, p: &Problem<'_>, h: History, actions: &[&str]) -> Resul
 }
 
 /// The history of these actions, at most 16, from the first databases.
-pub(crate) fn walk(alloc: Global, p: &Problem<'_>, actions: &[&str]) -> Result<History, Fail>
+pub(crate) fn history_after(
+    alloc: Global,
+    p: &Problem<'_>,
+    actions: &[&str],
+) -> Result<History, Fail>
     requires valid { IsValidProblem p.now }
     requires justified { AllJustified (problem_of p.now) }
     ensures moments { IfOk result (λ g. AreMomentsOf (problem_of p.now) g) }
@@ -385,7 +389,7 @@ fn is_so_after(alloc: Global, p: &Problem<'_>, walk: &WalkRow) -> Result<bool, F
     requires valid { IsValidProblem p.now }
     requires justified { AllJustified (problem_of p.now) }
 {
-    let h = walk(alloc, p, walk.actions)?;
+    let h = history_after(alloc, p, walk.actions)?;
     is_so(alloc, p, &h, walk)
 }
 

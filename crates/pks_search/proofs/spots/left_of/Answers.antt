@@ -24,4 +24,4 @@ returns-then-are_now c =
     (λ g e. subst (λ (x : History). HasTreesWithin p h x c.args.n c.args.limit) (sym e) same) c.last_alone.ensures
 
 pub returns : goal.returns
-returns c = all_within (problem_of c.args.spot.now.problem.now) c.args.spot.now.history.now c.in_ok-rest.rest c.args.n c.args.limit c.in_ok-rest.ensures.trees c.in_ok-rest.ensures.asked
+returns c = all_within (problem_of c.args.spot.now.problem.now) c.args.spot.now.history.now c.in_ok-rest.rest c.args.n c.args.limit c.in_ok-rest.ensures.trees (record { start = c.in_order.ensures.start; steps = c.in_order.ensures.steps }) c.in_ok-rest.ensures.asked

@@ -1,4 +1,4 @@
-use Rattle.std.proofs.Common.{◌≡◌, ◌<◌, ◌≤◌, ◌+◌, ◌-◌, ◌*◌, ◌++◌, [], ◌∷◌, ℕ, min, not, true, List, map, length, get_or, take, drop, Some, None, IfSome, option_map, refl, sym, ap, ◌∙◌, subst, arith, append-nil}
+use Rattle.std.proofs.Common.{◌≡◌, ◌<◌, ◌≤◌, ◌+◌, ◌-◌, ◌*◌, ◌++◌, [], ◌∷◌, ℕ, min, not, true, false, List, map, length, get_or, take, drop, Some, None, IfSome, option_map, refl, sym, ap, ◌∙◌, subst, arith, append-nil}
 use Rattle.std.proofs.lemmas.List.{length-map}
 use Rattle.std.proofs.lemmas.Result.{IfOk-weaker}
 use Rattle.pks_terms.specs.Sets.{Each, IsIn, IsOrdered}
@@ -26,6 +26,11 @@ use Rattle.pks_search.specs.Limits.{IsBestWithin, IsCheapBy, IsCheapAmong, IsBes
 use Rattle.pks_search_nogoods.proofs.Costs.{costs_at_most}
 use Rattle.pks_search.proofs.Limited.{cheap_stopped, cheap_goal, price, dear_act, dear_branch, dear_cases}
 use Rattle.pks_search.proofs.Found.{found_first, found_more, found_none, found_some, found_all, none_at_depth, none_at_cost, costs_some}
+use Rattle.pks_search.proofs.OtherGoal.{ready_without, each_near_other}
+use Rattle.pks_search.proofs.Shelving.{shelved_on}
+use Rattle.pks_search.proofs.Unmet.{unmet_is, taken_is, unmet_valid, still_unmet, best_within_back}
+use Rattle.pks_terms.specs.Aims.{met}
+use Rattle.pks_terms.specs.ValidProblems.{IsValidProblem}
 use Rattle.pks_search.proofs.Looping.{in_rest, less_before, shorter, first_and_others, none_left}
 use Rattle.pks_search.proofs.Readiness.{ready_last, ready_acted, ready_taken, chosen_action, chosen_branch, chosen_cases, few_left, left_in_range}
 use Rattle.pks_search.proofs.Children.{after_clash, after_next, taking_clash, taking_next, takes, found_act, found_sides, no_side, found_cases, chain_found, chain_no_first, chain_no_rest, chain_empty, acted}
@@ -55,7 +60,7 @@ best_after-returns-in-Clash-clause-best t c =
 pub best_after-best_within-requires : goal.best_after-best_within-requires
 best_after-best_within-requires t c =
     let p = problem_of c.args.spot.now.problem.now in
-    let less : c.args.n * 32 + 2 < t = omega (arith, c.decreases) in
+    let less : c.args.n * 32 + 4 < t = omega (arith, c.decreases) in
     let i = instance_of c.args.step.now in
     let h = c.args.spot.now.history.now in
     let progress = acted p h i (five_of c.last.result.now) (five_of c.in-Next.d) (outcome_of c.in_ok-progress.field-0) c.last.ensures (ap outcome_of c.in-Next.is) c.in_ok-progress.ensures.progress in
@@ -67,7 +72,7 @@ best_after-best_within-requires t c =
     let same = sym c.in_ok-longer-in-Next.ensures in
     let twins = c.requires.twins (pushed h i (five_of c.in-Next.d)) (record { outcome = Next (five_of c.in-Next.d); progress = progress; gives = refl }) in
     let both = subst (Each (AreTwins p c.in_ok-longer-in-Next.longer)) (sym c.as_slice-in-Next.ensures.value) (subst (λ g. Each (AreTwins p g) c.args.worlds.twins.items) same twins) in
-    (less, (record { ready = subst (λ g. IsReady c.args.spot.now.problem.now g (c.args.spot.now.unread + 1) c.args.n) same ready; near = subst (Each (IsNear p c.in_ok-longer-in-Next.longer)) (sym c.as_slice.ensures.value) (subst (λ g. Each (IsNear p g) c.in_ok-after-in-Next.after.items) same near); twins = both }, record { deeds = c.in_ok-others-in-Next.ensures.deeds; failures = c.requires.notes.failures; finds = c.requires.notes.finds }))
+    (less, (record { ready = subst (λ g. IsReady c.args.spot.now.problem.now g (c.args.spot.now.unread + 1) c.args.n) same ready; near = subst (Each (IsNear p c.in_ok-longer-in-Next.longer)) (sym c.as_slice.ensures.value) (subst (λ g. Each (IsNear p g) c.in_ok-after-in-Next.after.items) same near); twins = both }, record { deeds = c.in_ok-others-in-Next.ensures.deeds; failures = c.requires.notes.failures; finds = c.requires.notes.finds; shelf = c.requires.notes.shelf }))
 
 pub best_after-near_after-requires-clause-counted : goal.best_after-near_after-requires-clause-counted
 best_after-near_after-requires-clause-counted t c =
@@ -141,7 +146,7 @@ best_by_cases-best_chain-requires t c =
     let most : length (left s d x) ≤ 16 = few_left s d x c.requires.splits in
     let equal : length (map object_of c.as_slice.result.now) ≡ length (left s d x) = ap (λ (ds : List ℕ). length ds) all in
     let few : length c.as_slice.result.now ≤ 16 = omega arith in
-    let less : c.args.n * 32 + 4 + length c.as_slice.result.now < t = omega (arith, c.decreases) in
+    let less : c.args.n * 32 + 6 + length c.as_slice.result.now < t = omega (arith, c.decreases) in
     (less, (c.requires.spot, (c.requires.member, (subst (Each (λ e. IsIn e (range_of s x))) (sym all) (left_in_range s d x), (few, c.requires.notes)))))
 
 pub best_by_cases-returns-then-limit-eq0-clause-best : goal.best_by_cases-returns-then-limit-eq0-clause-best
@@ -310,7 +315,7 @@ best_taking-best_within-requires t c =
     let p = problem_of c.args.spot.now.problem.now in
     let r = c.requires.spot.ready in
     let h = c.args.spot.now.history.now in
-    let less : c.args.n * 32 + 2 < t = omega (arith, c.decreases) in
+    let less : c.args.n * 32 + 4 < t = omega (arith, c.decreases) in
     let settles = subst (λ x. Settles p (with_last h (five_of c.in-Next.d)) (state_of x)) c.in-Whole.is c.in_ok-settle_after-in-Next.ensures.settles in
     let moments = subst (λ x. IfAt (AreMomentsOf p) (state_of x)) c.in-Whole.is c.in_ok-settle_after-in-Next.ensures.moments in
     let read = subst (λ x. IfAt (IsReadBut p 0) (state_of x)) c.in-Whole.is c.in_ok-settle_after-in-Next.ensures.read in
@@ -397,11 +402,11 @@ best_by_action-best_after-requires t c =
     let p = problem_of c.args.spot.now.problem.now in
     let r = c.requires.spot.ready in
     let h = c.args.spot.now.history.now in
-    let less : c.args.n * 32 + 3 < t = omega (arith, c.decreases) in
+    let less : c.args.n * 32 + 5 < t = omega (arith, c.decreases) in
     let k = each_first (IsNear p h) c.args.spot.now.near.now c.front.result.now c.front.ensures c.requires.spot.near in
     let near = acted_near p r.justified (valid_typed p r.valid.says) h (instance_of c.args.step.now) c.front.result.now c.in_ok-first.first.items c.requires.chosen k c.in_ok-first.ensures.becomes in
     let twins = acted_each p r.justified (valid_typed p r.valid.says) h (instance_of c.args.step.now) c.args.spot.now.twins.now c.in_ok-twins.twins.items c.requires.chosen c.requires.spot.twins c.in_ok-twins.ensures in
-    (less, (c.requires.spot, (c.requires.chosen, (record { deeds = c.in_ok-first.ensures.deeds; failures = c.in_ok-barren.ensures.right; finds = c.requires.notes.finds }, (near, twins)))))
+    (less, (c.requires.spot, (c.requires.chosen, (record { deeds = c.in_ok-first.ensures.deeds; failures = c.in_ok-barren.ensures.right; finds = c.requires.notes.finds; shelf = c.requires.notes.shelf }, (near, twins)))))
 
 pub best_by_action-returns-then-some_met-clause-best : goal.best_by_action-returns-then-some_met-clause-best
 best_by_action-returns-then-some_met-clause-best t c =
@@ -410,8 +415,48 @@ best_by_action-returns-then-some_met-clause-best t c =
     let some : SomeMet c.in_ok-twins.twins.items = subst SomeMet c.as_slice-2.ensures.value (c.some_met.ensures c.if-some_met.true) in
     none_meeting p r.justified (valid_typed p r.valid.says) c.args.spot.now.history.now (instance_of c.args.step.now) c.args.spot.now.twins.now c.in_ok-twins.twins.items (c.args.n + 1) c.args.limit c.requires.chosen c.requires.spot.twins c.in_ok-twins.ensures some
 
-pub best_unmet-best_of_rest-requires : goal.best_unmet-best_of_rest-requires
-best_unmet-best_of_rest-requires t c =
+-- ---- without the aims that are met for good
+
+pub best_of_fewer-take-requires-clause-valid : goal.best_of_fewer-take-requires-clause-valid
+best_of_fewer-take-requires-clause-valid t c =
+    let p = c.args.spot.now.problem.now in
+    let h = c.args.spot.now.history.now in
+    subst IsValidProblem (sym (unmet_is p h c.in_ok-goal.goal c.as_slice.result.now c.in_ok-goal.ensures c.as_slice.ensures)) (unmet_valid p h c.requires.spot.ready.valid)
+
+pub best_of_fewer-best_of_left-requires : goal.best_of_fewer-best_of_left-requires
+best_of_fewer-best_of_left-requires t c =
+    let p = c.args.spot.now.problem.now in
+    let h = c.args.spot.now.history.now in
+    let r = c.requires.spot.ready in
+    let own = c.in_ok-taken.ensures.shelved in
+    let q = c.in_ok-taken.taken.own.problem in
+    let is = taken_is p q h c.in_ok-goal.goal c.as_slice.result.now c.in_ok-goal.ensures c.as_slice.ensures c.in_ok-taken.ensures.own in
+    let less : c.args.n * 32 + 1 < t = omega (arith, c.decreases) in
+    let near = subst (λ x. Each (IsNear x h) c.args.spot.now.near.now) (sym is) (each_near_other (problem_of p) h c.args.spot.now.near.now c.requires.spot.near) in
+    let unmet = subst (λ x. met x h ≡ false) (sym is) (still_unmet (problem_of p) r.valid.says.signature.values h c.requires.unmet) in
+    let shelf = shelved_on (problem_of p) (problem_of q) own.aims c.in_ok-taken.taken.others.items c.in_ok-taken.ensures.others in
+    (less, (record { ready = ready_without p q h c.args.spot.now.unread c.args.n own.valid is r; near = near; twins = tt }, (unmet, (c.requires.some, record { deeds = own.deeds; failures = own.failures; finds = own.finds; shelf = shelf }))))
+
+pub best_of_fewer-returns-clause-best : goal.best_of_fewer-returns-clause-best
+best_of_fewer-returns-clause-best t c =
+    let p = c.args.spot.now.problem.now in
+    let h = c.args.spot.now.history.now in
+    let is = taken_is p c.in_ok-taken.taken.own.problem h c.in_ok-goal.goal c.as_slice.result.now c.in_ok-goal.ensures c.as_slice.ensures c.in_ok-taken.ensures.own in
+    best_within_back (problem_of p) c.requires.spot.ready.valid.says.signature.values h c.args.n c.args.limit (option_map tree_of c.in_ok-found.found)
+    (subst (λ x. IsBestWithin x (At h) c.args.n c.args.limit (option_map tree_of c.in_ok-found.found)) is c.in_ok-found.ensures.best)
+
+pub best_of_fewer-returns-clause-notes : goal.best_of_fewer-returns-clause-notes
+best_of_fewer-returns-clause-notes t c =
+    let own = c.in_ok-taken.ensures.shelved in
+    record {
+      deeds = c.requires.notes.deeds;
+      failures = c.requires.notes.failures;
+      finds = c.requires.notes.finds;
+      shelf = c.in_ok-notes.ensures (problem_of c.args.spot.now.problem.now) own.valid own.aims c.in_ok-found.ensures.notes;
+    }
+
+pub best_of_left-best_of_rest-requires : goal.best_of_left-best_of_rest-requires
+best_of_left-best_of_rest-requires t c =
     let p = problem_of c.args.spot.now.problem.now in
     let less : c.args.n * 32 < t = omega (arith, c.decreases) in
     let h = c.args.spot.now.history.now in
@@ -422,8 +467,8 @@ best_unmet-best_of_rest-requires t c =
     let twins = each_weaker (AreTwins p h) (AreTwins p rest) (λ x m. same.twins (first_in x) (second_in x) m) c.args.spot.now.twins.now c.requires.spot.twins in
     (less, (record { ready = ready; near = near; twins = twins }, (rest_unmet p h rest c.args.n c.args.limit same c.requires.unmet, (c.requires.some, c.requires.notes))))
 
-pub best_unmet-returns-clause-best : goal.best_unmet-returns-clause-best
-best_unmet-returns-clause-best t c =
+pub best_of_left-returns-clause-best : goal.best_of_left-returns-clause-best
+best_of_left-returns-clause-best t c =
     let p = problem_of c.args.spot.now.problem.now in
     let h = c.args.spot.now.history.now in
     let rest = c.in_ok-rest.rest in
@@ -436,14 +481,14 @@ pub best_of_rest-returns-then-tells-clause-best : goal.best_of_rest-returns-then
 best_of_rest-returns-then-tells-clause-best t c = c.tells.ensures.told c.if-tells.true c.requires.spot.ready.valid.says c.requires.spot.ready.moments c.requires.notes.failures
 
 pub best_of_rest-returns-then-tells-clause-notes : goal.best_of_rest-returns-then-tells-clause-notes
-best_of_rest-returns-then-tells-clause-notes t c = record { deeds = c.requires.notes.deeds; failures = c.tells.ensures.right (problem_of c.args.spot.now.problem.now) c.requires.notes.failures; finds = c.requires.notes.finds }
+best_of_rest-returns-then-tells-clause-notes t c = record { deeds = c.requires.notes.deeds; failures = c.tells.ensures.right (problem_of c.args.spot.now.problem.now) c.requires.notes.failures; finds = c.requires.notes.finds; shelf = c.requires.notes.shelf }
 
 pub best_of_rest-best_of_choices-requires : goal.best_of_rest-best_of_choices-requires
 best_of_rest-best_of_choices-requires t c =
     let same : c.args.n ≡ c.args.n - 1 + 1 = omega (arith, c.requires.some) in
     let less : (c.args.n - 1) * 32 + 31 < t = omega (arith, c.decreases, c.requires.some) in
     let right = c.tells.ensures.right (problem_of c.args.spot.now.problem.now) c.requires.notes.failures in
-    (less, (subst (MayGoOn c.args.spot.now) same c.requires.spot, (c.requires.unmet, record { deeds = c.requires.notes.deeds; failures = right; finds = c.tells-2.ensures.found (problem_of c.args.spot.now.problem.now) c.requires.notes.finds })))
+    (less, (subst (MayGoOn c.args.spot.now) same c.requires.spot, (c.requires.unmet, record { deeds = c.requires.notes.deeds; failures = right; finds = c.tells-2.ensures.found (problem_of c.args.spot.now.problem.now) c.requires.notes.finds; shelf = c.requires.notes.shelf })))
 
 pub best_of_rest-returns-in-None-clause-notes : goal.best_of_rest-returns-in-None-clause-notes
 best_of_rest-returns-in-None-clause-notes t c =
@@ -451,7 +496,7 @@ best_of_rest-returns-in-None-clause-notes t c =
     let h = c.args.spot.now.history.now in
     let same : c.args.n - 1 + 1 ≡ c.args.n = omega (arith, c.requires.some) in
     let none : IsBestWithin p (At h) (c.args.n - 1 + 1) c.args.limit None = subst (λ o. IsBestWithin p (At h) (c.args.n - 1 + 1) c.args.limit (option_map tree_of o)) c.in-None.is c.in_ok-t.ensures.best in
-    record { deeds = c.in_ok-t.ensures.notes.deeds; failures = c.note-in-None.ensures.right p c.requires.spot.ready.moments (subst (λ k. HasNoTree p h k c.args.limit) same none) c.in_ok-t.ensures.notes.failures; finds = c.in_ok-t.ensures.notes.finds }
+    record { deeds = c.in_ok-t.ensures.notes.deeds; failures = c.note-in-None.ensures.right p c.requires.spot.ready.moments (subst (λ k. HasNoTree p h k c.args.limit) same none) c.in_ok-t.ensures.notes.failures; finds = c.in_ok-t.ensures.notes.finds; shelf = c.in_ok-t.ensures.notes.shelf }
 
 -- ---- what the table of finds tells, and what is noted there
 
@@ -463,7 +508,7 @@ best_of_rest-returns-in-Some-clause-best t c =
 pub best_of_rest-returns-in-Some-clause-notes : goal.best_of_rest-returns-in-Some-clause-notes
 best_of_rest-returns-in-Some-clause-notes t c =
     let p = problem_of c.args.spot.now.problem.now in
-    record { deeds = c.requires.notes.deeds; failures = c.tells.ensures.right p c.requires.notes.failures; finds = c.tells-2.ensures.found p c.requires.notes.finds }
+    record { deeds = c.requires.notes.deeds; failures = c.tells.ensures.right p c.requires.notes.failures; finds = c.tells-2.ensures.found p c.requires.notes.finds; shelf = c.requires.notes.shelf }
 
 pub best_of_rest-returns-in-Some-2-clause-notes : goal.best_of_rest-returns-in-Some-2-clause-notes
 best_of_rest-returns-in-Some-2-clause-notes t c =
@@ -473,4 +518,4 @@ best_of_rest-returns-in-Some-2-clause-notes t c =
     let same : c.args.n - 1 + 1 ≡ c.args.n = omega (arith, c.requires.some) in
     let best : IsBestWithin p (At h) (c.args.n - 1 + 1) c.args.limit (Some (tree_of found)) = subst (λ o. IsBestWithin p (At h) (c.args.n - 1 + 1) c.args.limit (option_map tree_of o)) c.in-Some-2.is c.in_ok-t.ensures.best in
     let is : IsFound p h c.args.n c.args.limit (tree_of found) = subst (λ k. IsFound p h k c.args.limit (tree_of found)) same best in
-    record { deeds = c.in_ok-t.ensures.notes.deeds; failures = c.in_ok-t.ensures.notes.failures; finds = c.note.ensures is c.in_ok-t.ensures.notes.finds }
+    record { deeds = c.in_ok-t.ensures.notes.deeds; failures = c.in_ok-t.ensures.notes.failures; finds = c.note.ensures is c.in_ok-t.ensures.notes.finds; shelf = c.in_ok-t.ensures.notes.shelf }

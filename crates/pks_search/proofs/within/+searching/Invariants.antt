@@ -9,10 +9,16 @@ use Rattle.pks_search.specs.Spots.{AreSo}
 use Rattle.pks_search.proofs.within.+searching.Given as goal
 
 abbrev pub decreases-best_within : goal.decreases-best_within
-decreases-best_within l = l.n * 32 + 2
+decreases-best_within l = l.n * 32 + 4
 
 abbrev pub decreases-best_unmet : goal.decreases-best_unmet
-decreases-best_unmet l = l.n * 32 + 1
+decreases-best_unmet l = l.n * 32 + 3
+
+abbrev pub decreases-best_of_fewer : goal.decreases-best_of_fewer
+decreases-best_of_fewer l = l.n * 32 + 2
+
+abbrev pub decreases-best_of_left : goal.decreases-best_of_left
+decreases-best_of_left l = l.n * 32 + 1
 
 abbrev pub decreases-best_of_rest : goal.decreases-best_of_rest
 decreases-best_of_rest l = l.n * 32
@@ -27,7 +33,7 @@ abbrev pub decreases-best_by_action : goal.decreases-best_by_action
 decreases-best_by_action l = l.n * 32 + 29
 
 abbrev pub decreases-best_after : goal.decreases-best_after
-decreases-best_after l = l.n * 32 + 3
+decreases-best_after l = l.n * 32 + 5
 
 abbrev pub decreases-best_by_branch : goal.decreases-best_by_branch
 decreases-best_by_branch l = l.n * 32 + 29
@@ -36,10 +42,10 @@ abbrev pub decreases-best_by_cases : goal.decreases-best_by_cases
 decreases-best_by_cases l = l.n * 32 + 29
 
 abbrev pub decreases-best_chain : goal.decreases-best_chain
-decreases-best_chain l = l.n * 32 + 4 + length l.objects.now
+decreases-best_chain l = l.n * 32 + 6 + length l.objects.now
 
 abbrev pub decreases-best_taking : goal.decreases-best_taking
-decreases-best_taking l = l.n * 32 + 3
+decreases-best_taking l = l.n * 32 + 5
 
 abbrev pub invariant-best_of_choices-each : goal.invariant-best_of_choices-each
 invariant-best_of_choices-each l = IsFoundBefore (problem_of l.fn.spot.problem.now) l.fn.spot.history.now (l.n + 1) l.limit (left_in (problem_of l.fn.spot.problem.now) (last_moment l.fn.spot.history.now) l.walk) (option_map tree_of l.best) l.below × AreSo (problem_of l.fn.spot.problem.now) l.notes
