@@ -3,6 +3,7 @@
 
 pub mod cutting;
 mod effects;
+pub mod held;
 pub mod hiding;
 mod kept;
 mod kept_copies;

@@ -1,5 +1,5 @@
 //! Looks, and a history without the moments before them. `docs/RULES.md` says what a look is.
-ghost use Rattle.std.specs.Prelude.{◌≡◌, ◌≤◌, ◌<◌, ◌+◌, ◌&&◌, IfOk, length, map};
+ghost use Rattle.std.specs.Prelude.{◌≡◌, ◌≤◌, ◌<◌, ◌+◌, ◌&&◌, ◌||◌, IfOk, length, map};
 ghost use Rattle.std.specs.List.{list_all};
 ghost use Rattle.pks_terms.specs.Settling.{effects_of};
 ghost use Rattle.pks_terms.specs.Views.{query_of, aim_of, instance_of, signature_of, problem_of};
@@ -7,10 +7,12 @@ ghost use Rattle.pks_kf.specs.Known.{literals_of};
 ghost use Rattle.pks_kx.specs.Groups.{groups_of};
 ghost use Rattle.pks_query_lookup.specs.Fives.{five_of};
 ghost use Rattle.pks_laws_forget.specs.Testing.{has};
+ghost use Rattle.pks_laws_forget.specs.Fewer.{is_held};
 ghost use Rattle.pks_laws_forget.specs.Looks.{is_told_alike, aim_is_told_alike, is_empty, has_group, lasts_in, is_look, unlooked_from, without_looks};
 ghost use Rattle.pks_history_forget.specs.Looking.{first_is_look, later_look, joined};
 
 use crate::effects::has;
+use crate::held::is_held;
 use crate::kept::{has_group, is_group_of_objects, regions_last};
 use crate::staying::are_alike;
 use pks_history::histories::History;
@@ -74,13 +76,14 @@ fn is_told_alike(s: &Signature, before: &Db, after: &Db, q: &Query) -> bool
     }
 }
 
-/// Whether so does the aim, unless it is one of the last moment.
+/// Whether so does the aim, unless it is one of the last moment, or one of each moment that the first meets for good.
 fn aim_is_told_alike(s: &Signature, before: &Db, after: &Db, aim: &Aim) -> bool
     ensures { result ≡ aim_is_told_alike (signature_of s.now) (five_of before.now) (five_of after.now) (aim_of aim.now) }
 {
     match aim {
         Aim::Now(_) => true,
-        Aim::AtStart(q) | Aim::Always(q) | Aim::Once(q) => is_told_alike(s, before, after, q),
+        Aim::AtStart(q) | Aim::Once(q) => is_told_alike(s, before, after, q),
+        Aim::Always(q) => is_told_alike(s, before, after, q) || is_held(s, before, q),
     }
 }
 
@@ -104,7 +107,7 @@ fn continues(before: &Five, after: &Five) -> bool
 }
 
 /// Whether the step from the databases before by the instance to those after is a look: the action has no effects, aims over
-/// time are told alike before and after, what was known before is known after, and groups and regions are the same and speak of
+/// time are told alike before and after or met before for good, what was known before is known after, and groups and regions are the same and speak of
 /// objects alone. It takes no memory.
 pub fn is_look(p: &Problem<'_>, before: &Db, i: &Instance, after: &Db) -> bool
     ensures { result ≡ is_look (problem_of p.now) (five_of before.now) (instance_of i.now) (five_of after.now) }

@@ -10,9 +10,11 @@ ghost use Rattle.pks_kw.specs.Formulas.{formulas_of};
 ghost use Rattle.pks_query_lookup.specs.Fives.{five_of};
 ghost use Rattle.pks_laws_forget.specs.Transparent.{at_other_objects};
 ghost use Rattle.pks_laws_forget.specs.Looks.{are_alike, is_empty};
+ghost use Rattle.pks_laws_forget.specs.Fewer.{is_held};
 ghost use Rattle.pks_laws_forget.specs.Staying.{is_at_others, leaves, literal_stays, is_said_in, says_more, query_stays, aim_stays, aims_stay};
 
 use crate::effects::effects_of;
+use crate::held::is_held;
 use crate::touching::is_about;
 use pks_query::databases::Db;
 use pks_query_lookup::five::Five;
@@ -152,13 +154,15 @@ fn query_stays(s: &Signature, step: &StepTaken<'_>, q: &Query) -> bool
     }
 }
 
-/// Whether so does what the aim asks, unless it is one of the last moment.
+/// Whether so does what the aim asks, unless it is one of the last moment, or one of each moment that the one before the step
+/// meets for good.
 fn aim_stays(s: &Signature, step: &StepTaken<'_>, aim: &Aim) -> bool
     ensures { result ≡ aim_stays (signature_of s.now) (map effect_of step.now.effects.now) (five_of step.now.before.now) (five_of step.now.after.now) (aim_of aim.now) }
 {
     match aim {
         Aim::Now(_) => true,
-        Aim::AtStart(q) | Aim::Always(q) | Aim::Once(q) => query_stays(s, step, q),
+        Aim::AtStart(q) | Aim::Once(q) => query_stays(s, step, q),
+        Aim::Always(q) => query_stays(s, step, q) || is_held(s, step.before, q),
     }
 }
 
@@ -182,8 +186,8 @@ fn is_bare(d: &Db) -> bool
 }
 
 /// Whether the step from the databases before by the instance to those after leaves what the aims over time ask: each is of
-/// literals of predicates at objects that no effect is of and that are told alike, and there are no regions. It asks for a
-/// valid problem. The error is want of memory.
+/// literals of predicates at objects that no effect is of and that are told alike, or of each moment and met before for good,
+/// and there are no regions. It asks for a valid problem. The error is want of memory.
 pub fn aims_stay(
     alloc: Global,
     p: &Problem<'_>,

@@ -22,10 +22,12 @@ use Rattle.pks_terms.proofs.ListLaws.{each_in, each_weaker}
 use Rattle.pks_terms.proofs.OrderLaws.{literal_cmp_tells}
 use Rattle.pks_terms.proofs.SetLaws.{added_in, inserted_in}
 use Rattle.pks_laws.proofs.Belonging.{end_of}
-use Rattle.pks_laws.proofs.ClosedAgain.{closed_fine, closed_saturated}
-use Rattle.pks_laws.proofs.SettledEnd.{end_closed}
+use Rattle.pks_laws.proofs.ClosedAgain.{closed_fine, closed_saturated, holds-tidied}
+use Rattle.pks_laws.proofs.Least.{one_value, holds_grows}
+use Rattle.pks_laws.proofs.SettledEnd.{rounds_have_start, end_closed}
 use Rattle.pks_laws_forget.specs.Transparent.{AreObjects, IsTransparent, AreSetsAlong, with_first}
-use Rattle.pks_laws_forget.proofs.Ends.{IsStart, Follows, AreOrdered, forget, rounds_forget, same_clash, ends_meet, ends_follow, first_tidied, second_tidied, second_grows, step_follows}
+use Rattle.pks_laws_forget.proofs.Ends.{IsStart, Follows, AreOrdered, forget, rounds_forget, first_within, first_closed, same_clash, ends_meet, ends_follow, first_tidied, second_tidied, second_grows, step_follows}
+use Rattle.pks_laws_forget.proofs.Held.{Upholds}
 use Rattle.pks_laws_forget.proofs.Sequence.{groups_sequenced, regions_listed}
 use Rattle.pks_laws_forget.proofs.Total.{settling_is_total}
 use Rattle.pks_laws_forget.proofs.Pairs.{IsOf, IsFixed, Keeps, same_trees, same_best}
@@ -59,8 +61,8 @@ rounds_leave s (suc n) d = rounds_leave s n d
 -- what the first two moments are like at all histories that come from there: it fits them, and where they are settled they tell alike what the aims ask
 pub record KeepsGoal (p : Problem) (i : Instance) (Fits Alike : Five → Five → Type 0) : Type 0 where
   pub goal : (d e : Five) (steps : List (Instance × Five)) → Fits d e → Alike d e → met p (record { start = d; steps = (i, e) ∷ steps }) ≡ met p (record { start = e; steps = steps })
-  pub grown : (d e d' e' : Five) → Fits d e → forget d' ≡ forget d → forget e' ≡ forget e → Fits d' e'
-  pub tidy : (d e : Five) → Fits d e → Fits (tidied d) (tidied e)
+  pub grown : (d e d' e' : Five) → Fits d e → Upholds p.signature d d' → forget d' ≡ forget d → forget e' ≡ forget e → Fits d' e'
+  pub tidy : (d e : Five) → Fits d e → Upholds p.signature d (tidied d) → Fits (tidied d) (tidied e)
   pub alike : (d e : Five) (steps : List (Instance × Five)) → Fits d e → ClosedAlong p d ((i, e) ∷ steps) → Alike (tidied d) (tidied e)
   pub assumed : (d e e' : Five) (c : Choice) (side : Side) → Fits d e → Assumes p.signature e c side (Next e') → Fits d e'
 
@@ -95,13 +97,18 @@ module _ (p : Problem) (v : IsValid p) (i : Instance) (Fits Alike : Five → Fiv
       let ordered : AreOrdered h.start ((i, g.start) ∷ g.steps) = subst (λ xs. AreOrdered h.start xs) k.steps (ordered_of p h o.sets) in
       let meet = same ∙ ends_meet p v.signature.values i before after start h.start g.start g.steps k.follows n m ordered fixed quiet f in
       let follow = subst (λ (x : History). Follows p i before after x.start end'.start) (sym same) (ends_follow p v.signature.values i before after start h.start g.start g.steps k.follows n m ordered fixed quiet f) in
-      let fits : Fits end.start end'.start = keeps.grown h.start g.start end.start end'.start k.fits (rounds_forget p n h).0 (rounds_forget p m g).0 in
+      let closed = end_closed p end e q in
+      let own = first_closed p v.signature.values end.start end.steps closed in
+      let more = first_within h.start h.steps end.start end.steps (rounds_have_start p h n) in
+      let up : Upholds S h.start end.start = λ l j. holds_grows S end.start v.signature.values own.0 own.1 h.start more.0 more.1 more.2 l j in
+      let tidy : Upholds S end.start (tidied end.start) = λ l j. holds-tidied S end.start (one_value S end.start v.signature.values own.0 own.1) l ∙ j in
+      let fits : Fits end.start end'.start = keeps.grown h.start g.start end.start end'.start k.fits up (rounds_forget p n h).0 (rounds_forget p m g).0 in
       let cut : IsCut (tidied_history end) (tidied_history end') = record {
         steps = ap (λ (x : History). map (λ (step : Instance × Five). let r : Instance × Five = (step.0, tidied step.1) in r) x.steps) meet;
         follows = second_tidied p v.signature.values i before after start (tidied end.start) end'.start (first_tidied p v.signature.values i before after start end.start end'.start follow);
-        fits = keeps.tidy end.start end'.start fits;
+        fits = keeps.tidy end.start end'.start fits tidy;
       } in
-      (cut, keeps.alike end.start end'.start end'.steps fits (subst (λ (x : History). ClosedAlong p end.start x.steps) meet (end_closed p end e q)))
+      (cut, keeps.alike end.start end'.start end'.steps fits (subst (λ (x : History). ClosedAlong p end.start x.steps) meet closed))
 
   -- ---- sides
 
@@ -187,8 +194,8 @@ Any d e = Unit {0}
 plain_goal : (p : Problem) (i : Instance) → Each IsNow p.goal → KeepsGoal p i Any Any
 plain_goal p i plain = record {
   goal = λ d e steps f a. met_alike p plain (record { start = d; steps = (i, e) ∷ steps }) (record { start = e; steps = steps }) refl;
-  grown = λ d e d' e' f g k. tt;
-  tidy = λ d e f. tt;
+  grown = λ d e d' e' f u g k. tt;
+  tidy = λ d e f u. tt;
   alike = λ d e steps f c. tt;
   assumed = λ d e e' c side f a. tt;
 }

@@ -1,18 +1,17 @@
 -- Without the aims that a history meets for good a problem has the same derived trees.
-use Rattle.std.proofs.Common.{◌≡◌, ◌&&◌, ◌||◌, ◌⊎◌, ◌++◌, ℕ, Bool, true, false, cond, not, List, [], ◌∷◌, map, Option, Some, None, refl, sym, ap, ◌∙◌, subst, inl, inr, ⊎_elim, true≢false}
+use Rattle.std.proofs.Common.{◌≡◌, ◌&&◌, ◌⊎◌, ◌++◌, ℕ, true, false, cond, not, List, [], ◌∷◌, map, Option, Some, None, refl, sym, ap, ◌∙◌, subst, inl, inr, ⊎_elim, true≢false}
 use Rattle.std.specs.List.{list_all, list_any}
 use Rattle.std.specs.declared.cmp.Ordering.TheVariants.{Less}
-use Rattle.std.proofs.lemmas.Bool.{and_parts, or_left, or_right, or_cases, cases_Bool}
+use Rattle.std.proofs.lemmas.Bool.{or_left, or_right, or_cases, cases_Bool}
 use Rattle.pks_terms.specs.Sets.{Each}
-use Rattle.pks_terms.specs.Syntax.{Literal, negated}
 use Rattle.pks_terms.specs.Signatures.{Signature, HasValues}
 use Rattle.pks_terms.specs.Actions.{Instance}
 use Rattle.pks_terms.specs.Aims.{is_met, met, moments}
 use Rattle.pks_terms.specs.Branching.{Choice, Side, assumed, Assumes}
 use Rattle.pks_terms.specs.Closure.{Outcome, Next, Clash, Closes, first_clash, rounds, tidied}
-use Rattle.pks_terms.specs.Databases.{Five, holds}
+use Rattle.pks_terms.specs.Databases.{Five}
 use Rattle.pks_terms.specs.Problems.{Aim, Now, AtStart, Always, Once, Problem, initial}
-use Rattle.pks_terms.specs.Queries.{Plain, Know, KnowWhether, KnowValue, Query, is_member, known_whether, is_decided, answers_plain, answers}
+use Rattle.pks_terms.specs.Queries.{Query, answers}
 use Rattle.pks_terms.specs.Saturated.{Within, WithinAlong, ClosedAlong, IsSaturated}
 use Rattle.pks_terms.specs.Settling.{History, last_moment, with_last, settle_rounds, State, At, Stopped, clashes, tidied_history, Settles}
 use Rattle.pks_terms.specs.Trees.{Tree, tree_cmp, after_step, Acts, SettlesAfter, Takes, Derives, start_state, IsPlan, IsBefore, IsBest}
@@ -22,13 +21,9 @@ use Rattle.pks_laws.proofs.Least.{one_value, holds_grows}
 use Rattle.pks_laws.proofs.SettledEnd.{rounds_have_start, end_closed}
 use Rattle.pks_laws.proofs.Unique.{closes_one}
 use Rattle.pks_laws_forget.proofs.Cut.{assumed_more, rounds_have, rounds_leave}
-use Rattle.pks_laws_forget.proofs.Ends.{all_more}
-use Rattle.pks_laws_forget.specs.Fewer.{is_decided_by_literals, is_known_for_good, is_held, is_met_for_good, unmet, without_met}
+use Rattle.pks_laws_forget.specs.Fewer.{is_held, is_met_for_good, unmet, without_met}
+use Rattle.pks_laws_forget.proofs.Held.{Upholds, held_answers}
 use Rattle.pks_laws_forget.proofs.OtherAims.{IfAt, Carries, trees_other, trees_back, costs_same}
-
--- what holds in the one holds in the other
-abbrev pub Upholds : Signature → Five → Five → Type 0
-Upholds s a b = (l : Literal) → holds s a l ≡ true → holds s b l ≡ true
 
 module _ (s : Signature) (inhabited : HasValues s) where
   -- the end of rounds, tidied, upholds what began within it
@@ -45,12 +40,6 @@ module _ (s : Signature) (inhabited : HasValues s) where
       subst (Upholds s a) (sym e.1)
       (end_upholds a end (saturated_end s end k.last) e.0 (λ l i. rounds_have s k.count (assumed s a c side) l (more.0 l i)) (more.1 ∙ keep.0) (more.2 ∙ keep.1))
 
--- ---- lists
-
-any_more : {X : Type 0} (f g : X → Bool) → ((x : X) → f x ≡ true → g x ≡ true) → (xs : List X) → list_any f xs ≡ true → list_any g xs ≡ true
-any_more f g on [] k = k
-any_more f g on (x ∷ xs) k = ⊎_elim (λ e. or_left _ _ (on x e)) (λ e. or_right _ _ (any_more f g on xs e)) (or_cases (f x) _ k)
-
 -- ---- moments
 
 abbrev Steps : Type 0
@@ -66,41 +55,9 @@ moment_behind P d [] y k = inl k
 moment_behind P d (x ∷ xs) y k = ⊎_elim (λ a. inl a) (λ a. inr (moment_behind P x.1 xs y a)) k
 
 module _ (s : Signature) (inhabited : HasValues s) (m : Five) where
-  -- ---- what holds there answers here
-
-  told_held : (d : Five) → Upholds s m d → (l : Literal) → (holds s m l || holds s m (negated l)) ≡ true → (holds s d l || holds s d (negated l)) ≡ true
-  told_held d up l e =
-      ⊎_elim (λ k. or_left (holds s d l) (holds s d (negated l)) (up l k)) (λ k. or_right (holds s d l) (holds s d (negated l)) (up (negated l) k)) (or_cases (holds s m l) (holds s m (negated l)) e)
-
-  decided_held : (d : Five) → Upholds s m d → (l : Literal) → (holds s m l || holds s m (negated l)) ≡ true → is_decided s d l ≡ true
-  unfolding is_decided
-  decided_held d up l e = or_left (holds s d l || holds s d (negated l)) _ (told_held d up l e)
-
-  abbrev some_false : Five → List Literal → Bool
-  some_false d c = list_any (λ l. holds s d (negated l)) c
-
-  whether_held : (d : Five) → Upholds s m d → (c : List Literal) → is_decided_by_literals s m c ≡ true → known_whether s d c ≡ true
-  unfolding known_whether
-  whether_held d up c k =
-      or_right (is_member d c) (some_false d c || list_all (is_decided s d) c)
-      (⊎_elim
-      (λ a. or_left (some_false d c) (list_all (is_decided s d) c) (any_more (λ l. holds s m (negated l)) (λ l. holds s d (negated l)) (λ l. up (negated l)) c a))
-      (λ a. or_right (some_false d c) (list_all (is_decided s d) c) (all_more (λ l. holds s m l || holds s m (negated l)) (is_decided s d) (decided_held d up) c a))
-      (or_cases (some_false m c) (list_all (λ l. holds s m l || holds s m (negated l)) c) k))
-
-  plain_held : (d : Five) → Upholds s m d → (q : Plain) → is_known_for_good s m q ≡ true → answers_plain s d q ≡ true
-  plain_held d up (Know l) k = up l k
-  plain_held d up (KnowWhether c) k = whether_held d up c k
-  plain_held d up (KnowValue t) k = absurd (true≢false (sym k))
-
-  held_answers : (d : Five) → Upholds s m d → (q : Query) → is_held s m q ≡ true → answers s d q ≡ true
-  held_answers d up q k =
-      let b = and_parts (not q.denied) (is_known_for_good s m q.asks) k in
-      elim q.denied as (λ b. not b ≡ true → cond b (not (answers_plain s d q.asks)) (answers_plain s d q.asks) ≡ true) [ true ↦ λ n. absurd (true≢false (sym n)) | false ↦ λ n. plain_held d up q.asks b.1 ] b.0
-
   held_somewhere : (d : Five) (xs : Steps) → HasMoment (Upholds s m) d xs → (q : Query) → is_held s m q ≡ true → list_any (λ e. answers s e q) (d ∷ map (λ (x : Instance × Five). x.1) xs) ≡ true
-  held_somewhere d [] up q k = or_left _ _ (held_answers d up q k)
-  held_somewhere d (x ∷ xs) up q k = ⊎_elim (λ a. or_left _ _ (held_answers d a q k)) (λ a. or_right _ _ (held_somewhere x.1 xs a q k)) up
+  held_somewhere d [] up q k = or_left _ _ (held_answers s m d up q k)
+  held_somewhere d (x ∷ xs) up q k = ⊎_elim (λ a. or_left _ _ (held_answers s m d a q k)) (λ a. or_right _ _ (held_somewhere x.1 xs a q k)) up
 
   -- ---- by a side, and by settling
 
@@ -126,7 +83,7 @@ module _ (p : Problem) (inhabited : HasValues p.signature) (old : History) where
 
   met_for_good : (h : History) → IsUpheld h → (a : Aim) → is_met_for_good S old a ≡ true → is_met S h a ≡ true
   met_for_good h up (Now q) k = absurd (true≢false (sym k))
-  met_for_good h up (AtStart q) k = held_answers S inhabited old.start h.start up.first q k
+  met_for_good h up (AtStart q) k = held_answers S old.start h.start up.first q k
   met_for_good h up (Always q) k = absurd (true≢false (sym k))
   met_for_good h up (Once q) k = some_answers h q (moments old) up.some k
 

@@ -16,6 +16,7 @@ pub mod Pairs
 pub mod Cut
 pub mod Tested
 pub mod Thinned
+pub mod Held
 pub mod Still
 pub mod Families
 pub mod Looks

@@ -11,6 +11,7 @@ use Rattle.pks_terms.specs.Settling.{History, last_of, last_moment}
 use Rattle.pks_terms.specs.Valid.{IsValid}
 use Rattle.pks_laws_forget.specs.Looks.{aims_are_told_alike, IsLook, AreWithout}
 use Rattle.pks_laws_forget.specs.Transparent.{AreSetsAlong}
+use Rattle.pks_laws_forget.proofs.Held.{aims_minded}
 use Rattle.pks_laws_forget.proofs.Still.{Continues, ContinuesAlike, left_family, told_family}
 use Rattle.pks_laws_forget.proofs.Thinned.{Steps, thin, fat, without_last, without_weaker}
 use Rattle.pks_laws_forget.specs.Ends.{EndsAmong, HaveSameEnds}
@@ -25,7 +26,7 @@ look_leaves : (p : Problem) (d : Five) (i : Instance) (x : Five) → IsMomentOf 
 look_leaves p d i x m a k =
     let still = at_objects_still p d m a (record { groups = k.of_objects; regions = k.at_objects }) in
     record {
-      goes = record { effects = k.effects; known = k.known; groups = k.groups; regions = k.regions; still_groups = still.groups; still_regions = still.regions };
+      goes = record { effects = k.effects; known = k.known; groups = k.groups; regions = k.regions; still_groups = still.groups; still_regions = still.regions; minded = aims_minded p.signature d x p.goal k.aims };
       aims = k.aims;
     }
 

@@ -24,9 +24,10 @@ use Rattle.pks_laws_forget.proofs.Lists.{both_ways}
 use Rattle.pks_laws_forget.proofs.Cut.{assumed_more, rounds_have, rounds_leave}
 use Rattle.pks_laws_forget.proofs.Ends.{AreOrdered, forget, forget_steps, rounds_ordered, rounds_forget, along_same, first_within, quiet_within, first_closed}
 use Rattle.pks_laws_forget.specs.Looks.{AreWithout}
+use Rattle.pks_laws_forget.proofs.Held.{Upholds, is_minded, aims_still}
 use Rattle.pks_laws_forget.proofs.Thinned.{Steps, thin, fat, fat_start, thin_self, thin_fat, thin_within, thin_each, thin_forgets, one_goes}
 
--- a step without effects: what was known before is known after, groups and regions are the same, and in normal form by whatever literals
+-- a step without effects: what was known before is known after, groups and regions are the same, and in normal form by whatever literals, and aims over time ask for known literals or are met before for good
 pub record Continues (p : Problem) (d : Five) (i : Instance) (x : Five) : Type 0 where
   pub effects : effects_of p i ≡ []
   pub known : Within d.kf x.kf
@@ -34,11 +35,13 @@ pub record Continues (p : Problem) (d : Five) (i : Instance) (x : Five) : Type 0
   pub regions : d.lcw ≡ x.lcw
   pub still_groups : (kf : List Literal) → set_of conj_cmp (map (normal_group kf) d.kx) ≡ d.kx
   pub still_regions : (kf : List Literal) → set_of entry_cmp (map (normal_entry kf) d.lcw) ≡ d.lcw
+  pub minded : list_all (is_minded p.signature d) p.goal ≡ true
 
 -- such a step of which the same holds at both moments, once they are tidied
 pub record ContinuesAlike (p : Problem) (d : Five) (i : Instance) (x : Five) : Type 0 where
   pub goes : Continues p d i x
   pub alike : (l : Literal) → holds p.signature (tidied d) l ≡ holds p.signature (tidied x) l
+  pub upheld : Upholds p.signature d (tidied d)
 
 module _ (p : Problem) (inhabited : HasValues p.signature) where
   -- ---- such a step hands all on, and back, and nothing else
@@ -128,6 +131,7 @@ module _ (p : Problem) (inhabited : HasValues p.signature) where
         regions = a.regions;
         still_groups = λ kf. subst (λ gs. set_of conj_cmp (map (normal_group kf) gs) ≡ gs) w.0.1 (k.still_groups kf);
         still_regions = λ kf. subst (λ rs. set_of entry_cmp (map (normal_entry kf) rs) ≡ rs) w.0.2 (k.still_regions kf);
+        minded = aims_still p.signature d f (λ l h. holds_grows p.signature f inhabited c.0.0 c.0.1 d w.0.0 w.0.1 w.0.2 l h) p.goal k.minded;
       }
 
   -- and the same holds at both
@@ -140,7 +144,11 @@ module _ (p : Problem) (inhabited : HasValues p.signature) where
   alike_next : (d : Five) (x : Instance × Five) (xs : Steps) (f : Five) (z : Instance × Five) (zs : Steps) → Continues p d x.0 x.1 → WithinAlong d (x ∷ xs) f (z ∷ zs) → ClosedAlong p f (z ∷ zs) → ContinuesAlike p f z.0 z.1
   alike_next d x xs f z zs k w c =
       let own = first_closed p inhabited z.1 zs c.3 in
-      record { goes = still_next d x xs f z zs k w c; alike = same_holds f z.1 c.0.0 c.0.1 own.0 own.1 (like_next d x xs f z zs k w c) }
+      record {
+        goes = still_next d x xs f z zs k w c;
+        alike = same_holds f z.1 c.0.0 c.0.1 own.0 own.1 (like_next d x xs f z zs k w c);
+        upheld = λ l h. holds-tidied p.signature f (one_value p.signature f inhabited c.0.0 c.0.1) l ∙ h;
+      }
 
   -- what comes back from the like moment
   pub back_alike : (f : Five) (i : Instance) (z r : Five) → IsSaturated p.signature f → first_clash p.signature f ≡ None → IsSaturated p.signature z → first_clash p.signature z ≡ None → AreLike z r → Within (backward p i f r) (backward p i f z)
@@ -291,9 +299,9 @@ module _ (p : Problem) (inhabited : HasValues p.signature) where
 
   -- ---- in normal form
 
-  pub still_tidied : (b : Five) (i : Instance) (a : Five) → Continues p b i a → Continues p (tidied b) i (tidied a)
+  pub still_tidied : (b : Five) (i : Instance) (a : Five) → Upholds p.signature b (tidied b) → Continues p b i a → Continues p (tidied b) i (tidied a)
   unfolding tidied
-  still_tidied b i a k =
+  still_tidied b i a up k =
       let groups : set_of conj_cmp (map (normal_group b.kf) b.kx) ≡ b.kx = k.still_groups b.kf in
       let regions : set_of entry_cmp (map (normal_entry b.kf) b.lcw) ≡ b.lcw = k.still_regions b.kf in
       record {
@@ -303,6 +311,7 @@ module _ (p : Problem) (inhabited : HasValues p.signature) where
         regions = regions ∙ k.regions ∙ sym (subst (λ rs. set_of entry_cmp (map (normal_entry a.kf) rs) ≡ rs) k.regions (k.still_regions a.kf));
         still_groups = λ kf. subst (λ gs. set_of conj_cmp (map (normal_group kf) gs) ≡ gs) (sym groups) (k.still_groups kf);
         still_regions = λ kf. subst (λ rs. set_of entry_cmp (map (normal_entry kf) rs) ≡ rs) (sym regions) (k.still_regions kf);
+        minded = aims_still p.signature b (tidied b) up p.goal k.minded;
       }
 
   -- the databases that come to stand in the place of the step's last ones
@@ -334,4 +343,5 @@ module _ (p : Problem) (inhabited : HasValues p.signature) where
     regions = k.regions ∙ sym (subst (λ rs. set_of entry_cmp (map (normal_entry m.kf) rs) ≡ rs) k.regions (k.still_regions m.kf)) ∙ sym r.regions;
     still_groups = k.still_groups;
     still_regions = k.still_regions;
+    minded = k.minded;
   }

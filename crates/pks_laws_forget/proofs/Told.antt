@@ -30,12 +30,14 @@ use Rattle.pks_laws.proofs.ClosedAgain.{holds-tidied}
 use Rattle.pks_laws.proofs.Least.{in_left, literal_eq_itself, one_value, addition_in}
 use Rattle.pks_laws.proofs.NormalMembers.{normal_in}
 use Rattle.pks_laws_forget.specs.Transparent.{AreObjects, IsOfObjects, is_about, at_other_objects, IsTransparent, AreSetsAlong, with_first}
+use Rattle.pks_laws_forget.specs.Fewer.{is_held}
 use Rattle.pks_laws_forget.specs.Staying.{is_at_others, leaves, literal_stays, is_said_in, says_more, query_stays, aim_stays, aims_stay}
 use Rattle.pks_laws_forget.specs.Looks.{are_alike, is_empty}
 use Rattle.pks_laws_forget.proofs.Alike.{found_known, holds_cases, known_holds, normal_relation, evident_equation}
 use Rattle.pks_laws_forget.proofs.Lists.{both_ways, alike_same}
 use Rattle.pks_laws_forget.proofs.Cut.{KeepsGoal, cut_kept, assumed_more, rounds_leave}
 use Rattle.pks_laws_forget.proofs.Ends.{forget, first_closed}
+use Rattle.pks_laws_forget.proofs.Held.{Upholds, still_held, answered}
 use Rattle.pks_laws_forget.proofs.Tested.{equal_of}
 use Rattle.pks_laws_forget.proofs.Objects.{of_objects, literal_normal, others_differ}
 
@@ -236,30 +238,33 @@ module _ (p : Problem) (inhabited : HasValues p.signature) (i : Instance) where
   TellAlike d e (KnowWhether c) = Each (IsSame p.signature d e) c
   TellAlike d e (KnowValue t) = Unit {0}
 
-  -- of what each aim but those of the last moment asks
-  abbrev OfAim : (Plain → Type 0) → Aim → Type 0
-  OfAim P (Now q) = Unit {0}
-  OfAim P (AtStart q) = P q.asks
-  OfAim P (Always q) = P q.asks
-  OfAim P (Once q) = P q.asks
+  -- of what each aim but those of the last moment asks, or one of each moment is met by these databases for good
+  abbrev OfAim : Five → (Plain → Type 0) → Aim → Type 0
+  OfAim d P (Now q) = Unit {0}
+  OfAim d P (AtStart q) = P q.asks
+  OfAim d P (Always q) = P q.asks ⊎ (is_held p.signature d q ≡ true)
+  OfAim d P (Once q) = P q.asks
 
-  aim_weaker : (P Q : Plain → Type 0) → ((q : Plain) → P q → Q q) → (a : Aim) → OfAim P a → OfAim Q a
-  aim_weaker P Q f (Now q) k = tt
-  aim_weaker P Q f (AtStart q) k = f q.asks k
-  aim_weaker P Q f (Always q) k = f q.asks k
-  aim_weaker P Q f (Once q) k = f q.asks k
+  aim_weaker : (d d' : Five) → Upholds p.signature d d' → (P Q : Plain → Type 0) → ((q : Plain) → P q → Q q) → (a : Aim) → OfAim d P a → OfAim d' Q a
+  aim_weaker d d' up P Q f (Now q) k = tt
+  aim_weaker d d' up P Q f (AtStart q) k = f q.asks k
+  aim_weaker d d' up P Q f (Always q) k = ⊎_elim (λ a. inl (f q.asks a)) (λ h. inr (still_held p.signature d d' up q h)) k
+  aim_weaker d d' up P Q f (Once q) k = f q.asks k
 
-  aims_weaker : (P Q : Plain → Type 0) → ((q : Plain) → P q → Q q) → (xs : List Aim) → Each (OfAim P) xs → Each (OfAim Q) xs
-  aims_weaker P Q f xs k = each_weaker (OfAim P) (OfAim Q) (aim_weaker P Q f) xs k
+  aims_weaker : (d d' : Five) → Upholds p.signature d d' → (P Q : Plain → Type 0) → ((q : Plain) → P q → Q q) → (xs : List Aim) → Each (OfAim d P) xs → Each (OfAim d' Q) xs
+  aims_weaker d d' up P Q f xs k = each_weaker (OfAim d P) (OfAim d' Q) (aim_weaker d d' up P Q f) xs k
+
+  -- it is asked so, and none of Kw tells it
+  abbrev FitsPlain : Five → Five → Plain → Type 0
+  FitsPlain d e q = Asks q × SayMore d q × SayMore e q
 
   pub record Fit (d e : Five) : Type 0 where
     pub bare : d.lcw ≡ []
     pub bare_after : e.lcw ≡ []
-    pub before : Each (OfAim (SayMore d)) p.goal
-    pub after : Each (OfAim (SayMore e)) p.goal
+    pub aims : Each (OfAim d (FitsPlain d e)) p.goal
 
   abbrev Told : Five → Five → Type 0
-  Told d e = Each (OfAim (TellAlike d e)) p.goal
+  Told d e = Each (OfAim d (TellAlike d e)) p.goal
 
   plain_same : (d e : Five) (q : Plain) → Asks q → SayMore d q → SayMore e q → TellAlike d e q → answers_plain p.signature d q ≡ answers_plain p.signature e q
   plain_same d e (Know l) a m n k = k.0
@@ -280,17 +285,20 @@ module _ (p : Problem) (inhabited : HasValues p.signature) (i : Instance) where
   or_once_more a true r e = ap (λ x. x || true) e
   or_once_more a false r e = ap (λ x. x || r) e
 
-  aim_same : (d e : Five) (steps : List (Instance × Five)) (a : Aim) → OfAim Asks a → OfAim (SayMore d) a → OfAim (SayMore e) a → OfAim (TellAlike d e) a
+  aim_same : (d e : Five) (steps : List (Instance × Five)) (a : Aim) → OfAim d (FitsPlain d e) a → OfAim d (TellAlike d e) a
       → is_met p.signature (record { start = d; steps = (i, e) ∷ steps }) a ≡ is_met p.signature (record { start = e; steps = steps }) a
-  aim_same d e steps (Now q) a m n k = refl
-  aim_same d e steps (AtStart q) a m n k = answers_same d e q a m n k
-  aim_same d e steps (Always q) a m n k = once_more _ _ _ (answers_same d e q a m n k)
-  aim_same d e steps (Once q) a m n k = or_once_more _ _ _ (answers_same d e q a m n k)
+  aim_same d e steps (Now q) f k = refl
+  aim_same d e steps (AtStart q) f k = answers_same d e q f.0 f.1 f.2 k
+  aim_same d e steps (Always q) f k =
+      let met : is_held p.signature d q ≡ true → list_all (λ d. answers p.signature d q) (d ∷ e ∷ map (λ (x : Instance × Five). x.1) steps) ≡ list_all (λ d. answers p.signature d q) (e ∷ map (λ (x : Instance × Five). x.1) steps) =
+          λ h. ap (λ b. b && list_all (λ d. answers p.signature d q) (e ∷ map (λ (x : Instance × Five). x.1) steps)) (answered p.signature d q h) in
+      ⊎_elim (λ f. ⊎_elim (λ k. once_more _ _ _ (answers_same d e q f.0 f.1 f.2 k)) met k) met f
+  aim_same d e steps (Once q) f k = or_once_more _ _ _ (answers_same d e q f.0 f.1 f.2 k)
 
-  all_same : (d e : Five) (steps : List (Instance × Five)) (xs : List Aim) → Each (OfAim Asks) xs → Each (OfAim (SayMore d)) xs → Each (OfAim (SayMore e)) xs → Each (OfAim (TellAlike d e)) xs
+  all_same : (d e : Five) (steps : List (Instance × Five)) (xs : List Aim) → Each (OfAim d (FitsPlain d e)) xs → Each (OfAim d (TellAlike d e)) xs
       → list_all (is_met p.signature (record { start = d; steps = (i, e) ∷ steps })) xs ≡ list_all (is_met p.signature (record { start = e; steps = steps })) xs
-  all_same d e steps [] a m n k = refl
-  all_same d e steps (x ∷ xs) a m n k = λ j. aim_same d e steps x a.0 m.0 n.0 k.0 j && all_same d e steps xs a.1 m.1 n.1 k.1 j
+  all_same d e steps [] f k = refl
+  all_same d e steps (x ∷ xs) f k = λ j. aim_same d e steps x f.0 k.0 j && all_same d e steps xs f.1 k.1 j
 
   -- ---- what fits stays so
 
@@ -298,13 +306,13 @@ module _ (p : Problem) (inhabited : HasValues p.signature) (i : Instance) where
   Mores c d = Each (λ k. says_more c k ≡ true) d.kw
 
   -- with fewer formulas, or with these in normal form
-  say_fewer : (d e : Five) → ((c : List Literal) → Mores c d → Mores c e) → (xs : List Aim) → Each (OfAim (SayMore d)) xs → Each (OfAim (SayMore e)) xs
-  say_fewer d e f xs k = aims_weaker (SayMore d) (SayMore e) go xs k
-    where
-      go : (q : Plain) → SayMore d q → SayMore e q
-      go (Know l) m = tt
-      go (KnowWhether c) m = f c m
-      go (KnowValue t) m = tt
+  say_fewer : (d e : Five) → ((c : List Literal) → Mores c d → Mores c e) → (q : Plain) → SayMore d q → SayMore e q
+  say_fewer d e f (Know l) m = tt
+  say_fewer d e f (KnowWhether c) m = f c m
+  say_fewer d e f (KnowValue t) m = tt
+
+  fit_fewer : (d e d' e' : Five) → Upholds p.signature d d' → ((c : List Literal) → Mores c d → Mores c d') → ((c : List Literal) → Mores c e → Mores c e') → (xs : List Aim) → Each (OfAim d (FitsPlain d e)) xs → Each (OfAim d' (FitsPlain d' e')) xs
+  fit_fewer d e d' e' up f g xs k = aims_weaker d d' up (FitsPlain d e) (FitsPlain d' e') (λ q z. (z.0, say_fewer d d' f q z.1, say_fewer e e' g q z.2)) xs k
 
   same_more : (d e : Five) → forget e ≡ forget d → (c : List Literal) → Mores c d → Mores c e
   same_more d e g c m = subst (λ (x : Five). Each (λ k. says_more c k ≡ true) x.kw) (sym g) m
@@ -361,28 +369,27 @@ module _ (p : Problem) (inhabited : HasValues p.signature) (i : Instance) where
 
   -- ---- the law
 
-  pub asked_keeps : Each (OfAim Asks) p.goal → KeepsGoal p i Fit Told
+  pub asked_keeps : KeepsGoal p i Fit Told
   unfolding met
-  asked_keeps asks = record {
-    goal = λ d e steps f k. all_same d e steps p.goal asks f.before f.after k;
-    grown = λ d e d' e' f g h. record {
+  asked_keeps = record {
+    goal = λ d e steps f k. all_same d e steps p.goal f.aims k;
+    grown = λ d e d' e' f up g h. record {
       bare = ap (λ (x : Five). x.lcw) g ∙ f.bare;
       bare_after = ap (λ (x : Five). x.lcw) h ∙ f.bare_after;
-      before = say_fewer d d' (same_more d d' g) p.goal f.before;
-      after = say_fewer e e' (same_more e e' h) p.goal f.after;
+      aims = fit_fewer d e d' e' up (same_more d d' g) (same_more e e' h) p.goal f.aims;
     };
-    tidy = λ d e f. record {
+    tidy = λ d e f up. record {
       bare = tidied_bare d f.bare;
       bare_after = tidied_bare e f.bare_after;
-      before = say_fewer d (tidied d) (tidied_more d) p.goal f.before;
-      after = say_fewer e (tidied e) (tidied_more e) p.goal f.after;
+      aims = fit_fewer d e (tidied d) (tidied e) up (tidied_more d) (tidied_more e) p.goal f.aims;
     };
-    alike = λ d e steps f c. aims_weaker Asks (TellAlike (tidied d) (tidied e)) (told_settled d e steps c f.bare f.bare_after) p.goal asks;
+    alike = λ d e steps f c.
+        let up : Upholds p.signature d (tidied d) = λ l h. holds-tidied p.signature d (one_value p.signature d inhabited c.0.0 c.0.1) l ∙ h in
+        aims_weaker d (tidied d) up (FitsPlain d e) (TellAlike (tidied d) (tidied e)) (λ q z. told_settled d e steps c f.bare f.bare_after q z.0) p.goal f.aims;
     assumed = λ d e e' c side f a. record {
       bare = f.bare;
       bare_after = closed_bare e e' c side a f.bare_after;
-      before = f.before;
-      after = say_fewer e e' (closed_says e e' c side a) p.goal f.after;
+      aims = fit_fewer d e d e' (λ l h. h) (λ c m. m) (closed_says e e' c side a) p.goal f.aims;
     };
   }
     where
@@ -402,25 +409,27 @@ module _ (p : Problem) (inhabited : HasValues p.signature) (i : Instance) where
         (record { objects = of_objects l b.0; left = each_from_all (λ (x : Effect). leaves l x.target ≡ true) (λ (x : Effect). leaves l x.target) (λ x k. k) (effects_of p i) b.1 }, (alike_same _ _ c.0, alike_same _ _ c.1))
 
     abbrev Stays : Plain → Type 0
-    Stays q = Asks q × SayMore d q × SayMore e q × TellAlike d e q
+    Stays q = FitsPlain d e q × TellAlike d e q
 
     query_asked : (q : Plain) → query_stays p.signature (effects_of p i) d e q ≡ true → Stays q
-    query_asked (Know l) h = let k = literal_asked l h in (k.0, tt, tt, k.1)
+    query_asked (Know l) h = let k = literal_asked l h in ((k.0, tt, tt), k.1)
     query_asked (KnowWhether c) h =
         let a = and_parts (list_all (literal_stays p.signature (effects_of p i) d e) c) _ h in
         let b = and_parts (list_all (says_more c) d.kw) _ a.1 in
         let k = each_from_all (λ l. IsLeft (effects_of p i) l × IsSame p.signature d e l) (literal_stays p.signature (effects_of p i) d e) literal_asked c a.0 in (
-          each_weaker (λ l. IsLeft (effects_of p i) l × IsSame p.signature d e l) (IsLeft (effects_of p i)) (λ l z. z.0) c k,
-          each_from_all (λ k. says_more c k ≡ true) (says_more c) (λ k z. z) d.kw b.0,
-          each_from_all (λ k. says_more c k ≡ true) (says_more c) (λ k z. z) e.kw b.1,
+          (
+            each_weaker (λ l. IsLeft (effects_of p i) l × IsSame p.signature d e l) (IsLeft (effects_of p i)) (λ l z. z.0) c k,
+            each_from_all (λ k. says_more c k ≡ true) (says_more c) (λ k z. z) d.kw b.0,
+            each_from_all (λ k. says_more c k ≡ true) (says_more c) (λ k z. z) e.kw b.1,
+          ),
           each_weaker (λ l. IsLeft (effects_of p i) l × IsSame p.signature d e l) (IsSame p.signature d e) (λ l z. z.1) c k,
         )
     query_asked (KnowValue t) h = absurd (true≢false (sym h))
 
-    aim_asked : (a : Aim) → aim_stays p.signature (effects_of p i) d e a ≡ true → OfAim Stays a
+    aim_asked : (a : Aim) → aim_stays p.signature (effects_of p i) d e a ≡ true → OfAim d Stays a
     aim_asked (Now q) h = tt
     aim_asked (AtStart q) h = query_asked q.asks h
-    aim_asked (Always q) h = query_asked q.asks h
+    aim_asked (Always q) h = ⊎_elim (λ k. inl (query_asked q.asks k)) (λ k. inr k) (or_cases (query_stays p.signature (effects_of p i) d e q.asks) _ h)
     aim_asked (Once q) h = query_asked q.asks h
 
 nothing_in : {X : Type 0} (xs : List X) → is_empty xs ≡ true → xs ≡ []
@@ -434,12 +443,10 @@ cut_told p before i h t v m sets k stay =
     let n = v.signature.values in
     let a = and_parts (is_empty before.lcw && is_empty h.start.lcw) _ stay in
     let b = and_parts (is_empty before.lcw) _ a.0 in
-    let all = each_from_all (OfAim p n i (Stays p n i before h.start)) (aim_stays p.signature (effects_of p i) before h.start) (aim_asked p n i before h.start) p.goal a.1 in
-    let asks = aims_weaker p n i (Stays p n i before h.start) (Asks p n i) (λ q z. z.0) p.goal all in
+    let all = each_from_all (OfAim p n i before (Stays p n i before h.start)) (aim_stays p.signature (effects_of p i) before h.start) (aim_asked p n i before h.start) p.goal a.1 in
     let fit : Fit p n i before h.start = record {
       bare = nothing_in before.lcw b.0;
       bare_after = nothing_in h.start.lcw b.1;
-      before = aims_weaker p n i (Stays p n i before h.start) (SayMore p n i before) (λ q z. z.1) p.goal all;
-      after = aims_weaker p n i (Stays p n i before h.start) (SayMore p n i h.start) (λ q z. z.2) p.goal all;
+      aims = aims_weaker p n i before before (λ l h. h) (Stays p n i before h.start) (FitsPlain p n i before h.start) (λ q z. z.0) p.goal all;
     } in
-    cut_kept p before i h t (Fit p n i) (Told p n i) (asked_keeps p n i asks) fit (aims_weaker p n i (Stays p n i before h.start) (TellAlike p n i before h.start) (λ q z. z.3) p.goal all) v m sets k
+    cut_kept p before i h t (Fit p n i) (Told p n i) (asked_keeps p n i) fit (aims_weaker p n i before before (λ l h. h) (Stays p n i before h.start) (TellAlike p n i before h.start) (λ q z. z.1) p.goal all) v m sets k

@@ -1,7 +1,5 @@
 -- A history without some looks has the same derived trees.
-use Rattle.std.proofs.Common.{◌≡◌, true, [], ◌∷◌, refl, sym, ◌∙◌, subst, inl, inr, ⊎_elim, true≢false}
-use Rattle.std.specs.List.{list_all}
-use Rattle.std.proofs.lemmas.Bool.{cases_Bool}
+use Rattle.std.proofs.Common.{◌≡◌, true, sym, subst}
 use Rattle.pks_terms.specs.Signatures.{Signature}
 use Rattle.pks_terms.specs.Databases.{Five, AreSets}
 use Rattle.pks_terms.specs.Closure.{tidied, Next}
@@ -16,11 +14,12 @@ use Rattle.pks_terms.specs.Actions.{Instance}
 use Rattle.pks_laws_forget.specs.Looks.{aims_are_told_alike, IsLook, AreWithout}
 use Rattle.pks_laws_forget.specs.Transparent.{AreSetsAlong}
 use Rattle.pks_laws_forget.proofs.Looks.{Leaves, looks_leave}
-use Rattle.pks_laws_forget.proofs.MetAlike.{asks_literal, aims_ask, aims_alike, met_told}
+use Rattle.pks_laws_forget.proofs.Held.{aims_alike}
+use Rattle.pks_laws_forget.proofs.MetAlike.{met_told}
 use Rattle.pks_laws_forget.proofs.Pairs.{Keeps, same_trees}
 use Rattle.pks_laws_forget.proofs.SetsAlong.{ordered_of}
 use Rattle.pks_laws_forget.proofs.Still.{Continues, ContinuesAlike, same_clash, ends_without, still_tidied, side_replaces, still_replaced}
-use Rattle.pks_laws_forget.proofs.Thinned.{Steps, ended, ended_is, thin_self, thin_each, thin_deeds, without_last, without_pushed, without_ended, without_weaker, without_mapped}
+use Rattle.pks_laws_forget.proofs.Thinned.{ended, ended_is, thin_self, thin_each, thin_deeds, without_last, without_pushed, without_ended, without_weaker, without_mapped}
 
 -- ---- moments and sets
 
@@ -54,39 +53,26 @@ module _ (p : Problem) (v : IsValid p) where
       (subst (IsNearlyWithout (ended h.start h.steps d)) (sym (ended_is g.start g.steps d))
       (without_ended (Continues p) d h.start h.steps g.start g.steps (λ b i. still_replaced p v.signature.values b i (last_moment h) d (side_replaces p v.signature.values (last_moment h) d c side a)) k))
 
-  module _ (literals : list_all asks_literal p.goal ≡ true) where
-    leaves_tidied : (b : Five) (i : Instance) (a : Five) → ContinuesAlike p b i a → Leaves p (tidied b) i (tidied a)
-    leaves_tidied b i a k = record { goes = still_tidied p v.signature.values b i a k.goes; aims = aims_alike p (tidied b) (tidied a) k.alike literals }
+  leaves_tidied : (b : Five) (i : Instance) (a : Five) → ContinuesAlike p b i a → Leaves p (tidied b) i (tidied a)
+  leaves_tidied b i a k =
+      let goes = still_tidied p v.signature.values b i a k.upheld k.goes in
+      record { goes = goes; aims = aims_alike p.signature (tidied b) (tidied a) k.alike p.goal goes.minded }
 
-    keeps_without : Keeps p IsWithout IsNearlyWithout
-    keeps_without = record {
-      last = λ h g k. without_last (Leaves p) h.start h.steps g.start g.steps k;
-      goal = λ h g k. met_told p h g (without_weaker (Leaves p) (λ b i a. aims_are_told_alike p b a ≡ true) (λ b i a k. k.aims) h.start h.steps g.start g.steps k);
-      acts = λ h g x d k chosen chosen' q q'. without_pushed (Leaves p) h.start h.steps g.start g.steps (x, d) k;
-      sides = λ h g c side d o o' k a a'. replaced_without h g c side d (nearly h g k) a;
-      clash = λ h g n m o o' k e f. same_clash p v.signature.values h.start h.steps g.start g.steps k n m e f;
-      settled = λ h g n m o o' k e f q q'.
-          let end : History = settle_rounds p n h in
-          let end' : History = settle_rounds p m g in
-          without_mapped (ContinuesAlike p) (Leaves p) tidied leaves_tidied end.start end.steps end'.start end'.steps (ends_without p v.signature.values h.start h.steps g.start g.steps k n m (ordered_of p h o.sets) e q f);
-    }
-
-  -- where an aim over time asks for anything else, no moment is left out
-  none_left : (list_all asks_literal p.goal ≡ true → ⊥) → (d : Five) (xs : Steps) (e : Five) (ys : Steps) → AreWithout (Leaves p) d xs e ys → (d ≡ e) × (xs ≡ ys)
-  none_left n d [] e [] k = (k, refl)
-  none_left n d [] e (y ∷ ys) k = absurd k
-  none_left n d (x ∷ xs) e [] k = absurd (n (aims_ask p d x.1 k.0.aims))
-  none_left n d (x ∷ xs) e (y ∷ ys) (inl k) = absurd (n (aims_ask p d x.1 k.0.aims))
-  none_left n d (x ∷ xs) e (y ∷ ys) (inr k) = let r = none_left n x.1 xs y.1 ys k.2 in (k.0, λ i. (k.1 i, r.0 i) ∷ r.1 i)
+  keeps_without : Keeps p IsWithout IsNearlyWithout
+  keeps_without = record {
+    last = λ h g k. without_last (Leaves p) h.start h.steps g.start g.steps k;
+    goal = λ h g k. met_told p h g (without_weaker (Leaves p) (λ b i a. aims_are_told_alike p b a ≡ true) (λ b i a k. k.aims) h.start h.steps g.start g.steps k);
+    acts = λ h g x d k chosen chosen' q q'. without_pushed (Leaves p) h.start h.steps g.start g.steps (x, d) k;
+    sides = λ h g c side d o o' k a a'. replaced_without h g c side d (nearly h g k) a;
+    clash = λ h g n m o o' k e f. same_clash p v.signature.values h.start h.steps g.start g.steps k n m e f;
+    settled = λ h g n m o o' k e f q q'.
+        let end : History = settle_rounds p n h in
+        let end' : History = settle_rounds p m g in
+        without_mapped (ContinuesAlike p) (Leaves p) tidied leaves_tidied end.start end.steps end'.start end'.steps (ends_without p v.signature.values h.start h.steps g.start g.steps k n m (ordered_of p h o.sets) e q f);
+  }
 
   pub without_looks : (h g : History) (t : Tree) → AreMomentsOf p h → AreSetsAlong h → AreWithout (IsLook p) h.start h.steps g.start g.steps → (Derives p (At h) t → Derives p (At g) t) × (Derives p (At g) t → Derives p (At h) t)
   without_looks h g t m a k =
       let own = moments_without p h g m a k in
       let left = looks_leave p h.start h.steps g.start g.steps m.start m.steps a.start a.steps k in
-      ⊎_elim
-      (λ l. same_trees p v IsWithout IsNearlyWithout (keeps_without l) h g t left (record { moments = m; sets = a }) (record { moments = own.0; sets = own.1 }))
-      (λ n.
-      let r = none_left (λ l. true≢false (sym l ∙ n)) h.start h.steps g.start g.steps left in
-      let same : h ≡ g = λ i. record { start = r.0 i; steps = r.1 i } in
-      (subst (λ (f : History). Derives p (At f) t) same, subst (λ (f : History). Derives p (At f) t) (sym same)))
-      (cases_Bool (list_all asks_literal p.goal))
+      same_trees p v IsWithout IsNearlyWithout keeps_without h g t left (record { moments = m; sets = a }) (record { moments = own.0; sets = own.1 })

@@ -1,5 +1,5 @@
 -- Looks: steps of a history by actions without effects. Such a step makes no moment of its own.
-use Rattle.std.specs.Prelude.{◌≡◌, ◌⊎◌, ◌&&◌, Bool, true, false, not, cond, List, [], ◌∷◌}
+use Rattle.std.specs.Prelude.{◌≡◌, ◌⊎◌, ◌&&◌, ◌||◌, Bool, true, false, not, cond, List, [], ◌∷◌}
 use Rattle.std.specs.List.{list_all, list_any}
 use Rattle.std.specs.Ordering.{is_eq}
 use Rattle.pks_terms.specs.Sets.{Each}
@@ -14,6 +14,7 @@ use Rattle.pks_terms.specs.Problems.{Aim, Now, AtStart, Always, Once, Problem}
 use Rattle.pks_terms.specs.Settling.{History, effects_of}
 use Rattle.pks_terms.specs.Saturated.{Within}
 use Rattle.pks_terms.specs.Objects.{is_of_objects}
+use Rattle.pks_laws_forget.specs.Fewer.{is_held}
 use Rattle.pks_laws_forget.specs.Transparent.{AreObjects, IsOfObjects}
 use Rattle.pks_laws_forget.specs.Testing.{has, lasts_as_region}
 
@@ -27,18 +28,18 @@ is_told_alike s d e (Know l) = are_alike (holds s d l) (holds s e l)
 is_told_alike s d e (KnowWhether c) = false
 is_told_alike s d e (KnowValue t) = false
 
--- so of an aim, unless it is one of the last moment
+-- so of an aim, unless it is one of the last moment, or one of each moment that the first meets for good
 abbrev pub aim_is_told_alike : Signature → Five → Five → Aim → Bool
 aim_is_told_alike s d e (Now q) = true
 aim_is_told_alike s d e (AtStart q) = is_told_alike s d e q.asks
-aim_is_told_alike s d e (Always q) = is_told_alike s d e q.asks
+aim_is_told_alike s d e (Always q) = is_told_alike s d e q.asks || is_held s d q
 aim_is_told_alike s d e (Once q) = is_told_alike s d e q.asks
 
 -- so with each aim of the problem
 abbrev pub aims_are_told_alike : Problem → Five → Five → Bool
 aims_are_told_alike p d e = list_all (aim_is_told_alike p.signature d e) p.goal
 
--- the action has no effects, aims over time are told alike before and after, what was known before is known after, and groups and regions are the same and speak of objects alone
+-- the action has no effects, aims over time are told alike before and after or met for good, what was known before is known after, and groups and regions are the same and speak of objects alone
 pub record IsLook (p : Problem) (before : Five) (i : Instance) (after : Five) : Type 0 where
   pub effects : effects_of p i ≡ []
   pub aims : aims_are_told_alike p before after ≡ true

@@ -1,4 +1,4 @@
--- Aims over time that a step leaves as they are: what they ask is told alike by the moment before it and by the one after.
+-- Aims over time that a step leaves as they are: what they ask is told alike by the moment before it and by the one after, or met for good by the one before.
 use Rattle.std.specs.Prelude.{Bool, true, false, not, ◌&&◌, ◌||◌, List}
 use Rattle.std.specs.List.{list_any, list_all}
 use Rattle.pks_terms.specs.Syntax.{Term, Literal, negated}
@@ -10,6 +10,7 @@ use Rattle.pks_terms.specs.Actions.{Target, Set, Unset, Clear, Assign, Effect, I
 use Rattle.pks_terms.specs.Problems.{Aim, Now, AtStart, Always, Once, Problem}
 use Rattle.pks_terms.specs.Settling.{effects_of}
 use Rattle.pks_terms.specs.Objects.{is_of_objects}
+use Rattle.pks_laws_forget.specs.Fewer.{is_held}
 use Rattle.pks_laws_forget.specs.Transparent.{is_about, at_other_objects}
 use Rattle.pks_laws_forget.specs.Looks.{are_alike, is_empty}
 
@@ -43,11 +44,11 @@ query_stays s es before after (Know l) = literal_stays s es before after l
 query_stays s es before after (KnowWhether c) = list_all (literal_stays s es before after) c && (list_all (says_more c) before.kw && list_all (says_more c) after.kw)
 query_stays s es before after (KnowValue t) = false
 
--- so with each aim but those of the last moment
+-- so with each aim but those of the last moment, and those of each moment that the first meets for good
 abbrev pub aim_stays : Signature → List Effect → Five → Five → Aim → Bool
 aim_stays s es before after (Now q) = true
 aim_stays s es before after (AtStart q) = query_stays s es before after q.asks
-aim_stays s es before after (Always q) = query_stays s es before after q.asks
+aim_stays s es before after (Always q) = query_stays s es before after q.asks || is_held s before q
 aim_stays s es before after (Once q) = query_stays s es before after q.asks
 
 -- so with each aim of the problem, and there are no regions

@@ -1,52 +1,21 @@
 //! A problem without the aims that a history meets for good. `docs/RULES.md` says when it does.
-ghost use Rattle.std.specs.Prelude.{◌≡◌, ◌||◌, IsTrue, IfOk, map};
-ghost use Rattle.std.specs.List.{list_any, list_all};
+ghost use Rattle.std.specs.Prelude.{◌≡◌, IsTrue, IfOk, map};
+ghost use Rattle.std.specs.List.{list_any};
 ghost use Rattle.pks_terms.specs.Aims.{moments};
-ghost use Rattle.pks_terms.specs.Databases.{holds};
-ghost use Rattle.pks_terms.specs.Syntax.{negated};
-ghost use Rattle.pks_terms.specs.Views.{literals_in, aim_of, query_of, signature_of};
-ghost use Rattle.pks_query_lookup.specs.Fives.{five_of};
+ghost use Rattle.pks_terms.specs.Views.{aim_of, query_of, signature_of};
 ghost use Rattle.pks_laws_forget.specs.Fewer.{is_held, is_met_for_good};
 ghost use Rattle.pks_search.specs.Fewer.{unmet_aims, with_goal};
 
 use crate::copying::{same_init, same_names, same_schemas, same_signature};
 use pks_history::histories::History;
-use pks_query::databases::Db;
+use pks_history_forget::held::is_held;
 use pks_search_symmetry::same_query;
-use pks_terms::literal::Literal;
 use pks_terms::problem::{Aim, AimList, Problem, Signature};
 use pks_terms::schema::Query;
 use pks_terms::sequence::Sequence;
-use pks_terms::term::front;
 use std::alloc::{AllocError, Global};
 
-/// Whether each of the literals is derived true or false.
-fn are_told(s: &Signature, d: &Db, literals: &[Literal]) -> bool
-    ensures { result ≡ list_all (λ l. holds (signature_of s.now) (five_of d.now) l || holds (signature_of s.now) (five_of d.now) (negated l)) (literals_in literals.now) }
-{
-    for l in literals {
-        if !(d.known(s, l) || d.denies(s, l)) {
-            return false;
-        }
-    }
-    true
-}
-
-/// Whether the query asks for a literal that the databases know, or about a formula that literals decide.
-fn is_held(s: &Signature, d: &Db, q: &Query) -> bool
-    ensures { result ≡ is_held (signature_of s.now) (five_of d.now) (query_of q.now) }
-{
-    match q {
-        Query::K(l) => d.known(s, l),
-        Query::Kw(c) => {
-            let literals = front(&c.literals, c.n);
-            d.some_denied(s, literals) || are_told(s, d, literals)
-        }
-        Query::Kv(_) | Query::NotK(_) | Query::NotKw(_) | Query::NotKv(_) => false,
-    }
-}
-
-/// Whether so it is at some moment.
+/// Whether some moment answers the query for good.
 fn is_held_once(s: &Signature, h: &History, q: &Query) -> bool
     ensures { result ≡ list_any (λ d. is_held (signature_of s.now) d (query_of q.now)) (moments h.now) }
 {

@@ -349,6 +349,53 @@ fn aims_that_are_met_on_the_way_ask_no_more(rt: HostRuntime) -> Result<(), Fail>
     all_so(rt.alloc(), MET_ON_THE_WAY)
 }
 
+/// Whether it is lit is to be known throughout: a look behind the gust tells it of the moment before, but only once it is asked for.
+const LIT_THROUGHOUT: &str = "(pks 2)
+(domain (predicates (lit) (wind) (done))
+  (action gust (effects (when ((wind)) (unset (lit))) (set (done))) (knows (kf (done))))
+  (action look (senses (sense (lit))) (knows (kw (lit)))))
+(problem (init (kf (lit))) (goal (k (done)) (always (kw (lit)))))
+";
+
+const LIT_THROUGHOUT_PLAN: &str = "plan depth 3
+(gust)
+(look)
+branch (lit)
+true
+  goal
+false
+  goal
+";
+
+/// It is to be lit throughout, which lighting it again leaves so, and a gust may not.
+const LIT_AGAIN: &str = "(pks 2)
+(domain (predicates (lit) (wind) (warm) (done))
+  (action light (effects (set (lit)) (set (warm))) (knows (kf (lit)) (kf (warm))))
+  (action gust (pre (k (warm))) (effects (when ((wind)) (unset (lit))) (set (done))) (knows (kf (done))))
+  (action feel (senses (sense (wind))) (knows (kw (wind))))
+  (action shelter (effects (unset (wind))) (knows (kf (not (wind))))))
+(problem (init (kf (lit))) (goal (k (done)) (always (k (lit)))))
+";
+
+const LIT_AGAIN_PLAN: &str = "plan depth 3
+(light)
+(shelter)
+(gust)
+goal
+";
+
+const MET_THROUGHOUT: &[Answered] = &[
+    Answered("plan 2", LIT_THROUGHOUT, NoPlan, "none to depth 2\n"),
+    Answered("plan 16", LIT_THROUGHOUT, Done, LIT_THROUGHOUT_PLAN),
+    Answered("plan 2", LIT_AGAIN, NoPlan, "none to depth 2\n"),
+    Answered("plan 16", LIT_AGAIN, Done, LIT_AGAIN_PLAN),
+];
+
+#[test]
+fn aims_that_each_moment_meets_keep_no_past(rt: HostRuntime) -> Result<(), Fail> {
+    all_so(rt.alloc(), MET_THROUGHOUT)
+}
+
 /// What is asked of some moment is of a place that a step assigns: what is learnt of it later tells it of that moment.
 const ONCE_THERE: &str = "(pks 2)
 (domain (types t) (objects (t a b)) (predicates (q t) (done)) (functions (f t))

@@ -4,7 +4,7 @@ use Rattle.pks_terms.specs.Databases.{holds}
 use Rattle.pks_terms.specs.Syntax.{negated}
 use Rattle.pks_terms.specs.Views.{literals_in, signature_of}
 use Rattle.pks_query_lookup.specs.Fives.{five_of}
-use Rattle.pks_search.proofs.fewer.are_told.Given as goal
+use Rattle.pks_history_forget.proofs.held.are_told.Given as goal
 
 abbrev pub invariant-loop-l : goal.invariant-loop-l
 invariant-loop-l l =
