@@ -252,12 +252,19 @@ class PastMaker(Maker):
         other = self.chance.choice(literals)
         return ('kw', one, other) if kind == 'both' and other != one else ('kw', one)
 
+    def query_of(self, literal: Expression) -> Expression:
+        """Whether a literal is known, or whether it is true or false, or a formula that has it."""
+        if self.may(0.6):
+            return ('k', literal)
+        other = self.chance.choice([*self.causes, *self.facts, literal])
+        return ('kw', literal) if other == literal or self.may(0.5) else ('kw', literal, other)
+
     def aim_over_time(self) -> Expression:
         """An aim of the start, of always or of once: mostly such as a plan can meet."""
         known = [item[1] for item in self.known if item[0] == 'kf']
         word = self.chance.choice(OVER_TIME if known else ('at-start', 'once'))
         if known and self.may(0.9 if word == 'always' else 0.1):
-            return (word, ('k', self.chance.choice(known)))
+            return (word, self.query_of(self.chance.choice(known)))
         if word == 'once' and self.reached and self.may(0.4):
             return (word, ('k', self.chance.choice(self.reached)))
         if word != 'always' and self.may(0.75):
