@@ -124,10 +124,10 @@ fn put_must_have_fired(
     if literals.is_empty() {
         return Ok(());
     }
-    if is_made_otherwise(change, &e.target.at(i), earlier, later) {
+    if !has_turned(alloc, change, after, &e.target)? {
         return Ok(());
     }
-    if !has_turned(alloc, change, after, &e.target)? {
+    if is_made_otherwise(change, &e.target.at(i), earlier, later) {
         return Ok(());
     }
     to.extend_from_slice(literals)?;
@@ -219,10 +219,10 @@ fn put_cannot_have_fired(
     if denied.is_empty() {
         return Ok(());
     }
-    if can_be_undone(change, &e.target.at(i), later) {
+    if !is_denied_after(alloc, change, after, &e.target)? {
         return Ok(());
     }
-    if !is_denied_after(alloc, change, after, &e.target)? {
+    if can_be_undone(change, &e.target.at(i), later) {
         return Ok(());
     }
     to.extend_from_slice(denied.as_slice())?;

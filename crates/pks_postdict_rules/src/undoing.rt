@@ -45,10 +45,10 @@ fn assigns_so(change: &Change<'_>, place: &Term, value: &Term, e: &Effect) -> bo
     ensures { result ≡ assigns_so (signature_in change.now) (before_in change.now) (term_of place.now) (term_of value.now) (effect_at (given_in change.now) (effect_of e.now)) }
 {
     let (s, d) = (change.signature, change.before);
-    let e = e.at(change.effects.instance);
-    may_change(s, d, place, &e.target)
-        && assigns_alike(change, value, &e.target)
-        && may_fire(s, d, &e)
+    let target = e.target.at(change.effects.instance);
+    may_change(s, d, place, &target)
+        && assigns_alike(change, value, &target)
+        && may_fire(s, d, &e.at(change.effects.instance))
 }
 
 /// Whether one of the effects may fire and may assign to the place a value that does not differ from this one.
