@@ -291,7 +291,7 @@ module _ (p : Problem) (inhabited : HasValues p.signature) (i : Instance) where
   aim_same d e steps (AtStart q) f k = answers_same d e q f.0 f.1 f.2 k
   aim_same d e steps (Always q) f k =
       let met : is_held p.signature d q ≡ true → list_all (λ d. answers p.signature d q) (d ∷ e ∷ map (λ (x : Instance × Five). x.1) steps) ≡ list_all (λ d. answers p.signature d q) (e ∷ map (λ (x : Instance × Five). x.1) steps) =
-          λ h. ap (λ b. b && list_all (λ d. answers p.signature d q) (e ∷ map (λ (x : Instance × Five). x.1) steps)) (answered p.signature d q h) in
+      λ h. ap (λ b. b && list_all (λ d. answers p.signature d q) (e ∷ map (λ (x : Instance × Five). x.1) steps)) (answered p.signature d q h) in
       ⊎_elim (λ f. ⊎_elim (λ k. once_more _ _ _ (answers_same d e q f.0 f.1 f.2 k)) met k) met f
   aim_same d e steps (Once q) f k = or_once_more _ _ _ (answers_same d e q f.0 f.1 f.2 k)
 
