@@ -268,20 +268,24 @@ def replaced(expression: Expression, words: Dict[str, Expression]) -> Expression
 
 def found_out(file: File) -> Iterator[Change]:
     """Of each fact and value that is asked for, that no action changes and that none finds out: an action that does."""
-    told = {word for action in file.actions for add in action.knows if item_of(add)[0] in ('kw', 'kv')
-            for word in words_of(item_of(add))}
     for head in dict.fromkeys(asked_heads(file)):
-        if head not in told | changed_heads(file) and not is_settled(file, head):
+        if head not in found_heads(file) | changed_heads(file) and not is_settled(file, head):
             look, what = finder(file, head), 'its value' if head in file.results else 'whether it is so'
             yield Change(Rank.FIND_OUT, replace(file, actions=(*file.actions, look)),
                          'add an action that finds it out, such as', (written(look.expression()),),
                          f'`{head}` is asked for, no action changes it, and none finds out {what}.')
 
 
+def found_heads(file: File) -> Set[str]:
+    """The predicates and functions of which some action finds out whether, or the value."""
+    return {word for action in file.actions for add in action.knows if item_of(add)[0] in ('kw', 'kv')
+            for word in words_of(item_of(add))}
+
+
 def asked_heads(file: File) -> Iterator[str]:
     """The predicates and functions of which preconditions and the goal ask what is known."""
-    for literal in needed(file):
-        yield from (word for word in words_of(literal) if word in file.arguments)
+    for asked in (*needed(file), *needed_values(file)):
+        yield from (word for word in words_of(asked) if word in file.arguments)
 
 
 def is_settled(file: File, head: str) -> bool:
@@ -354,13 +358,14 @@ def contraries(file: File) -> Iterator[Change]:
 def starts(file: File) -> Iterator[Change]:
     """One item more of `init`: first of what the start says nothing of."""
     told_heads = {word for item in file.init for word in words_of(item)}
-    goal = {part for aim in file.goal if aim[0] in ('k', 'kw') and not is_fixed(file, aim[1]) for part in aim[1:]}
+    aims = [aim for aim in file.goal if aim[0] in ('k', 'kw', 'kv') and not isinstance(aim[1], str)]
+    goal = {part for aim in aims for part in aim[1:] if not is_fixed(file, part)}
+    items = [(atom_of(literal)[0], entry) for literal in needed(file) for entry in items_for(file, literal)]
+    items += [(place[0], entry) for place in needed_values(file) for entry in values_for(file, place)]
     found: List[Tuple[int, Expression]] = []
-    for literal in needed(file):
-        for order, item in items_for(file, literal):
-            if item[1] not in goal and negated(item[1]) not in goal:
-                known = atom_of(literal)[0] in told_heads
-                found.append((order + (4 if known else 0), item))
+    for head, (order, item) in items:
+        if not {item[1], negated(item[1]), *places_of(item[1])} & goal:
+            found.append((order + (4 if head in told_heads else 0), item))
     seen: Set[Expression] = set(file.init)
     for order, item in sorted(found, key=lambda pair: pair[0])[:10 * MOST_ITEMS]:
         if item not in seen:
@@ -433,6 +438,31 @@ def needed(file: File) -> Iterator[Expression]:
             yield from plain[1:]
 
 
+def needed_values(file: File) -> Iterator[List_]:
+    """The places whose value queries ask for, each parameter as it is written."""
+    for action in file.actions:
+        queries = [query for add in action.knows if add[0] == 'if' for query in add[1]]
+        for query in (*action.pre, *queries):
+            if query[0] == 'kv' and not isinstance(query[1], str):
+                yield place_of(located(query[1], action.parameters))
+    for aim in file.goal:
+        plain = aim[1] if aim[0] in OVER_TIME else aim
+        if plain[0] == 'kv' and not isinstance(plain[1], str):
+            yield place_of(plain[1])
+
+
+def place_of(term: Expression) -> List_:
+    """An application, which isn't a word."""
+    assert not isinstance(term, str)
+    return term
+
+
+def places_of(literal: Expression) -> List[List_]:
+    """The applications that are a side of an equation."""
+    atom = atom_of(literal)
+    return [side for side in atom[1:] if not isinstance(side, str)] if atom[0] == '=' else []
+
+
 def located(literal: Expression, types: Dict[str, str]) -> Expression:
     """The literal with each parameter replaced by its type behind a `?`."""
     return replaced_all(literal, {name: f'?{kind}' for name, kind in types.items()})
@@ -449,7 +479,8 @@ def items_for(file: File, literal: Expression) -> Iterator[Tuple[int, Expression
     """Items of `init` by which a literal may be known, or known whether, the likeliest first."""
     atom = atom_of(literal)
     if atom[0] == '=':
-        yield from values_for(file, atom)
+        for place in places_of(atom):
+            yield from values_for(file, place)
         return
     is_negative = literal[0] == 'not'
     grounded = list(instances(file, atom))[:MOST_ITEMS]
@@ -463,15 +494,12 @@ def items_for(file: File, literal: Expression) -> Iterator[Tuple[int, Expression
         yield 3, ('kx', *grounded)
 
 
-def values_for(file: File, equation: List_) -> Iterator[Tuple[int, Expression]]:
-    """Items of `init` by which an equation may be known."""
-    for side in equation[1:]:
-        if isinstance(side, str):
-            continue
-        for place in list(instances(file, side))[:MOST_ITEMS]:
-            yield 1, ('kv', place)
-            for value in file.of_type(file.results[str(place[0])])[:limits.GROUP]:
-                yield 2, ('kf', ('=', place, value))
+def values_for(file: File, term: List_) -> Iterator[Tuple[int, Expression]]:
+    """Items of `init` by which a value may be known."""
+    for place in list(instances(file, term))[:MOST_ITEMS]:
+        yield 1, ('kv', place)
+        for value in file.of_type(file.results[str(place[0])])[:limits.GROUP]:
+            yield 2, ('kf', ('=', place, value))
 
 
 def instances(file: File, atom: List_) -> Iterator[List_]:
