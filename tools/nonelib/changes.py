@@ -32,14 +32,16 @@ class Rank(enum.IntEnum):
     FEWER_VALUES = 26
     SIGN = 27
     OTHER_WAY = 28
-    VALUE_BEFORE = 29
-    FIND_OUT = 30
-    START = 31
-    START_MORE = 32
-    CONTRARY = 33
-    QUERY_GUARD = 34
-    QUERY = 35
-    GOAL = 40
+    OTHER_WAYS = 29
+    VALUE_BEFORE = 30
+    FIND_OUT = 32
+    START = 34
+    START_MORE = 35
+    CONTRARY = 36
+    QUERY_GUARD = 38
+    QUERY = 39
+    START_LATE = 40
+    GOAL = 50
 
 
 @dataclass(frozen=True, eq=False)
@@ -390,17 +392,82 @@ def start(file: File, item: Expression, order: int) -> Change:
     if mirrored:
         return Change(Rank.OTHER_WAY, file.with_init(item), 'in `init` add', (written(item),),
                       f'A way leads one way only: {written(mirrored)} is in `init`, and the other way round isn\'t.')
+    second = second_place(file, item)
+    if second:
+        return Change(Rank.START_LATE, file.with_init(item), 'in `init` add', (written(item),), second)
     rank = Rank.START if order < 4 else Rank.START_MORE
     kind = 'negative' if item[0] == 'kf' and item[1][0] == 'not' else str(item[0])
     return Change(rank, file.with_init(item), 'in `init` add', (written(item),), MISSING[kind])
 
 
+# Facts with two places of one type
+
+def exchanged(fact: Expression, one: int, other: int) -> Expression:
+    """A fact with two of its arguments exchanged."""
+    parts = list(fact)
+    parts[one], parts[other] = parts[other], parts[one]
+    return tuple(parts)
+
+
+def pairs_of(fact: Sequence[object]) -> 'itertools.combinations[Tuple[int, int]]':
+    """Each two arguments of a fact, by their places."""
+    return itertools.combinations(range(1, len(fact)), 2)
+
+
 def other_way(file: File, item: Expression) -> Optional[Expression]:
     """The item of `init` of which this one is the other way round, where no action changes its predicate."""
-    if item[0] != 'kf' or item[1][0] == '=' or len(item[1]) != 3 or item[1][0] in changed_heads(file):
+    if item[0] != 'kf' or item[1][0] in ('=', 'not') or item[1][0] in changed_heads(file):
         return None
-    mirrored = ('kf', (item[1][0], item[1][2], item[1][1]))
-    return mirrored if mirrored in file.init and mirrored != item else None
+    back = (('kf', exchanged(item[1], *pair)) for pair in pairs_of(item[1]))
+    return next((fact for fact in back if fact in file.init and fact != item), None)
+
+
+def ways_back(file: File) -> Iterator[Change]:
+    """Of each predicate that no action changes all facts the other way round, two arguments of one type exchanged."""
+    for head in file.predicate_names:
+        facts = [item[1] for item in file.init if item[0] == 'kf' and item[1][0] == head]
+        kinds = (head, *file.arguments[head])
+        for one, other in pairs_of(kinds):
+            if kinds[one] == kinds[other] and head not in changed_heads(file):
+                yield from way_back(file, head, [exchanged(fact, one, other) for fact in facts])
+
+
+def way_back(file: File, head: str, back: Sequence[Expression]) -> Iterator[Change]:
+    """Facts the other way round as one change, where two or more aren't in `init`."""
+    said = {item[1] for item in file.init if item[0] == 'kf'}
+    items = tuple(('kf', fact) for fact in back if not {fact, negated(fact)} & said)
+    if 1 < len(items) <= MOST_ITEMS:
+        yield Change(Rank.OTHER_WAYS, file.with_init(*items), 'in `init` add', shortened(texts(items)),
+                     f'Ways lead one way only: of {len(items)} facts `({head} ..)` in `init` the other way round '
+                     'isn\'t there.')
+
+
+MOST_LINES = 8
+
+
+def shortened(lines: Tuple[str, ...]) -> Tuple[str, ...]:
+    """Lines to write; of many the first ones."""
+    return lines if len(lines) <= MOST_LINES else (*lines[:MOST_LINES - 1], '..')
+
+
+def second_place(file: File, item: Expression) -> Optional[str]:
+    """What is said of an item that puts in a second place what an action moves and `init` has elsewhere, or None."""
+    if item[0] != 'kf' or item[1][0] in ('=', 'not'):
+        return None
+    known = [own[1] for own in file.init if own[0] == 'kf' and own[1][0] == item[1][0]]
+    for action in file.actions:
+        for early, late in undone(action):
+            moved = [at for at in range(1, len(early)) if early[at] != late[at]]
+            first = next((own for own in known if own[0] == early[0] and is_same_but_for(own, item[1], moved)), None)
+            if first is not None:
+                return f'This would be a second place: `init` has {written(first)}, and `{action.name}` moves it.'
+    return None
+
+
+def is_same_but_for(one: Expression, other: Expression, places: Sequence[int]) -> bool:
+    """Whether two facts are the same but for arguments at some places."""
+    assert not isinstance(one, str) and not isinstance(other, str)
+    return len(one) == len(other) and all(a == b or at in places for at, (a, b) in enumerate(zip(one, other)))
 
 
 def is_fixed(file: File, literal: Expression) -> bool:

@@ -63,14 +63,17 @@ def deeper(found: Found) -> str:
 MOST_SHOWN, MOST_ALIKE = 6, 2
 """The most entries, and the most of one cause."""
 
+SINGLE = {Rank.TOLD_TOGETHER: Rank.TOLD, Rank.TOLD_APART: Rank.TOLD, Rank.OTHER_WAYS: Rank.OTHER_WAY}
+"""Of some changes those that say less: where one of these does, the others aren't said."""
+
 
 def told(found: Found, depth: int) -> List[List[str]]:
     """What is said of the changes, the best first: a text for each, and the lines to write."""
     entries: List[List[str]] = []
     said: List[str] = []
-    single = any(change.rank == Rank.TOLD for change in found.cures())
+    cured = {change.rank for change in found.cures()}
     for change, outcome in sorted(found.outcomes.items(), key=lambda pair: place(*pair)):
-        if single and change.rank in (Rank.TOLD_TOGETHER, Rank.TOLD_APART):
+        if SINGLE.get(change.rank) in cured:
             continue
         if said.count(change.why) == MOST_ALIKE or len(entries) == MOST_SHOWN:
             continue

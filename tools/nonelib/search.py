@@ -69,6 +69,7 @@ class Search:
         yield from changes.guards(self.file)
         yield from changes.signs(self.file)
         yield from changes.values_before(self.file)
+        yield from changes.ways_back(self.file)
         yield from changes.found_out(self.file)
         yield from changes.starts(self.file)
         yield from changes.contraries(self.file)
