@@ -35,9 +35,11 @@ class Rank(enum.IntEnum):
     OTHER_WAYS = 29
     VALUE_BEFORE = 30
     FIND_OUT = 32
+    CASE = 33
     START = 34
     START_MORE = 35
     CONTRARY = 36
+    SIGN_SENSED = 37
     QUERY_GUARD = 38
     QUERY = 39
     START_LATE = 40
@@ -58,6 +60,10 @@ class Change:
     """The cause that is named then."""
     always: bool = False
     """Whether the cause is so whether or not there is a plan with the change."""
+    cases: Tuple[File, ...] = ()
+    """The cases that the change rules out, each known to be so: the cause is named only where none has a plan."""
+    otherwise: str = ''
+    """The cause that is named where one of the cases has a plan."""
 
 
 def texts(parts: Sequence[Expression]) -> Tuple[str, ...]:
@@ -211,7 +217,8 @@ def signs(file: File) -> Iterator[Change]:
     for action, query, others in queries_of(file):
         if query[0] == 'k' and atom_of(query[1])[0] != '=':
             other = ('k', negated(query[1]))
-            yield Change(Rank.SIGN, file.with_action(action.name, pre=others + (other,)),
+            rank = Rank.SIGN_SENSED if atom_of(query[1])[0] in found_heads(file) else Rank.SIGN
+            yield Change(rank, file.with_action(action.name, pre=others + (other,)),
                          f'in `pre` of `{action.name}` write, in place of {written(query)},', (written(other),),
                          f'`{action.name}` asks for {written(query)}, which isn\'t known when it is needed; its '
                          'contrary is.')
@@ -397,7 +404,27 @@ def start(file: File, item: Expression, order: int) -> Change:
         return Change(Rank.START_LATE, file.with_init(item), 'in `init` add', (written(item),), second)
     rank = Rank.START if order < 4 else Rank.START_MORE
     kind = 'negative' if item[0] == 'kf' and item[1][0] == 'not' else str(item[0])
-    return Change(rank, file.with_init(item), 'in `init` add', (written(item),), MISSING[kind])
+    change = Change(rank, file.with_init(item), 'in `init` add', (written(item),), MISSING[kind])
+    if item[0] != 'kf' or not is_side(file, atom_of(item[1])):
+        return change
+    contrary = negated(item[1])
+    why = f'One side has no action: where {so(contrary)}, {WITHOUT_PLAN}'
+    return replace(change, why=why, cases=(file.with_init(('kf', contrary)),), otherwise=change.why)
+
+
+WITHOUT_PLAN = 'there is no plan. Give it an action, or rule it out where it can\'t be.'
+
+
+def is_side(file: File, atom: List_) -> bool:
+    """Whether it will be found out whether a fact is so, and no group and no action says more of it."""
+    grouped = {atom_of(member) for item in file.init if item[0] == 'kx' for member in item[1:]}
+    is_found = atom[0] != '=' and (atom[0] in found_heads(file) or ('kw', atom) in file.init)
+    return is_found and atom not in grouped and (len(atom) == 1 or atom[0] not in changed_heads(file))
+
+
+def so(literal: Expression) -> str:
+    """A literal in words, as a case."""
+    return f'{written(atom_of(literal))} is {"false" if literal[0] == "not" else "true"}'
 
 
 # Facts with two places of one type

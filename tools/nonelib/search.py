@@ -1,13 +1,13 @@
 """In which order questions are asked, and for how long."""
 
 from concurrent.futures import Future, TimeoutError
-from dataclasses import dataclass, field
+from dataclasses import dataclass, field, replace
 from typing import Dict, Iterator, List, Optional, Sequence, Tuple
 
 from asklib.files import File
 from pkslib import limits, written
 
-from . import changes, makers, traps
+from . import cases, changes, makers, traps
 from .changes import Change, Rank
 from .goals import Goals, alone, look_at
 from .questions import SIDE_BY_SIDE, Asking, Outcome
@@ -71,6 +71,7 @@ class Search:
         yield from changes.values_before(self.file)
         yield from changes.ways_back(self.file)
         yield from changes.found_out(self.file)
+        yield from cases.without_action(self.file)
         yield from changes.starts(self.file)
         yield from changes.contraries(self.file)
         yield from changes.queries_out(self.file)
@@ -87,6 +88,7 @@ class Search:
         if len(self.file.goal) > 1:
             alone(self.file, self.depth, self.asking, seconds_for(Rank.START, 0, self.asking.seconds))
         self.ask_changes(found)
+        self.ask_cases(found)
         try:
             found.base = self.base.result(timeout=None if not found.cures() else self.asking.left() / 4)
         except TimeoutError:
@@ -156,6 +158,18 @@ class Search:
                 self.collect(found, *tasks.pop(0))
         for task in tasks:
             self.collect(found, *task)
+
+    def ask_cases(self, found: Found) -> None:
+        """Asks whether the cases that a change with a plan rules out have none; else its other cause is named."""
+        seconds = seconds_for(Rank.SIGN, 0, self.asking.seconds)
+        judged: Dict[Change, Outcome] = {}
+        for change, outcome in found.outcomes.items():
+            if change.cases and outcome.depth is not None \
+                    and not all(self.asking.ask(case, self.depth, seconds).is_none for case in change.cases):
+                rank = Rank.START_LATE if change.rank == Rank.CASE else change.rank
+                change = replace(change, rank=rank, why=change.otherwise)
+            judged[change] = outcome
+        found.outcomes = judged
 
     def is_settled(self, found: Found, change: Change) -> bool:
         """Whether it is known what comes of a change."""

@@ -1,0 +1,109 @@
+"""Cases in which nothing leads on: values of a place, and members of a group, each ruled out at the start."""
+
+import itertools
+from typing import Iterator, List, Optional, Sequence, Tuple
+
+from asklib.files import File, List_, negated, words_of
+from pkslib import Expression, limits, written
+
+from .changes import (WITHOUT_PLAN, Change, Rank, instances, item_of, located, needed, needed_values, place_of,
+                      places_of, shortened, so, texts)
+
+MOST = 40
+"""The most values, and the most members, that are ruled out one by one."""
+
+MOST_PLACES = 8
+"""The most places of a function that are looked at."""
+
+ONE_LESS = 'One case less would do.'
+
+
+def value_at(literal: Expression, place: Expression) -> Optional[str]:
+    """The object that an equation says a place to be, or None."""
+    if literal[0] == '=' and place in literal[1:]:
+        return next((side for side in literal[1:] if isinstance(side, str)), None)
+    return None
+
+
+def ruled_out(place: Expression, values: Sequence[str]) -> List_:
+    """Items that say of a place that it is none of some values."""
+    return tuple(('kf', ('not', ('=', place, value))) for value in values)
+
+
+def left(file: File, place: List_) -> List[str]:
+    """The values that the start leaves a place; none where it says which one it is."""
+    known = [item[1] for item in file.init if item[0] == 'kf']
+    if any(value_at(literal, place) for literal in known):
+        return []
+    excluded = {value_at(literal[1], place) for literal in known if literal[0] == 'not'}
+    return [name for name in file.of_type(file.results[str(place[0])]) if name not in excluded]
+
+
+def places(file: File) -> List[List_]:
+    """The places that actions find out the value of, or that queries or the start ask about."""
+    terms: List[List_] = []
+    for action in file.actions:
+        terms += [place_of(located(item_of(add)[1], action.parameters)) for add in action.knows
+                  if item_of(add)[0] == 'kv' and not isinstance(item_of(add)[1], str)]
+    terms += [term for literal in needed(file) for term in places_of(literal)] + list(needed_values(file))
+    literals = [literal for item in file.init if item[0] in ('kx', 'kw') for literal in item[1:]]
+    terms += [term for literal in literals for term in places_of(literal)]
+    terms += [place_of(item[1]) for item in file.init if item[0] == 'kv' and not isinstance(item[1], str)]
+    found = [place for term in dict.fromkeys(terms) for place in itertools.islice(instances(file, term), MOST_PLACES)]
+    return list(dict.fromkeys(found))
+
+
+def without_action(file: File) -> Iterator[Change]:
+    """Each value and each member of a group ruled out, and all values together that no query names."""
+    named = {word for literal in needed(file) for word in words_of(literal)}
+    together: List[Change] = []
+    single: List[Tuple[bool, Change]] = []
+    for place in places(file):
+        values = left(file, place)
+        if not 2 <= len(values) <= limits.CASES:
+            continue
+        unnamed = [value for value in values if value not in named]
+        if 1 < len(unnamed) < len(values):
+            together.append(without_values(file, place, unnamed))
+        single += [(value in named, without_values(file, place, [value])) for value in values
+                   if not is_aim(file, place, [other for other in values if other != value])]
+    yield from together
+    yield from (change for _, change in sorted(single, key=lambda pair: pair[0])[:MOST])
+    yield from itertools.islice(without_members(file), MOST)
+
+
+def is_aim(file: File, place: Expression, values: Sequence[str]) -> bool:
+    """Whether the goal asks for the one value that is left, or which one it is."""
+    asked = [('kv', place), *(('k', ('=', *sides)) for value in values for sides in ((place, value), (value, place)))]
+    return len(values) == 1 and any(aim in asked for aim in file.goal)
+
+
+def without_values(file: File, place: List_, values: Sequence[str]) -> Change:
+    """Values of a place ruled out."""
+    items = ruled_out(place, values)
+    begun, ended = 'One case has no action', WITHOUT_PLAN
+    if len(values) > 1:
+        begun = 'Some cases have no action'
+        ended = 'there is no plan. Give each an action, or rule out those that can\'t be.'
+    return Change(Rank.CASE, file.with_init(*items), 'in `init` add', shortened(texts(items)),
+                  f'{begun}: where {written(place)} is {listed(values)}, {ended}',
+                  cases=tuple(file.with_init(('kf', ('=', place, value))) for value in values),
+                  otherwise=ONE_LESS)
+
+
+def listed(words: Sequence[str]) -> str:
+    """Words as a list in a sentence."""
+    return ' or '.join(filter(None, (', '.join(words[:-1]), words[-1])))
+
+
+def without_members(file: File) -> Iterator[Change]:
+    """Each member of a group of three or more ruled out; values of a place are looked at by themselves."""
+    for group in file.init:
+        if group[0] != 'kx' or len(group) < 4:
+            continue
+        for member in group[1:]:
+            item = ('kf', negated(member))
+            if not places_of(member) and not {item, ('kf', member)} & set(file.init):
+                yield Change(Rank.CASE, file.with_init(item), 'in `init` add', (written(item),),
+                             f'One case has no action: where {so(member)}, {WITHOUT_PLAN}',
+                             cases=(file.with_init(('kf', member)),), otherwise=ONE_LESS)
