@@ -30,6 +30,15 @@ def ruled_out(place: Expression, values: Sequence[str]) -> List_:
     return tuple(('kf', ('not', ('=', place, value))) for value in values)
 
 
+def group_of(file: File, place: Expression) -> Optional[Tuple[Expression, List[str]]]:
+    """A group of `init` that says a place to be one of some values, and these; None where there is none."""
+    for item in file.init:
+        values = [value_at(literal, place) for literal in item[1:]] if item[0] == 'kx' else []
+        if values and None not in values:
+            return item, [value for value in values if value is not None]
+    return None
+
+
 def left(file: File, place: List_) -> List[str]:
     """The values that the start leaves a place; none where it says which one it is."""
     known = [item[1] for item in file.init if item[0] == 'kf']
@@ -53,13 +62,26 @@ def places(file: File) -> List[List_]:
     return list(dict.fromkeys(found))
 
 
+def outside_groups(file: File) -> Iterator[Change]:
+    """The values of a place that aren't members of a group that says which it may be, ruled out."""
+    for place in places(file):
+        group = group_of(file, place)
+        others = [value for value in left(file, place) if group and value not in group[1]]
+        if group and others:
+            items = ruled_out(place, others)
+            yield Change(Rank.OUTSIDE_GROUP, file.with_init(*items), 'in `init` add', shortened(texts(items)),
+                         f'{written(group[0])} doesn\'t rule out other values of {written(place)}, though none of '
+                         'them can be.')
+
+
 def without_action(file: File) -> Iterator[Change]:
     """Each value and each member of a group ruled out, and all values together that no query names."""
     named = {word for literal in needed(file) for word in words_of(literal)}
     together: List[Change] = []
     single: List[Tuple[bool, Change]] = []
     for place in places(file):
-        values = left(file, place)
+        group, values = group_of(file, place), left(file, place)
+        values = [value for value in values if group is None or value in group[1]]
         if not 2 <= len(values) <= limits.CASES:
             continue
         unnamed = [value for value in values if value not in named]

@@ -34,6 +34,7 @@ class Rank(enum.IntEnum):
     OTHER_WAY = 28
     OTHER_WAYS = 29
     VALUE_BEFORE = 30
+    OUTSIDE_GROUP = 31
     FIND_OUT = 32
     CASE = 33
     START = 34

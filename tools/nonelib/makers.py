@@ -15,6 +15,8 @@ LEVELS = 3
 MOST_FACTS = 6
 """How many facts of the start are shown."""
 
+OTHER_MEMBERS = 'has other members, so by itself it doesn\'t tell it'
+
 
 @dataclass(frozen=True)
 class Maker:
@@ -114,6 +116,27 @@ def met(file: File, action: Action, own: Expression, wanted: Expression, given: 
         met(file, action, a, b, given) for a, b in zip(own[1:], wanted[1:]))
 
 
+def may_be(member: Expression, wanted: Expression) -> bool:
+    """Whether a member of a group may be what a query asks about, of either sign."""
+    one, other = atom_of(member), atom_of(wanted)
+    if one[0] != '=':
+        return are_alike(one, other)
+    if other[0] != '=':
+        return wanted in one[1:]
+    return any(not isinstance(place, str) and not isinstance(asked, str)
+               and are_alike(place, asked) and are_alike(value, expected)
+               for place, value in (one[1:], one[:0:-1]) for asked, expected in (other[1:], other[:0:-1]))
+
+
+def are_alike(own: Expression, wanted: Expression) -> bool:
+    """Whether two terms may be the same: a parameter may be anything, and a value any object."""
+    if isinstance(own, str) and isinstance(wanted, str):
+        return own == wanted or wanted.startswith('?')
+    if isinstance(own, str) or isinstance(wanted, str):
+        return True
+    return len(own) == len(wanted) and own[0] == wanted[0] and all(map(are_alike, own[1:], wanted[1:]))
+
+
 # Asking
 
 class Tree:
@@ -143,7 +166,8 @@ class Tree:
                           ('kv', 'says that the value will be known, so cases may tell')):
             for item in items:
                 if item[0] == head:
-                    yield f'{written(item)} in `init` {how}.'
+                    is_other = head == 'kx' and not any(may_be(member, query[1]) for member in item[1:])
+                    yield f'{written(item)} in `init` {OTHER_MEMBERS if is_other else how}.'
         facts = [written(item) for item in items if item[0] in ('kf', 'lcw')]
         if facts:
             more = ' ..' if len(facts) > MOST_FACTS else ''

@@ -70,6 +70,7 @@ class Search:
         yield from changes.signs(self.file)
         yield from changes.values_before(self.file)
         yield from changes.ways_back(self.file)
+        yield from cases.outside_groups(self.file)
         yield from changes.found_out(self.file)
         yield from cases.without_action(self.file)
         yield from changes.starts(self.file)

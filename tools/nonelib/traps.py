@@ -8,8 +8,8 @@ from asklib.files import OVER_TIME, Action, File, List_, atom_of, negated, words
 from pkslib import Expression, limits, written
 from whylib import uncounted
 
-from . import makers
-from .changes import Change, Rank, changed_heads, item_of, target, texts
+from . import cases, makers
+from .changes import Change, Rank, changed_heads, item_of, needed, target, texts
 
 
 def traps(file: File) -> Iterator[Change]:
@@ -179,13 +179,21 @@ def fewer_values(file: File) -> Iterator[Change]:
         objects = file.of_type(kind)
         if len(objects) <= limits.CASES or not any(item[0] == 'kv' and item[1][0] == name for item in told):
             continue
-        items = tuple(('kf', ('not', ('=', place, other))) for place in itertools.islice(file.instances(name), 4)
-                      for other in objects[limits.CASES:] if ('kf', ('not', ('=', place, other))) not in file.init)
+        items = tuple(item for place in itertools.islice(file.instances(name), 4)
+                      for item in cases.ruled_out(place, too_many(file, place)))
         yield Change(Rank.FEWER_VALUES, file.with_init(*items),
                      f'in `init` exclude all but {limits.CASES} (or let an action take the value as an argument)',
                      texts(items[:3]) + (('..',) if len(items) > 3 else ()),
                      f'By its type the value of `{name}` is one of {len(objects)} objects, and a plan has cases only where '
                      f'{limits.CASES} are left at most.')
+
+
+def too_many(file: File, place: List_) -> List[str]:
+    """The values that a place has more than cases may have: those outside a group, then those that no query names."""
+    values, group = cases.left(file, place), cases.group_of(file, place)
+    named = {word for literal in needed(file) for word in words_of(literal)}
+    wanted = sorted(values, key=lambda name: (group is None or name not in group[1], name not in named))
+    return wanted[limits.CASES:]
 
 
 def nested_value(file: File) -> Iterator[Change]:
