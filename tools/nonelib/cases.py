@@ -1,13 +1,13 @@
 """Cases in which nothing leads on: values of a place, and members of a group, each ruled out at the start."""
 
 import itertools
-from typing import Iterator, List, Optional, Sequence, Tuple
+from typing import Dict, Iterator, List, Optional, Sequence, Set, Tuple
 
 from asklib.files import File, List_, negated, words_of
 from pkslib import Expression, limits, written
 
-from .changes import (WITHOUT_PLAN, Change, Rank, instances, item_of, located, needed, needed_values, place_of,
-                      places_of, shortened, so, texts)
+from .changes import (MISSING, MOST_SIDES, WITHOUT_PLAN, Change, Rank, as_side, instances, item_of, listed, located,
+                      needed, needed_values, place_of, places_of, shortened, so, texts)
 
 MOST = 40
 """The most values, and the most members, that are ruled out one by one."""
@@ -75,23 +75,33 @@ def outside_groups(file: File) -> Iterator[Change]:
 
 
 def without_action(file: File) -> Iterator[Change]:
-    """Each value and each member of a group ruled out, and all values together that no query names."""
+    """Each value that may be left, and each member of a group, ruled out; values that no query names together."""
     named = {word for literal in needed(file) for word in words_of(literal)}
-    together: List[Change] = []
     single: List[Tuple[bool, Change]] = []
+    choices: Dict[str, List[Tuple[List_, List[str]]]] = {}
     for place in places(file):
         group, values = group_of(file, place), left(file, place)
         values = [value for value in values if group is None or value in group[1]]
-        if not 2 <= len(values) <= limits.CASES:
-            continue
-        unnamed = [value for value in values if value not in named]
-        if 1 < len(unnamed) < len(values):
-            together.append(without_values(file, place, unnamed))
-        single += [(value in named, without_values(file, place, [value])) for value in values
-                   if not is_aim(file, place, [other for other in values if other != value])]
-    yield from together
+        if 2 <= len(values) <= limits.CASES:
+            choices.setdefault(str(place[0]), []).append((place, values))
+            single += [(value in named, without_values(file, [place], [value])) for value in values
+                       if not is_aim(file, place, [other for other in values if other != value])]
+    for own in choices.values():
+        yield from without_unnamed(file, own, named)
     yield from (change for _, change in sorted(single, key=lambda pair: pair[0])[:MOST])
     yield from itertools.islice(without_members(file), MOST)
+
+
+def without_unnamed(file: File, own: Sequence[Tuple[List_, List[str]]], named: Set[str]) -> Iterator[Change]:
+    """The values that no query names ruled out at all places of a function, and where these are several, each value."""
+    unnamed = [value for value in own[0][1] if value not in named and all(value in values for _, values in own)]
+    if any(set(values) <= set(unnamed) for _, values in own):
+        return
+    every = [place for place, _ in own]
+    if len(unnamed) > 1:
+        yield without_values(file, every, unnamed)
+    if len(every) > 1:
+        yield from (without_values(file, every, [value]) for value in unnamed)
 
 
 def is_aim(file: File, place: Expression, values: Sequence[str]) -> bool:
@@ -100,22 +110,19 @@ def is_aim(file: File, place: Expression, values: Sequence[str]) -> bool:
     return len(values) == 1 and any(aim in asked for aim in file.goal)
 
 
-def without_values(file: File, place: List_, values: Sequence[str]) -> Change:
-    """Values of a place ruled out."""
-    items = ruled_out(place, values)
+def without_values(file: File, every: Sequence[List_], values: Sequence[str]) -> Change:
+    """Values ruled out at each of some places."""
+    out = {place: ruled_out(place, values) for place in every}
+    items = tuple(item for place in every for item in out[place])
+    elsewhere = {place: [item for item in items if item not in out[place]] for place in every}
     begun, ended = 'One case has no action', WITHOUT_PLAN
     if len(values) > 1:
         begun = 'Some cases have no action'
         ended = 'there is no plan. Give each an action, or rule out those that can\'t be.'
     return Change(Rank.CASE, file.with_init(*items), 'in `init` add', shortened(texts(items)),
-                  f'{begun}: where {written(place)} is {listed(values)}, {ended}',
-                  cases=tuple(file.with_init(('kf', ('=', place, value))) for value in values),
-                  otherwise=ONE_LESS)
-
-
-def listed(words: Sequence[str]) -> str:
-    """Words as a list in a sentence."""
-    return ' or '.join(filter(None, (', '.join(words[:-1]), words[-1])))
+                  f'{begun}: where {listed([written(place) for place in every])} is {listed(values)}, {ended}',
+                  cases=tuple(file.with_init(('kf', ('=', place, value)), *elsewhere[place])
+                              for place in every for value in values), otherwise=ONE_LESS)
 
 
 def without_members(file: File) -> Iterator[Change]:
@@ -127,5 +134,20 @@ def without_members(file: File) -> Iterator[Change]:
             item = ('kf', negated(member))
             if not places_of(member) and not {item, ('kf', member)} & set(file.init):
                 yield Change(Rank.CASE, file.with_init(item), 'in `init` add', (written(item),),
-                             f'One case has no action: where {so(member)}, {WITHOUT_PLAN}',
+                             f'One case has no action: where {so([member])}, {WITHOUT_PLAN}',
                              cases=(file.with_init(('kf', member)),), otherwise=ONE_LESS)
+
+
+def without_sides(file: File) -> Iterator[Change]:
+    """Facts of one predicate that queries need and looks find out, all known; of negatives a closed world does it."""
+    known = {item[1] for item in file.init if item[0] == 'kf'}
+    for literal in dict.fromkeys(needed(file)):
+        if literal[0] in ('not', '='):
+            continue
+        facts = [fact for fact in instances(file, place_of(literal)) if not {fact, negated(fact)} & known]
+        if 1 < len(facts) <= MOST_SIDES and not any(('k', fact) in file.goal for fact in facts):
+            items = tuple(('kf', fact) for fact in facts)
+            change = Change(Rank.SIDES, file.with_init(*items), 'in `init` add', texts(items), MISSING['kf'])
+            side = as_side(file, change, facts)
+            if side is not change:
+                yield side

@@ -40,10 +40,11 @@ class Rank(enum.IntEnum):
     START = 34
     START_MORE = 35
     CONTRARY = 36
-    SIGN_SENSED = 37
-    QUERY_GUARD = 38
-    QUERY = 39
-    START_LATE = 40
+    SIDES = 37
+    SIGN_SENSED = 38
+    QUERY_GUARD = 39
+    QUERY = 40
+    START_LATE = 41
     GOAL = 50
 
 
@@ -62,9 +63,9 @@ class Change:
     always: bool = False
     """Whether the cause is so whether or not there is a plan with the change."""
     cases: Tuple[File, ...] = ()
-    """The cases that the change rules out, each known to be so: the cause is named only where none has a plan."""
+    """The cases that the change rules out, each known to be so: `why` is said only where none of them has a plan."""
     otherwise: str = ''
-    """The cause that is named where one of the cases has a plan."""
+    """What is said in place of it where one of them has a plan, or where that isn't known."""
 
 
 def texts(parts: Sequence[Expression]) -> Tuple[str, ...]:
@@ -406,14 +407,36 @@ def start(file: File, item: Expression, order: int) -> Change:
     rank = Rank.START if order < 4 else Rank.START_MORE
     kind = 'negative' if item[0] == 'kf' and item[1][0] == 'not' else str(item[0])
     change = Change(rank, file.with_init(item), 'in `init` add', (written(item),), MISSING[kind])
-    if item[0] != 'kf' or not is_side(file, atom_of(item[1])):
-        return change
-    contrary = negated(item[1])
-    why = f'One side has no action: where {so(contrary)}, {WITHOUT_PLAN}'
-    return replace(change, why=why, cases=(file.with_init(('kf', contrary)),), otherwise=change.why)
+    facts = [item[1]] if item[0] == 'kf' else []
+    if item[0] == 'lcw' and file.count(file.arguments[str(item[1][0])]) <= MOST_SIDES:
+        facts = [('not', atom) for atom in file.instances(str(item[1][0])) if ('kf', atom) not in file.init]
+    return as_side(file, change, facts)
 
+
+# Sides of a look
+
+MOST_SIDES = 8
+"""The most facts of which the other sides are looked at."""
 
 WITHOUT_PLAN = 'there is no plan. Give it an action, or rule it out where it can\'t be.'
+
+
+def as_side(file: File, change: Change, facts: Sequence[Expression]) -> Change:
+    """A change that makes facts known, as one that rules out their other sides, where these will be found out."""
+    if not facts or not all(is_side(file, atom_of(fact)) for fact in facts):
+        return change
+    contraries = [negated(fact) for fact in facts]
+    why = f'One side has no action: where {so(contraries)}, {WITHOUT_PLAN}'
+    cases = tuple(file.with_init(('kf', negated(fact)), *others(file, fact)) for fact in facts)
+    return replace(change, why=why, cases=cases, otherwise=change.why)
+
+
+def others(file: File, fact: Expression) -> List_:
+    """Items that make all other facts of a predicate known that looks may find out."""
+    known = {item[1] for item in file.init if item[0] == 'kf'}
+    atoms = itertools.islice(file.instances(str(atom_of(fact)[0])), MOST_ITEMS)
+    unknown = [atom for atom in atoms if is_side(file, atom) and not {atom, negated(atom)} & known]
+    return tuple(('kf', negated(atom) if fact[0] == 'not' else atom) for atom in unknown if atom != atom_of(fact))
 
 
 def is_side(file: File, atom: List_) -> bool:
@@ -423,9 +446,15 @@ def is_side(file: File, atom: List_) -> bool:
     return is_found and atom not in grouped and (len(atom) == 1 or atom[0] not in changed_heads(file))
 
 
-def so(literal: Expression) -> str:
-    """A literal in words, as a case."""
-    return f'{written(atom_of(literal))} is {"false" if literal[0] == "not" else "true"}'
+def so(literals: Sequence[Expression]) -> str:
+    """Literals of one sign in words, of which one may be so."""
+    atoms = listed([written(atom_of(literal)) for literal in literals])
+    return f'{atoms} is {"false" if literals[0][0] == "not" else "true"}'
+
+
+def listed(words: Sequence[str]) -> str:
+    """Words as a list in a sentence."""
+    return ' or '.join(filter(None, (', '.join(words[:-1]), words[-1])))
 
 
 # Facts with two places of one type

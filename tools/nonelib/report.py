@@ -63,7 +63,8 @@ def deeper(found: Found) -> str:
 MOST_SHOWN, MOST_ALIKE = 6, 2
 """The most entries, and the most of one cause."""
 
-SINGLE = {Rank.TOLD_TOGETHER: Rank.TOLD, Rank.TOLD_APART: Rank.TOLD, Rank.OTHER_WAYS: Rank.OTHER_WAY}
+SINGLE = {Rank.TOLD_TOGETHER: Rank.TOLD, Rank.TOLD_APART: Rank.TOLD, Rank.OTHER_WAYS: Rank.OTHER_WAY,
+          Rank.SIDES: Rank.START}
 """Of some changes those that say less: where one of these does, the others aren't said."""
 
 

@@ -75,6 +75,7 @@ class Search:
         yield from cases.without_action(self.file)
         yield from changes.starts(self.file)
         yield from changes.contraries(self.file)
+        yield from cases.without_sides(self.file)
         yield from changes.queries_out(self.file)
 
     def run(self) -> Optional[Found]:

@@ -181,11 +181,12 @@ def fewer_values(file: File) -> Iterator[Change]:
             continue
         items = tuple(item for place in itertools.islice(file.instances(name), 4)
                       for item in cases.ruled_out(place, too_many(file, place)))
-        yield Change(Rank.FEWER_VALUES, file.with_init(*items),
-                     f'in `init` exclude all but {limits.CASES} (or let an action take the value as an argument)',
-                     texts(items[:3]) + (('..',) if len(items) > 3 else ()),
-                     f'By its type the value of `{name}` is one of {len(objects)} objects, and a plan has cases only where '
-                     f'{limits.CASES} are left at most.')
+        if items:
+            yield Change(Rank.FEWER_VALUES, file.with_init(*items),
+                         f'in `init` exclude all but {limits.CASES} (or let an action take the value as an argument)',
+                         texts(items[:3]) + (('..',) if len(items) > 3 else ()),
+                         f'By its type the value of `{name}` is one of {len(objects)} objects, and a plan has cases only '
+                         f'where {limits.CASES} are left at most.')
 
 
 def too_many(file: File, place: List_) -> List[str]:
