@@ -41,6 +41,13 @@ class Cure:
             moved += len(new) - (end - start)
         return found
 
+    def is_one_parenthesis(self) -> bool:
+        """Whether one `)` comes or goes, and nothing else."""
+        if len(self.edits) != 1:
+            return False
+        start, end, new = self.edits[0]
+        return end - start < 2 and new in (')', '')
+
 
 @dataclass
 class Outcome:
@@ -54,28 +61,34 @@ class Outcome:
         """Whether the file is accepted with the cure."""
         return self.said.startswith('accepted')
 
-    def sentences(self) -> List[str]:
+    def sentences(self, by: str = 'With it') -> List[str]:
         """The lines that are mended, and how far that leads."""
-        text, shown = Text(self.data), []
+        return self.shown() + [f'{by} the file is accepted.' if self.is_accepted() else
+                               f'{by} the next fault is `{self.said.strip()}`.']
+
+    def shown(self) -> List[str]:
+        """The lines that are mended, at most six of them."""
+        text, numbers = Text(self.data), []
         for start, end in self.cure.places():
             for number in range(text.place(start)[0], text.place(max(start, end - 1))[0] + 1):
-                if number not in shown:
-                    shown.append(number)
-        many = len(shown) > 6
-        head = f'Mended, line {shown[0]} is' if len(shown) == 1 else f'Mended, lines {", ".join(map(str, shown[:6]))} are'
-        head += ' (and more)' if many else ''
-        if len(shown) == 1 and not text.line(shown[0]).strip():
-            head = f'Mended, line {shown[0]} is left out'
-        lines = [line for number in shown[:6] for line in excerpt(text.line(number).strip('\r'), self.cure, text, number)]
-        if len(self.cure.edits) == 1 and self.cure.edits[0][2] in (')', '') and self.cure.places()[0][1] - self.cure.places()[0][0] < 2 \
-                and self.cure.edits[0][1] - self.cure.edits[0][0] < 2:
-            place = self.cure.places()[0][0]
-            line, column = text.place(place)
+                if number not in numbers:
+                    numbers.append(number)
+        lines = [line for number in numbers[:6]
+                 for line in excerpt(text.line(number).strip('\r'), self.cure, text, number)]
+        return [self.heading(text, numbers), *[line for line in lines if line.strip()]]
+
+    def heading(self, text: Text, numbers: List[int]) -> str:
+        """What is said above the lines that are mended."""
+        if self.cure.is_one_parenthesis():
+            line, column = text.place(self.cure.places()[0][0])
             what = 'one `)` more' if self.cure.edits[0][2] else 'one `)` less'
-            head = f'Mended, with {what} at column {column}, line {line} is'
-        ending = 'With it the file is accepted.' if self.is_accepted() else \
-            f'With it the next fault is `{self.said.strip()}`.'
-        return [head + ('.' if head.endswith('out') else ':'), *[line for line in lines if line.strip()], ending]
+            return f'Mended, with {what} at column {column}, line {line} is:'
+        if len(numbers) == 1 and not text.line(numbers[0]).strip():
+            return f'Mended, line {numbers[0]} is left out.'
+        if len(numbers) == 1:
+            return f'Mended, line {numbers[0]} is:'
+        more = ' (and more)' if len(numbers) > 6 else ''
+        return f'Mended, lines {", ".join(map(str, numbers[:6]))} are{more}:'
 
 
 def excerpt(line: str, cure: Cure, text: Text, number: int) -> List[str]:
@@ -252,9 +265,6 @@ class Patient:
     def near_form(self, form: Form) -> Iterator[Cure]:
         """A form that is near to the wrong one."""
         role = grammar.role_of_list(form)
-        if form.head() == 'toggle' and role == 'effect' and len(form.parts) == 2 and form.parts[1].is_list():
-            atom = form.parts[1].text()
-            yield self.instead(form, f'(when ({atom}) (unset {atom})) (when ((not {atom})) (set {atom}))')
         if role in ('literals', 'queries'):
             yield self.instead(form, f'({form.text()})')
         if role == 'value' and form.parts and form.parts[0].word:

@@ -22,6 +22,8 @@ class Fault:
     text: Text
     line: int
     column: int
+    origins: List[int]
+    """Where each byte of what is left stood at first."""
 
 
 class Draft:
@@ -56,7 +58,7 @@ def faults(text: Text, check: Callable[[bytes], str]) -> Iterator[Fault]:
         if not said.startswith('refused'):
             return
         refusal, now = read_refusal(said), Text(draft.data)
-        yield Fault(refusal, now, *draft.place(now, refusal))
+        yield Fault(refusal, now, *draft.place(now, refusal), draft.origins)
         before = draft.data
         set_aside(draft, now, refusal, check)
         if draft.data == before:

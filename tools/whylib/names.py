@@ -98,6 +98,15 @@ class Names:
             return 'predicate', self.predicates[head]
         return None, None
 
+    def valued(self, form: Form) -> Optional[Tuple[str, str]]:
+        """Of a function with one argument too many, as if it were a predicate, the place and the value; or None."""
+        head = form.head()
+        if head not in self.functions or head in self.predicates \
+                or len(form.rest()) != 1 + len(self.functions[str(head)][0]):
+            return None
+        *place, value = [part.text() for part in form.parts]
+        return f'({" ".join(place)})', value
+
     def places(self) -> Iterator[str]:
         """Every place of the signature, as texts."""
         for name, (types, _) in self.functions.items():

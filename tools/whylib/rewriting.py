@@ -101,6 +101,8 @@ class Rewriting:
             return [f'(k {self.equation(inner[0])})']
         if head in ('kf', 'knows', 'known') and inner:
             return [f'(k {part.text()})' for part in inner]
+        if head == 'kv' and self.is_atom(inner):
+            return [f'(kw {inner[0].text()})']
         if head == 'k' and len(inner) == 2 and inner[0].is_list() and inner[1].word:
             return [f'(k (= {inner[0].text()} {inner[1].text()}))']
         if head == 'k' and len(inner) > 1:
@@ -109,13 +111,18 @@ class Rewriting:
             return [f'(k (not {inner[0].parts[1].text()}))']
         if head in grammar.QUERIES + grammar.AIMS + ['not-derived'] or not self.is_fact(form):
             return [form.text()]
-        return [f'(k {form.text()})']
+        return [f'(k {self.equation(form) or form.text()})']
 
     def effect(self, form: Form) -> List[str]:
         """A part of `effects`."""
         head, inner = form.head(), form.rest()
         if head in NUMERIC:
             return []
+        if head == 'toggle' and len(inner) == 1 and inner[0].is_list():
+            atom = inner[0].text()
+            return [f'(when ({atom}) (unset {atom}))', f'(when ((not {atom})) (set {atom}))']
+        if self.names.valued(form):
+            return ['(assign {} {})'.format(*self.names.valued(form))]
         if head == 'set' and len(inner) == 2 and inner[0].head() in self.names.functions:
             return [f'(assign {inner[0].text()} {inner[1].text()})']
         if head == 'when' and len(inner) >= 2:
@@ -162,7 +169,7 @@ class Rewriting:
             return [f'(if {inner[0].text()} {part.text()})' for part in inner[1:]]
         if head == 'kw' and len(inner) == 1 and inner[0].head() in ('or', 'and'):
             return ['(kw ' + ' '.join(part.text() for part in inner[0].rest()) + ')']
-        if head == 'kv' and inner and inner[0].head() in self.names.predicates:
+        if head == 'kv' and self.is_atom(inner):
             return [f'(kw {inner[0].text()})']
         if head in ('k', 'kf') and len(inner) == 1 and self.equation(inner[0]):
             return [f'(kf {self.equation(inner[0])})']
@@ -172,6 +179,8 @@ class Rewriting:
             return [f'({"kw" if self.is_sensed(part) else "kf"} {part.text()})' for part in inner]
         if head in grammar.ITEMS + ['if'] or not self.is_fact(form):
             return [form.text()]
+        if self.equation(form):
+            return [f'(kf {self.equation(form)})']
         return [f'({"kw" if self.is_sensed(form) else "kf"} {form.text()})']
 
     def sense(self, form: Form) -> List[str]:
@@ -206,7 +215,12 @@ class Rewriting:
             return [f'(kf {text})' for part in inner for text in self.without_wildcards(part)]
         if head in grammar.ITEMS + ['kx'] or not self.is_fact(form):
             return [form.text()]
-        return [f'(kf {form.text()})']
+        return [f'(kf {self.equation(form) or form.text()})']
+
+    def is_atom(self, parts: List[Form]) -> bool:
+        """Whether a single atom stands there, and no place of a function."""
+        return len(parts) == 1 and parts[0].head() in self.names.predicates \
+            and parts[0].head() not in self.names.functions
 
     def is_place(self, form: Form) -> bool:
         """Whether a list is a place of a function, with all its arguments."""
@@ -216,12 +230,8 @@ class Rewriting:
 
     def equation(self, form: Form) -> Optional[str]:
         """Of a function with one argument too many, as if it were a predicate, the equation that is meant, or None."""
-        head = form.head()
-        if head not in self.names.functions or head in self.names.predicates \
-                or len(form.rest()) != 1 + len(self.names.functions[str(head)][0]):
-            return None
-        *place, value = [part.text() for part in form.parts]
-        return f'(= ({" ".join(place)}) {value})'
+        valued = self.names.valued(form)
+        return f'(= {valued[0]} {valued[1]})' if valued else None
 
     def without_wildcards(self, literal: Form) -> List[str]:
         """A literal for each object at its wildcard."""

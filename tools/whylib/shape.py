@@ -226,6 +226,11 @@ def literal_hint(form: Form, kind: Optional[str], names: Names) -> Optional[List
         return [f'A value is sensed by `(sense-value {form.text()})`.']
     wraps = {'query': 'k', 'plain': 'k', 'aim': 'k', 'effect': 'set', 'target': 'set',
              'sense': 'sense', 'add': 'kf', 'item': 'kf', 'start': 'kf'}
+    valued = names.valued(form)
+    if kind in ('effect', 'target') and valued:
+        return ['A value is given by `(assign {} {})`.'.format(*valued)]
+    if kind in wraps and valued:
+        return ['A value alone stands here; write `({} (= {} {}))`.'.format(wraps[kind], *valued)]
     if kind in wraps and grammar.is_literal(form):
         return [f'A literal alone stands here; write `({wraps[kind]} {form.text()})`.']
     return None
