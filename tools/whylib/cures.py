@@ -92,14 +92,15 @@ class Outcome:
 
 
 def excerpt(line: str, cure: Cure, text: Text, number: int) -> List[str]:
-    """A line as it is shown; of a long one the part around the change."""
+    """A line as it is shown; of a long one the part around its changes."""
     shown = line.strip()
     if len(shown) <= 100:
         return ['    ' + shown]
-    start, end = next((s, e) for s, e in cure.places() if text.place(s)[0] <= number <= text.place(e)[0])
-    at = max(0, start - text.starts[number - 1])
-    first, last = max(0, at - 60), max(at + 60, min(end - text.starts[number - 1], at + 160))
-    return ['    ' + ('..' if first else '') + line[first:last] + ('..' if last < len(line) else '')]
+    changes = [(start, end) for start, end in cure.places() if text.place(start)[0] <= number <= text.place(end)[0]]
+    at = max(0, changes[0][0] - text.starts[number - 1])
+    first, last = max(0, at - 60), max(at + 60, min(changes[-1][1] - text.starts[number - 1], at + 240))
+    part = line[first:last] if first else line[:last].lstrip()
+    return ['    ' + ('..' if first else '') + part + ('..' if last < len(line) else '')]
 
 
 class Patient:
@@ -308,6 +309,9 @@ class Patient:
             return
         from . import meaning
         kind, known = meaning.kind_of(self.names, form)
+        if grammar.role(form) == 'term' and form.word in self.names.functions:
+            yield from self.value_of(form)
+            return
         for other in (next((name for name in known if name.lower() == form.word.lower()), None), near(form.word, known)):
             if other:
                 yield self.everywhere(form.word, other)
@@ -322,6 +326,15 @@ class Patient:
             section = section.parent
         yield from self.whole_section(section)
         yield from self.declared(form, kind)
+
+    def value_of(self, form: Form) -> Iterator[Cure]:
+        """A function without arguments in parentheses, wherever it stands alone as a term."""
+        if self.names.functions[str(form.word)][0]:
+            return
+        alone = [part for each in self.text.lists for part in each.rest()
+                 if part.word == form.word and grammar.role(part) == 'term']
+        yield Cure([edit for part in alone for edit in self.instead(part, f'({form.word})').edits])
+        yield self.instead(form, f'({form.word})')
 
     def declared(self, form: Form, kind: str) -> Iterator[Cure]:
         """A declaration of the word: of an object by the type that is wanted, of a type alone."""

@@ -107,7 +107,12 @@ def undeclared(names: Names, form: Form) -> List[str]:
     kind, known = kind_of(names, form)
     said = [f'`{word}` isn\'t declared as {kind} before this place. Declared: {listed(known)}.']
     same = next((name for name in known if name.lower() == word.lower()), None)
-    close = same or near(word, known)
+    is_value = grammar.role(form) == 'term' and word in names.functions
+    close = None if is_value else same or near(word, known)
+    if is_value:
+        place = f'({" ".join([word] + names.functions[word][0])})'
+        return said + [f'`{word}` is a function: its value is written `{place}`, in parentheses of its own'
+                       + (', with its arguments.' if names.functions[word][0] else '.')]
     if close:
         said.append(f'Capital letters count: is `{close}` meant?' if same else f'Is `{close}` meant?')
     for other, table in (('a predicate', names.predicates), ('a function', names.functions),

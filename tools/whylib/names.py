@@ -130,9 +130,22 @@ def listed(names: Iterable[str], limit: int = 12) -> str:
 
 
 def near(word: str, names: Iterable[str]) -> Optional[str]:
-    """The name that looks most like a word, or None."""
-    close = difflib.get_close_matches(word, list(names), 1, 0.6)
-    return close[0] if close else None
+    """The name that looks most like a word, or None; a short word has few letters that may differ."""
+    close = difflib.get_close_matches(word, list(names), 3, 0.6)
+    return next((name for name in close if changes(word, name) <= max(1, (len(word) + 1) // 3)), None)
+
+
+def changes(word: str, other: str) -> int:
+    """How many letters are put in, left out, replaced or exchanged with the next one, from one word to another."""
+    before, above = [], list(range(len(other) + 1))
+    for i, letter in enumerate(word, 1):
+        row = [i]
+        for j, wanted in enumerate(other, 1):
+            row.append(min(above[j] + 1, row[-1] + 1, above[j - 1] + (letter != wanted)))
+            if i > 1 and j > 1 and (letter, word[i - 2]) == (other[j - 2], wanted):
+                row[-1] = min(row[-1], before[j - 2] + 1)
+        before, above = above, row
+    return above[-1]
 
 
 def count(number: int, what: str) -> str:
