@@ -192,7 +192,8 @@ class Patient:
         if letter in '#/':
             yield Cure([(found.start(1), found.end(1), ';')
                         for found in re.finditer(rf'(?m)(?:^|[ \t])({re.escape(letter)}+)(?=[ \t]|$)', self.text.code())])
-        yield Cure([(found.start(), found.end(), ' ') for found in re.finditer(re.escape(letter), self.text.code())])
+        if letter not in '<>':
+            yield Cure([(found.start(), found.end(), ' ') for found in re.finditer(re.escape(letter), self.text.code())])
 
     def beginning(self) -> Iterator[Cure]:
         """A version, a part of the file by its own word, and a domain without `define`."""

@@ -72,6 +72,8 @@ def set_aside(draft: Draft, text: Text, refusal: Refusal, check: Callable[[bytes
     if refusal.code in (Code.UNCLOSED, Code.UNOPENED):
         outcome = repair.found(text, refusal.code, shape.suspect(text), check)
         draft.take(outcome.cure.edits if outcome else [])
+    elif form is not None and form.word and form.word in '<>':
+        draft.blank(aside(names, form))
     elif refusal.code in (Code.ASCII, Code.BAD_BYTE):
         letter = text.text[text.at(refusal.line, refusal.column)]
         pattern = '[\x80-\xff]' if refusal.code == Code.ASCII else re.escape(letter)
@@ -85,11 +87,21 @@ def set_aside(draft: Draft, text: Text, refusal: Refusal, check: Callable[[bytes
         draft.blank([form])
     else:
         blanked = aside(names, form) if form is not None else []
+        aim = aim_of(form)
         if blanked:
             draft.blank(blanked)
+        elif aim is not None and names.objects:
+            draft.take([(aim.start, aim.end or aim.start, '(k (= {0} {0}))'.format(next(iter(names.objects))))])
         else:
             outcome = cures.found(text, names, refusal, check)
             draft.take(outcome.cure.edits if outcome else [])
+
+
+def aim_of(form: Optional[Form]) -> Optional[Form]:
+    """The part of the goal in which a form stands, or None."""
+    while form is not None and (form.parent is None or form.parent.head() != 'goal'):
+        form = form.parent
+    return form
 
 
 def aside(names: Names, form: Form) -> List[Form]:

@@ -6,7 +6,7 @@ from pkslib import Code, Form, Refusal, Text, limits
 
 from . import grammar
 from .names import Names, count, is_term, listed, near
-from .shape import FOREIGN
+from .shape import foreign
 
 LIMITS = {
     'types': (limits.TYPES, 'types', 'leave out those that no object needs'),
@@ -123,8 +123,7 @@ def undeclared(names: Names, form: Form) -> List[str]:
                 said += value_form(names, form.parent)
             if (kind, other) == ('a function', 'a predicate'):
                 said += fact_form(form.parent)
-    if word in FOREIGN:
-        said.append(FOREIGN[word])
+    said += foreign(form)
     if word in grammar.QUERIES + grammar.ITEMS and kind == 'a predicate':
         inner = form.parent.rest()[0].text() if form.parent.rest() else '..'
         said.append(f'Here stands a literal alone, which is about the world and not about what is '

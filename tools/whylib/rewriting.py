@@ -10,7 +10,7 @@ from pkslib import Form
 
 from . import grammar
 from .names import Names
-from .shape import members
+from .shape import FOREIGN, members
 
 SECTION_WORDS = {
     'parameters': 'params', 'precondition': 'pre', 'preconditions': 'pre', 'effect': 'effects', 'observe': 'senses',
@@ -250,7 +250,7 @@ class Rewriting:
         """Whether a list is a literal, and none of the language's own forms."""
         head = form.head()
         return grammar.is_literal(form) and (head in ('not', '=') or head in self.names.predicates
-                                             or head not in grammar.HEADS)
+                                             or head not in grammar.HEADS and head not in FOREIGN)
 
     # Declarations
 

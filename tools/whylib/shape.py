@@ -1,6 +1,6 @@
 """Explains the codes of shape: 120 to 124, and 300 for the world."""
 
-from typing import List, Optional, Sequence, Tuple
+from typing import Iterator, List, Optional, Sequence, Tuple
 
 from pkslib import VARIABLE, Code, Form, Text, gained_parenthesis, limits, lost_parenthesis
 
@@ -37,6 +37,18 @@ FOREIGN = {
               '`(when ((p)) (unset (p)))` and `(when ((not (p))) (set (p)))`.',
     'probabilistic': 'There are no chances: what may turn out in two ways is a fact that isn\'t known, under a `when`.',
 }
+
+IN_GOALS = {
+    'or': 'There is no `or` in a goal: write an action for each way that sets a fact, with what that way asks for in '
+          'its `pre`; the goal asks for that fact.',
+    'forall': 'There is no `forall`: in the goal write one query for each object.',
+    'exists': 'There is no `exists`: write an action with it as a parameter that sets a fact, with what is asked for in '
+              'its `pre`; the goal asks for that fact.',
+    'if': 'A goal has no conditions: give an action, for each thing `?i` that the goal is about, the effect '
+          '`(when (CONDITION) (set (done ?i)))` with the add `(if ((k CONDITION)) (kf (done ?i)))`; the goal asks for '
+          '`(k (done ..))`. docs/GUIDE.md has an example, *A goal under a condition*.',
+}
+IN_GOALS['imply'] = IN_GOALS['when'] = IN_GOALS['if']
 
 
 WHERE = {
@@ -136,8 +148,8 @@ def specific(form: Form, names: Names) -> Optional[List[str]]:
         return [grammar.order_fault(form)]
     if kind == 'section' and head and head.lower() in grammar.SECTIONS[form.parent.head()]:
         return [f'Capital letters count: write `{head.lower()}`.']
-    if head and head.lower() in FOREIGN:
-        return [FOREIGN[head.lower()]]
+    if foreign(form):
+        return foreign(form)
     if kind == 'section' and (form.parent.head(), head) in (('problem', 'world'), ('domain', 'problem')):
         return [f'`({head} ..)` stands behind `({form.parent.head()} ..)`, and not within it.']
     if kind == 'section' and head in WHERE:
@@ -146,6 +158,32 @@ def specific(form: Form, names: Names) -> Optional[List[str]]:
     if heads and head:
         return swapped(form, kind) or belongs(head, heads, kind) or looks_like(form, kind, heads, names)
     return literal_hint(form, kind, names) or word_hint(form, kind) or list_hint(form, kind)
+
+
+def foreign(form: Form) -> List[str]:
+    """What is said of a word of another language; in a goal also of those that stand within its list."""
+    head = (form.head() or form.word or '').lower()
+    if head not in IN_GOALS or not is_in_goal(form):
+        return [FOREIGN[head]] if head in FOREIGN else []
+    return list(dict.fromkeys(IN_GOALS[word] for word in heads_within(form) if word in IN_GOALS))
+
+
+def is_in_goal(form: Form) -> bool:
+    """Whether a form stands in the goal."""
+    above = form.parent
+    while above is not None and above.head() != 'goal':
+        above = above.parent
+    return above is not None
+
+
+def heads_within(form: Form) -> Iterator[str]:
+    """The word of a form, or the heads of a list and of all lists within it, in small letters."""
+    head = form.word or form.head()
+    if head:
+        yield head.lower()
+    for part in form.parts:
+        if part.is_list():
+            yield from heads_within(part)
 
 
 def belongs(head: str, heads: Sequence[str], kind: Optional[str] = None) -> Optional[List[str]]:
