@@ -73,9 +73,11 @@ class Outcome:
             for number in range(text.place(start)[0], text.place(max(start, end - 1))[0] + 1):
                 if number not in numbers:
                     numbers.append(number)
-        lines = [line for number in numbers[:6]
+        kept = [number for number in numbers if text.line(number).strip()] or numbers
+        lines = [line for number in kept[:6]
                  for line in excerpt(text.line(number).strip('\r'), self.cure, text, number)]
-        return [self.heading(text, numbers), *[line for line in lines if line.strip()]]
+        gone = [f'Line {number} is left out.' for number in numbers if number not in kept]
+        return [self.heading(text, kept), *[line for line in lines if line.strip()], *gone[:6]]
 
     def heading(self, text: Text, numbers: List[int]) -> str:
         """What is said above the lines that are mended."""
@@ -248,6 +250,8 @@ class Patient:
             yield self.in_order(parent, order)
         if head in LEFT_OUT:
             yield self.without(form)
+        if parent.head() == 'problem' and head in grammar.SECTIONS['domain'] and self.names.domain is not None:
+            yield self.into_domain(form, self.names.domain)
         if head in ('problem', 'world') and parent.head() in ('domain', 'problem') and form is parent.parts[-1] and parent.end:
             before = parent.parts[-2].end or form.start
             yield Cure([(before, before, ')'), (parent.end - 1, parent.end, '')])
@@ -256,6 +260,18 @@ class Patient:
         for section, own in heads.items():
             if parent.head() == 'action' and head in own:
                 yield self.instead(form, f'({section} {form.text()})')
+
+    def into_domain(self, form: Form, domain: Form) -> Cure:
+        """A section of the problem at its place in the domain, or its parts behind those that stand there."""
+        head, order = str(form.head()), grammar.SECTIONS['domain']
+        said = self.rewriting.section(head, form.rest()) or form.text()
+        own = next((part for part in domain.parts if part.head() == head), None)
+        if own is not None and head != 'action':
+            put = self.behind(own.parts[-1], said[len(head) + 2:-1])
+        else:
+            before = [part for part in domain.parts if part.head() in order[:order.index(head) + 1]]
+            put = self.behind((before or domain.parts)[-1 if before else 0], said)
+        return self.both(put, self.without(form))
 
     def in_order(self, parent: Form, order: Sequence[str]) -> Cure:
         """The sections of a list in the order of the grammar, each in the place of another."""
@@ -294,11 +310,16 @@ class Patient:
 
     def part_by_part(self, section: Form, head: str) -> Optional[Cure]:
         """A section with those parts alone replaced that are meant otherwise; None where it isn't read part by part."""
-        if head not in self.rewriting.rules() or section.head() != head:
+        if section.head() != head:
+            return None
+        if head in ('predicates', 'functions'):
+            found = self.rewriting.declarations(head, section.rest())
+        elif head in self.rewriting.rules():
+            found = [(part, self.rewriting.part(head, part)) for part in section.rest()]
+        else:
             return None
         cure = Cure([])
-        for part in section.rest():
-            texts = self.rewriting.part(head, part)
+        for part, texts in found:
             if texts != [part.text()]:
                 cure = self.both(cure, self.instead(part, ' '.join(texts)) if texts else self.without(part))
         return cure if cure.edits else None

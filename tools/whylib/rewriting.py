@@ -267,7 +267,7 @@ class Rewriting:
         if head == 'objects' and has_dash(parts):
             return self.by_type(pairs(parts))
         if head in ('predicates', 'functions'):
-            return [self.declared(part) for part in parts]
+            return [text for _, texts in self.declarations(head, parts) for text in texts]
         return [part.text() for part in parts]
 
     @staticmethod
@@ -286,12 +286,42 @@ class Rewriting:
             kinds.setdefault(kind or 'object', []).append(name)
         return [f'({kind} {" ".join(names)})' for kind, names in kinds.items()]
 
-    @staticmethod
-    def declared(part: Form) -> str:
-        """A predicate by the types of its arguments, where it has variables with types."""
-        if not has_dash(part.parts):
+    def declarations(self, head: str, parts: List[Form]) -> List[Tuple[Form, List[str]]]:
+        """Each part of `predicates` or `functions` with what stands in its place: types alone, that of a value last."""
+        dashes = [at for at, part in enumerate(parts[:-1]) if head == 'functions' and part.word == '-' and at > 0
+                  and parts[at - 1].is_list() and parts[at + 1].word in self.names.types]
+        found: List[Tuple[Form, List[str]]] = []
+        for at, part in enumerate(parts):
+            if at in dashes or at - 1 in dashes:
+                found.append((part, []))
+            else:
+                found.append((part, [self.declared(part, parts[at + 2].word if at + 1 in dashes else None)]))
+        return found
+
+    def declared(self, part: Form, value: Optional[str] = None) -> str:
+        """A predicate or a function by types, where it has variables, with the type of a value behind it."""
+        types = [other.text() for other in part.rest()]
+        if has_dash(part.parts):
+            types = [kind or self.only_type() for _, kind in pairs(part.rest())]
+        elif any(name.startswith('?') for name in types):
+            types = self.without_variables(types)
+        elif not value:
             return part.text()
-        return '(' + ' '.join([part.head() or ''] + [kind or 'object' for _, kind in pairs(part.rest())]) + ')'
+        return '(' + ' '.join([part.head() or '', *types, *([value] if value else [])]) + ')'
+
+    def without_variables(self, words: List[str]) -> List[str]:
+        """The types of a declaration whose variables have theirs behind them, as in `?x room`, or have none."""
+        kept = []
+        for word, following in zip(words, words[1:] + ['?']):
+            if not word.startswith('?'):
+                kept.append(word)
+            elif following.startswith('?'):
+                kept.append(self.only_type())
+        return kept
+
+    def only_type(self) -> str:
+        """The type that is meant where none is named."""
+        return next(iter(self.names.types)) if len(self.names.types) == 1 else 'object'
 
     def section(self, head: str, parts: List[Form]) -> Optional[str]:
         """A section with this head and these parts, or None where it has nothing to say."""

@@ -88,7 +88,8 @@ def shape(text: Text, form: Optional[Form], names: Names) -> List[str]:
 
 def says_all(said: Sequence[str]) -> bool:
     """Whether a hint shows the whole form that should stand here."""
-    return any(text.startswith(('One pair of', 'The value of a place', 'A value is given')) for text in said)
+    whole = ('One pair of', 'The value of a place', 'A value is given', 'Predicates and functions', 'The type of a value')
+    return any(text.startswith(whole) for text in said)
 
 
 def wrong_number(form: Form) -> Optional[List[str]]:
@@ -152,6 +153,9 @@ def specific(form: Form, names: Names) -> Optional[List[str]]:
         return foreign(form)
     if kind == 'section' and (form.parent.head(), head) in (('problem', 'world'), ('domain', 'problem')):
         return [f'`({head} ..)` stands behind `({form.parent.head()} ..)`, and not within it.']
+    if kind == 'section' and form.parent.head() == 'problem' and head in grammar.SECTIONS['domain']:
+        before = grammar.SECTIONS['domain'][:grammar.SECTIONS['domain'].index(head)]
+        return [f'`{head}` stands in the domain' + (f', behind `{before[-1]}`.' if before else '.')]
     if kind == 'section' and head in WHERE:
         return belongs(head, [])
     heads = grammar.allowed(kind)
@@ -298,13 +302,16 @@ def word_hint(form: Form, kind: Optional[str]) -> Optional[List[str]]:
     if word == '_':
         return ['A wildcard stands in patterns alone: in `clear`, `sense-all` and `lcw`. Write one literal for each object; '
                 'or, where all else is false, `(lcw ..)`.']
+    if word == '-' and kind == 'functions':
+        return ['The type of a value stands last in the list of its function, without `-`: `(loc item room)`.']
     if word == '-':
         return ['Types have no `-` before them: `(?x room)`, `(cup item)`; a type with its parent '
                 'is `(room place)`, in version 2.']
     if kind == 'number':
         return ['A cost is a number in digits, not `0` and without a leading zero.']
     if kind == 'name' and own in ('predicates', 'functions') and VARIABLE.match(word):
-        return ['Predicates and functions are declared by types alone: `(in item room)`.']
+        return ['Predicates and functions are declared by types alone, that of a value last: `(in item room)`, '
+                '`(loc item room)`.']
     if kind in ('name', 'term') and word[0].isdigit():
         return [f'`{word}` is no name: a name begins with a letter.']
     if kind == 'parameter' and own == 'parameter':
