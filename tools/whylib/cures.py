@@ -162,7 +162,8 @@ class Patient:
             Code.DOMAIN: self.beginning, Code.PROBLEM: self.beginning, Code.WORLD: self.beginning, Code.FORM: self.wrong_form, Code.WORLD_FORM: self.wrong_form,
             Code.UNDECLARED: self.undeclared, Code.WORLD_UNDECLARED: self.undeclared, Code.PARAMETER: self.parameter,
             Code.ARGUMENTS: self.arguments, Code.TYPE: self.types, Code.WORLD_FACT: self.types, Code.TWICE: self.twice,
-            Code.GROUP: self.twice, Code.WORLD_TWO_VALUES: self.twice, Code.ADD: self.add, Code.LIMIT: self.limit,
+            Code.HEIGHT: self.height, Code.GROUP: self.twice, Code.WORLD_TWO_VALUES: self.twice, Code.ADD: self.add,
+            Code.LIMIT: self.limit,
         }
         rule = rules.get(Code(code)) if code in set(Code) else None
         return rule() if rule else iter(())
@@ -195,7 +196,8 @@ class Patient:
             yield Cure([(found.start(1), found.end(1), ';')
                         for found in re.finditer(rf'(?m)(?:^|[ \t])({re.escape(letter)}+)(?=[ \t]|$)', self.text.code())])
         if letter not in '<>':
-            yield Cure([(found.start(), found.end(), ' ') for found in re.finditer(re.escape(letter), self.text.code())])
+            yield Cure([(found.start(), found.end(), ' ')
+                        for found in re.finditer(re.escape(letter), self.text.code())])
 
     def beginning(self) -> Iterator[Cure]:
         """A version, a part of the file by its own word, and a domain without `define`."""
@@ -286,7 +288,7 @@ class Patient:
         if role in ('literals', 'queries'):
             yield self.instead(form, f'({form.text()})')
         if role == 'value' and form.parts and form.parts[0].word:
-            *place, value = [part.text() for part in form.parts]
+            *place, value = [part.text().strip('()') for part in form.parts if part.word != '=']
             yield self.instead(form, f'(({" ".join(place)}) {value})')
         if form.head() == 'not' and role == 'fact':
             yield self.without(form)
@@ -444,6 +446,25 @@ class Patient:
             if list(order) != given:
                 yield self.instead(parent, '(' + ' '.join([parent.head() or '', *order]) + ')')
 
+    def height(self) -> Iterator[Cure]:
+        """207: a parameter for the inner value, wherever that stands within a term of the action."""
+        from . import meaning
+        inner = meaning.inner_of(self.form) if self.form is not None else None
+        action = self.action
+        if inner is None or action is None or inner.head() not in self.names.functions:
+            return
+        kind = self.names.functions[str(inner.head())][1]
+        name = meaning.named_after(self.names, kind, action)
+        asked = f'(k (= {name} {inner.text()}))'
+        pre = next((part for part in action.parts if part.head() == 'pre'), None)
+        cure = self.both(self.in_section(action, 'params', f'({name} {kind})'),
+                         self.behind(pre.parts[0], asked) if pre else self.in_section(action, 'pre', asked))
+        for part in self.text.lists:
+            if part.text() == inner.text() and self.names.action_of(part) is action and part.parent is not None \
+                    and part.parent.head() in self.names.functions:
+                cure = self.both(cure, self.instead(part, name))
+        yield cure
+
     def twice(self) -> Iterator[Cure]:
         """202, 210 and 304: without the second."""
         if self.form is not None:
@@ -468,13 +489,17 @@ class Patient:
         if cure.section is None:
             return self.instead(cure.form, cure.text)
         assert self.action is not None
-        section = next((part for part in self.action.parts if part.head() == cure.section), None)
+        return self.in_section(self.action, cure.section, cure.text)
+
+    def in_section(self, action: Form, head: str, new: str) -> Cure:
+        """A part more for a section of an action, which is put at its place where it is missing."""
+        section = next((part for part in action.parts if part.head() == head), None)
         if section is not None:
-            return self.behind(section.parts[-1], cure.text)
+            return self.behind(section.parts[-1], new)
         order = grammar.SECTIONS['action']
-        before = [part for part in self.action.parts[1:2] + self.action.parts[2:]
-                  if part.word or order.index(part.head() or 'cost') < order.index(cure.section)]
-        return self.behind(before[-1], f'({cure.section} {cure.text})')
+        before = [part for part in action.parts[1:2] + action.parts[2:]
+                  if part.word or order.index(part.head() or 'cost') < order.index(head)]
+        return self.behind(before[-1], f'({head} {new})')
 
 
 class Colons:

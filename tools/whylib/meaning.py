@@ -1,5 +1,6 @@
 """Explains the codes of meaning, 200 to 211, and those of the world, 301 to 311."""
 
+import re
 from typing import Collection, Iterator, List, Optional, Tuple
 
 from pkslib import Code, Form, Refusal, Text, limits
@@ -48,7 +49,7 @@ def explain(names: Names, form: Form, text: Text, refusal: Refusal) -> List[str]
         Code.PARAMETER: lambda: parameter(names, form),
         Code.ARGUMENTS: lambda: arguments(names, form),
         Code.TYPE: lambda: types_of(names, form),
-        Code.HEIGHT: lambda: height(form),
+        Code.HEIGHT: lambda: height(names, form),
         Code.LIMIT: lambda: limit(names, form),
         Code.NO_VALUE: lambda: [f'No object has the type `{form.word}`'
                                 + (' or one below it' if names.version == 2 else '')
@@ -225,13 +226,41 @@ def types_of(names: Names, form: Form) -> List[str]:
     return said
 
 
-def height(form: Form) -> List[str]:
+def levels(form: Form) -> int:
+    """The height of a term: 0 of an object, 1 of a parameter, and of a place one more than that of its arguments."""
+    if form.word:
+        return 1 if grammar.is_var(form) else 0
+    return 1 + max(map(levels, form.rest()), default=0)
+
+
+def inner_of(form: Form) -> Optional[Form]:
+    """The greatest term within one that is too high which isn't too high itself, and stands within another list."""
+    part = max(form.rest(), key=levels, default=None)
+    while part is not None and levels(part) > 2:
+        part = max(part.rest(), key=levels, default=None)
+    return part if part is not None and part.is_list() else None
+
+
+def named_after(names: Names, kind: str, action: Form) -> str:
+    """A parameter that the action doesn't have, named after its type."""
+    taken = names.params(action)
+    choices = [f'?{kind[0]}', f'?{kind}', *(f'?{kind[0]}{number}' for number in range(2, 10))]
+    return next(name for name in choices if name not in taken)
+
+
+def height(names: Names, form: Form) -> List[str]:
     """207."""
-    return [f'`{form.text()}` is too deep: a function may have a value of a function as its '
-            'argument, such as `(f (g a))` or `(f ?x)`, and no deeper; a parameter counts as a '
-            'level.',
-            'Give the inner value a function of its own that an action assigns, or ask for it by a '
-            'literal of its own.']
+    inner, action = inner_of(form), names.action_of(form)
+    parameter = re.search(r'\?[^ )]+', form.text())
+    said = [f'`{parameter.group()}` may itself be a value, so `{form.text()}` may be three values within each other, '
+            'and two are the most.' if parameter else
+            f'`{form.text()}` has more than two values within each other, and two are the most.']
+    if inner is None or action is None or len(names.params(action)) >= limits.PARAMETERS:
+        return said + ['Let an action assign the inner value to a function of its own, and write that here.']
+    kind = names.functions[str(inner.head())][1]
+    name = named_after(names, kind, action)
+    return said + [f'Take a parameter more, `({name} {kind})`, ask `(k (= {name} {inner.text()}))` in `pre`, and write '
+                   f'`{form.text().replace(inner.text(), name)}` here.']
 
 
 def limit(names: Names, form: Form) -> List[str]:

@@ -97,6 +97,8 @@ class Rewriting:
             return [f'({head} {text})' for text in self.query(inner[0])]
         if head == 'lcw' and len(inner) == 1:
             return [f'(k (not {text}))' for text in self.without_wildcards(inner[0])]
+        if head == 'k' and len(inner) == 1 and inner[0].head() == 'not' and len(inner[0].rest()) == 1:
+            return [f'(k (not {text}))' for text in self.without_wildcards(inner[0].parts[1])]
         if head in ('k', 'kf') and len(inner) == 1 and self.equation(inner[0]):
             return [f'(k {self.equation(inner[0])})']
         if head in ('kf', 'knows', 'known') and inner:
@@ -118,6 +120,8 @@ class Rewriting:
         head, inner = form.head(), form.rest()
         if head in NUMERIC:
             return []
+        if head == 'unset' and len(inner) == 1 and self.has_wildcard(inner[0]):
+            return [f'(clear {inner[0].text()})']
         if head == 'toggle' and len(inner) == 1 and inner[0].is_list():
             atom = inner[0].text()
             return [f'(when ({atom}) (unset {atom}))', f'(when ((not {atom})) (set {atom}))']
@@ -188,6 +192,8 @@ class Rewriting:
         head, inner = form.head(), form.rest()
         if head in ('k', 'kw', 'observe', 'sense') and len(inner) == 1 and self.is_place(inner[0]):
             return [f'(sense-value {inner[0].text()})']
+        if head == 'sense' and len(inner) == 1 and self.has_wildcard(inner[0]):
+            return [f'(sense-all {inner[0].text()})']
         if head in ('k', 'kw', 'observe') and inner:
             return ['(sense ' + ' '.join(part.text() for part in inner) + ')']
         if head == 'kv' and inner:
@@ -232,6 +238,11 @@ class Rewriting:
         """Of a function with one argument too many, as if it were a predicate, the equation that is meant, or None."""
         valued = self.names.valued(form)
         return f'(= {valued[0]} {valued[1]})' if valued else None
+
+    @staticmethod
+    def has_wildcard(form: Form) -> bool:
+        """Whether `_` stands among the parts of a list."""
+        return any(part.word == '_' for part in form.parts)
 
     def without_wildcards(self, literal: Form) -> List[str]:
         """A literal for each object at its wildcard."""

@@ -42,8 +42,8 @@ IN_GOALS = {
     'or': 'There is no `or` in a goal: write an action for each way that sets a fact, with what that way asks for in '
           'its `pre`; the goal asks for that fact.',
     'forall': 'There is no `forall`: in the goal write one query for each object.',
-    'exists': 'There is no `exists`: write an action with it as a parameter that sets a fact, with what is asked for in '
-              'its `pre`; the goal asks for that fact.',
+    'exists': 'There is no `exists`: write an action with it as a parameter that sets a fact, with what is asked for '
+              'in its `pre`; the goal asks for that fact.',
     'if': 'A goal has no conditions: give an action, for each thing `?i` that the goal is about, the effect '
           '`(when (CONDITION) (set (done ?i)))` with the add `(if ((k CONDITION)) (kf (done ?i)))`; the goal asks for '
           '`(k (done ..))`. docs/GUIDE.md has an example, *A goal under a condition*.',
@@ -88,7 +88,8 @@ def shape(text: Text, form: Optional[Form], names: Names) -> List[str]:
 
 def says_all(said: Sequence[str]) -> bool:
     """Whether a hint shows the whole form that should stand here."""
-    whole = ('One pair of', 'The value of a place', 'A value is given', 'Predicates and functions', 'The type of a value')
+    whole = ('One pair of', 'The value of a place', 'A value is given', 'Predicates and functions',
+             'The type of a value')
     return any(text.startswith(whole) for text in said)
 
 
@@ -145,6 +146,9 @@ def specific(form: Form, names: Names) -> Optional[List[str]]:
     kind, head = grammar.role(form), form.head()
     if grammar.role(form.parent) == 'fact' and form.parent.head() == 'not':
         return ['A world lists what is true; what isn\'t listed is false, so leave this out.']
+    if kind == 'value' and head == '=' and len(form.rest()) == 2:
+        place, value = form.parts[1].text().strip('()'), form.parts[2].text()
+        return [f'The value of a place is written `(({place}) {value})` here, without `=`.']
     if kind == 'section' and head in grammar.SECTIONS[form.parent.head()]:
         return [grammar.order_fault(form)]
     if kind == 'section' and head and head.lower() in grammar.SECTIONS[form.parent.head()]:
@@ -300,8 +304,7 @@ def word_hint(form: Form, kind: Optional[str]) -> Optional[List[str]]:
         *place, value = [p.text() for p in form.parent.parts]
         return [f'The value of a place is written `(({" ".join(place)}) {value})`.']
     if word == '_':
-        return ['A wildcard stands in patterns alone: in `clear`, `sense-all` and `lcw`. Write one literal for each object; '
-                'or, where all else is false, `(lcw ..)`.']
+        return wildcard(form)
     if word == '-' and kind == 'functions':
         return ['The type of a value stands last in the list of its function, without `-`: `(loc item room)`.']
     if word == '-':
@@ -324,6 +327,23 @@ def word_hint(form: Form, kind: Optional[str]) -> Optional[List[str]]:
         return [f'`{word}` needs parentheses of its own: `({word})`, with its arguments if it has '
                 'any.']
     return None
+
+
+def wildcard(form: Form) -> List[str]:
+    """What is said of `_` where no pattern stands."""
+    said, above = 'A wildcard stands in patterns alone: in `clear`, `sense-all` and `lcw`', form.parent
+    while above is not None and grammar.role(above) not in (*QUERIES, 'effect', 'sense', 'start', 'add'):
+        above = above.parent
+    kind = grammar.role(above) if above is not None else None
+    if kind in QUERIES:
+        return [f'{said}, and no query has one. That something is so of no object, or of each, is a query for each object; '
+                'that it is so of some object is asked by an action with a parameter for that'
+                + (', which sets a fact for the goal.' if is_in_goal(form) else '.')]
+    if kind == 'effect':
+        return [f'{said}. Write one effect for each object; all facts at once become false by `(clear ..)`.']
+    if kind == 'sense':
+        return [f'{said}. Write one sense for each object, or `(sense-all ..)`.']
+    return [f'{said}. Write one literal for each object; or, where all else is false, `(lcw ..)`.']
 
 
 def members(group: Form) -> List[str]:
@@ -400,6 +420,9 @@ def beginning(text: Text, code: int) -> List[str]:
         if heads[2:3] == ['action']:
             said.append('An action stands outside of the domain: the domain was closed too early.')
         return said + pddl(heads[2:3])
+    if heads[3:] and set(heads[3:]) == {'world'}:
+        return ['A file has one world. Keep each in a file of its own, and put one behind the rest: '
+                '`cat FILE WORLD | ./pks exec DEPTH`.']
     return ['Behind the problem there may stand `(world (true ..) (values ..))`, and nothing else.']
 
 
