@@ -26,6 +26,8 @@ class Cure:
     """Changes of a text: where each begins and ends, and what stands there then."""
 
     edits: List[Edit]
+    is_part: bool = False
+    """Whether it mends one part of a section, beside which others may be wrong."""
 
     def done(self, data: bytes) -> bytes:
         """The text with the changes."""
@@ -195,9 +197,23 @@ class Patient:
         if letter in '#/':
             yield Cure([(found.start(1), found.end(1), ';')
                         for found in re.finditer(rf'(?m)(?:^|[ \t])({re.escape(letter)}+)(?=[ \t]|$)', self.text.code())])
-        if letter not in '<>':
+        if letter in '/!':
+            yield from self.negations(letter)
+        if letter not in '<>!' and not re.search(r'/\s*=', self.text.code()):
             yield Cure([(found.start(), found.end(), ' ')
                         for found in re.finditer(re.escape(letter), self.text.code())])
+
+    def negations(self, letter: str) -> Iterator[Cure]:
+        """`(/= a b)`, `(!= a b)` and `(! (p))` by `not`."""
+        cure = Cure([])
+        for form in self.text.lists:
+            words, others = [part.word for part in form.parts[:2]], [part.text() for part in form.parts]
+            if words == [letter, '='] and len(others) == 4:
+                cure = self.both(cure, self.instead(form, f'(not (= {others[2]} {others[3]}))'))
+            elif words == [letter, None] and len(others) == 2:
+                cure = self.both(cure, self.instead(form, f'(not {others[1]})'))
+        if cure.edits:
+            yield cure
 
     def beginning(self) -> Iterator[Cure]:
         """A version, a part of the file by its own word, and a domain without `define`."""
@@ -309,6 +325,11 @@ class Patient:
             said = self.rewriting.section(head, section.rest())
             if said and said != section.text():
                 yield self.part_by_part(section, head) or self.instead(section, said)
+            part = self.form
+            while part is not None and part.parent is not section:
+                part = part.parent
+            if part is not None and section.head() == head and head in self.rewriting.rules():
+                yield Cure(self.instead(part, ' '.join(self.rewriting.part(head, part))).edits, is_part=True)
 
     def part_by_part(self, section: Form, head: str) -> Optional[Cure]:
         """A section with those parts alone replaced that are meant otherwise; None where it isn't read part by part."""
@@ -586,7 +607,8 @@ def is_further(refusal: Refusal, was_at: int, said: str, cure: Cure, data: bytes
     if found.code == refusal.code and at - shift == was_at:
         return False
     before, was = (code // 10 if code < Code.LONG_NAME else Code.LONG_NAME // 10 for code in (found.code, refusal.code))
-    return before >= was and all(not start <= at < end for start, end in map(lambda place: around(text, *place), cure.places()))
+    changed = cure.places() if cure.is_part else [around(text, *place) for place in cure.places()]
+    return before >= was and all(not start <= at < end for start, end in changed)
 
 
 def around(text: Text, start: int, end: int) -> Tuple[int, int]:
@@ -601,7 +623,7 @@ def found(text: Text, names: Names, refusal: Refusal, check: Callable[[bytes], s
     begun, best, tried = time.monotonic(), None, set()
     for cure in itertools.islice(Patient(text, names, refusal).cures(), MOST):
         data = cure.done(text.data)
-        if data in tried or data == text.data or time.monotonic() - begun > SECONDS:
+        if (data in tried and not cure.is_part) or data == text.data or time.monotonic() - begun > SECONDS:
             continue
         tried.add(data)
         said = check(data)

@@ -58,11 +58,19 @@ def faults(text: Text, check: Callable[[bytes], str]) -> Iterator[Fault]:
         if not said.startswith('refused'):
             return
         refusal, now = read_refusal(said), Text(draft.data)
+        if refusal.code == Code.WORLD_NO_VALUE and values_in(now) < values_in(text):
+            return
         yield Fault(refusal, now, *draft.place(now, refusal), draft.origins)
         before = draft.data
         set_aside(draft, now, refusal, check)
         if draft.data == before:
             return
+
+
+def values_in(text: Text) -> int:
+    """How many values the world of a text has."""
+    names = Names(text)
+    return len(names.section(names.world, 'values'))
 
 
 def set_aside(draft: Draft, text: Text, refusal: Refusal, check: Callable[[bytes], str]) -> None:
@@ -90,11 +98,15 @@ def set_aside(draft: Draft, text: Text, refusal: Refusal, check: Callable[[bytes
         aim = aim_of(form)
         if blanked:
             draft.blank(blanked)
+        elif aim is not None and aim.parent is not None and len(aim.parent.parts) > 2:
+            draft.blank([aim])
         elif aim is not None and names.objects:
             draft.take([(aim.start, aim.end or aim.start, '(k (= {0} {0}))'.format(next(iter(names.objects))))])
         else:
             outcome = cures.found(text, names, refusal, check)
             draft.take(outcome.cure.edits if outcome else [])
+            if outcome is None and refusal.code == Code.WORLD and form is not None:
+                draft.blank([form])
 
 
 def aim_of(form: Optional[Form]) -> Optional[Form]:

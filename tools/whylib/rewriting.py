@@ -93,7 +93,7 @@ class Rewriting:
     def query(self, form: Form) -> List[str]:
         """A part of `pre`, of an `if` or of the goal."""
         head, inner = form.head(), form.rest()
-        if head in grammar.AIMS and len(inner) == 1:
+        if head in [*grammar.AIMS, 'not-derived'] and len(inner) == 1:
             return [f'({head} {text})' for text in self.query(inner[0])]
         if head == 'lcw' and len(inner) == 1:
             return [f'(k (not {text}))' for text in self.without_wildcards(inner[0])]
