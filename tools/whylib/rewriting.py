@@ -299,15 +299,23 @@ class Rewriting:
 
     def declarations(self, head: str, parts: List[Form]) -> List[Tuple[Form, List[str]]]:
         """Each part of `predicates` or `functions` with what stands in its place: types alone, that of a value last."""
-        dashes = [at for at, part in enumerate(parts[:-1]) if head == 'functions' and part.word == '-' and at > 0
-                  and parts[at - 1].is_list() and parts[at + 1].word in self.names.types]
         found: List[Tuple[Form, List[str]]] = []
-        for at, part in enumerate(parts):
-            if at in dashes or at - 1 in dashes:
+        for part in parts:
+            if head == 'functions' and found and found[-1][0].word == '-' and not found[-1][1]:
+                found[-2] = found[-2][0], [self.declared(found[-2][0], part.text())]
+                found.append((part, []))
+            elif head == 'functions' and found and self.is_value_of(part, found[-1][0]):
+                found[-1] = found[-1][0], [self.declared(found[-1][0], None if part.word == '-' else part.word)]
                 found.append((part, []))
             else:
-                found.append((part, [self.declared(part, parts[at + 2].word if at + 1 in dashes else None)]))
+                found.append((part, [self.declared(part)]))
         return found
+
+    def is_value_of(self, part: Form, entry: Form) -> bool:
+        """Whether behind the list of a function a dash stands, or the type of its value where that is wanting."""
+        words = [other.text() for other in entry.rest()]
+        wants = not words or any(word.startswith('?') for word in words)
+        return entry.is_list() and (part.word == '-' or part.word in self.names.types and wants)
 
     def declared(self, part: Form, value: Optional[str] = None) -> str:
         """A predicate or a function by types, where it has variables, with the type of a value behind it."""

@@ -35,6 +35,7 @@ FOREIGN = {
                 '`(less n1 n2)`.',
     'toggle': 'There is no `toggle`: what is true becomes false, and what is false true, by two effects, '
               '`(when ((p)) (unset (p)))` and `(when ((not (p))) (set (p)))`.',
+    'number': 'There are no numbers: take objects for the levels, of a type of their own.',
     'probabilistic': 'There are no chances: what may turn out in two ways is a fact that isn\'t known, under a `when`.',
 }
 
@@ -171,9 +172,12 @@ def specific(form: Form, names: Names) -> Optional[List[str]]:
 def foreign(form: Form) -> List[str]:
     """What is said of a word of another language; in a goal also of those that stand within its list."""
     head = (form.head() or form.word or '').lower()
-    if head not in IN_GOALS or not is_in_goal(form):
+    if not is_in_goal(form):
         return [FOREIGN[head]] if head in FOREIGN else []
-    return list(dict.fromkeys(IN_GOALS[word] for word in heads_within(form) if word in IN_GOALS))
+    if head not in IN_GOALS and head not in FOREIGN:
+        return []
+    known = {head: FOREIGN.get(head, ''), **IN_GOALS}
+    return list(dict.fromkeys(known[word] for word in heads_within(form) if word in known))
 
 
 def is_in_goal(form: Form) -> bool:
@@ -305,16 +309,10 @@ def word_hint(form: Form, kind: Optional[str]) -> Optional[List[str]]:
         return [f'The value of a place is written `(({" ".join(place)}) {value})`.']
     if word == '_':
         return wildcard(form)
-    if word == '-' and kind == 'functions':
-        return ['The type of a value stands last in the list of its function, without `-`: `(loc item room)`.']
-    if word == '-':
-        return ['Types have no `-` before them: `(?x room)`, `(cup item)`; a type with its parent '
-                'is `(room place)`, in version 2.']
     if kind == 'number':
         return ['A cost is a number in digits, not `0` and without a leading zero.']
-    if kind == 'name' and own in ('predicates', 'functions') and VARIABLE.match(word):
-        return ['Predicates and functions are declared by types alone, that of a value last: `(in item room)`, '
-                '`(loc item room)`.']
+    if typed_hint(word, kind, own):
+        return typed_hint(word, kind, own)
     if kind in ('name', 'term') and word[0].isdigit():
         return [f'`{word}` is no name: a name begins with a letter.']
     if kind == 'parameter' and own == 'parameter':
@@ -327,6 +325,19 @@ def word_hint(form: Form, kind: Optional[str]) -> Optional[List[str]]:
         return [f'`{word}` needs parentheses of its own: `({word})`, with its arguments if it has '
                 'any.']
     return None
+
+
+def typed_hint(word: str, kind: Optional[str], own: Optional[str]) -> List[str]:
+    """Where a dash or a variable stands that PDDL has with its types."""
+    if word == '-' and kind == 'functions':
+        return ['The type of a value stands last in the list of its function, without `-`: `(loc item room)`.']
+    if word == '-':
+        return ['Types have no `-` before them: `(?x room)`, `(cup item)`; a type with its parent '
+                'is `(room place)`, in version 2.']
+    if kind == 'name' and own in ('predicates', 'functions') and VARIABLE.match(word):
+        return ['Predicates and functions are declared by types alone, that of a value last: `(in item room)`, '
+                '`(loc item room)`.']
+    return []
 
 
 def wildcard(form: Form) -> List[str]:
