@@ -1,12 +1,14 @@
 """The cures of several faults, each told against the file with the cures of those before it."""
 
 from bisect import bisect_right
+from itertools import islice
 from typing import Callable, List, Optional, Tuple
 
 from pkslib import Code, Refusal, Text, read_refusal
 
-from .cures import Cure, Edit, Outcome
+from .cures import MOST, Cure, Edit, Outcome, Patient
 from .further import Draft, Fault
+from .names import Names
 
 Find = Callable[[Refusal, Text], Optional[Outcome]]
 """What finds a cure for a refusal of a text, or None."""
@@ -44,8 +46,9 @@ class Mending:
         refusal, text = read_refusal(self.check(self.draft.data)), Text(self.draft.data)
         place = self.draft.place(text, refusal)
         own, first = rank(fault.refusal.code, (fault.line, fault.column)), rank(refusal.code, place)
-        if own == first and refusal.code == fault.refusal.code:
-            return self.next(self.find(refusal, text))
+        outcome = self.find(refusal, text) if own == first and refusal.code == fault.refusal.code else None
+        if outcome is not None:
+            return self.next(outcome)
         if first[0] > own[0] or first > own and self.is_as_it_was(text, refusal, place):
             return ABOVE
         return self.apart(self.find(fault.refusal, fault.text), fault)
@@ -56,30 +59,48 @@ class Mending:
         now, was = text.form_at(text.at(refusal.line, refusal.column)), first.form_at(first.at(*place))
         return now is not None and was is not None and now.text() == was.text()
 
-    def next(self, outcome: Optional[Outcome]) -> List[str]:
+    def next(self, outcome: Outcome) -> List[str]:
         """The cure of the fault that the program tells of the file as far as it is mended."""
-        if outcome is None:
-            return []
         by = 'With this and what is mended above' if self.done else 'With it'
-        origins = self.draft.origins
-        self.done += [(origins[start], origins[end], new) for start, end, new in outcome.cure.edits]
-        self.draft.take(outcome.cure.edits)
+        self.take(outcome.cure)
         return outcome.sentences(by)
 
-    def apart(self, outcome: Optional[Outcome], fault: Fault) -> List[str]:
-        """The cure of a fault behind one that has none, found where that is set aside."""
-        edits = self.at_first(outcome.cure.edits, fault) if outcome is not None else None
-        if edits is None:
-            return []
-        new = [edit for edit in edits if edit not in self.done]
-        if not new:
-            return ABOVE
-        if any(start <= other[1] and other[0] <= end for start, end, _ in new for other in self.done):
-            return []
-        cure = Cure([(self.here(start), self.here(end), text) for start, end, text in new])
-        self.done += new
+    def take(self, cure: Cure) -> None:
+        """Makes the changes of a cure."""
+        self.done += self.from_here(cure.edits)
         self.draft.take(cure.edits)
+
+    def apart(self, outcome: Optional[Outcome], fault: Fault) -> List[str]:
+        """The cure of a fault beside one that has none, found where that is set aside."""
+        edits = self.at_first(outcome.cure.edits, fault) if outcome is not None else None
+        new = [edit for edit in edits or [] if edit not in self.done]
+        if edits and not new:
+            return ABOVE
+        if not new or self.is_changed(new):
+            return []
+        cure = self.wider(Cure([(self.here(start), self.here(end), text) for start, end, text in new]), fault)
+        self.take(cure)
         return [*Outcome(cure, self.draft.data, '').shown(), 'With it this fault is gone.']
+
+    def wider(self, cure: Cure, fault: Fault) -> Cure:
+        """The same cure also where something was set aside: a word is changed wherever it stands."""
+        text, own = Text(self.draft.data), set(cure.edits)
+        line, column = text.place(self.here(self.draft.first.at(fault.line, fault.column)))
+        patient = Patient(text, Names(text), fault.refusal._replace(line=line, column=column))
+        for other in islice(patient.cures(), MOST):
+            is_same = {new for _, _, new in other.edits} == {new for _, _, new in own}
+            if is_same and own < set(other.edits) and not self.is_changed(self.from_here(other.edits)):
+                return other
+        return cure
+
+    def is_changed(self, edits: List[Edit]) -> bool:
+        """Whether one of some changes, at their places in the file as it is, meets one that was made."""
+        return any(start <= other[1] and other[0] <= end for start, end, _ in edits for other in self.done)
+
+    def from_here(self, edits: List[Edit]) -> List[Edit]:
+        """Changes of the file as far as it is mended, at their places in the file as it is."""
+        origins = self.draft.origins
+        return [(origins[start], origins[end], new) for start, end, new in edits]
 
     def at_first(self, edits: List[Edit], fault: Fault) -> Optional[List[Edit]]:
         """Changes at their places in the file as it is; None where one replaces what isn't as it was."""
