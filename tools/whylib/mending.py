@@ -2,7 +2,7 @@
 
 from bisect import bisect_right
 from itertools import islice
-from typing import Callable, List, Optional, Tuple
+from typing import Callable, Iterator, List, Optional, Set, Tuple
 
 from pkslib import Code, Refusal, Text, read_refusal
 
@@ -38,6 +38,18 @@ class Mending:
     def is_accepted(self) -> bool:
         """Whether the file is accepted as far as it is mended."""
         return not self.check(self.draft.data).startswith('refused')
+
+    def left(self, told: Set[Refusal]) -> Iterator[Fault]:
+        """The faults that show when those that were told are mended, as long as each has a cure."""
+        before = b''
+        while self.draft.data != before and not self.is_accepted():
+            before = self.draft.data
+            refusal, text = read_refusal(self.check(before)), Text(before)
+            line, column = self.draft.place(text, refusal)
+            is_told = any((refusal.code, line, column) == (each.code, each.line, each.column) for each in told)
+            if is_told or not self.is_as_it_was(text, refusal, (line, column)):
+                return
+            yield Fault(refusal, text, line, column, self.draft.origins)
 
     def sentences(self, fault: Fault) -> List[str]:
         """What mends a fault beside what mends those before it, and how far that leads."""
