@@ -347,8 +347,8 @@ def wildcard(form: Form) -> List[str]:
         above = above.parent
     kind = grammar.role(above) if above is not None else None
     if kind in QUERIES:
-        return [f'{said}, and no query has one. That something is so of no object, or of each, is a query for each object; '
-                'that it is so of some object is asked by an action with a parameter for that'
+        return [f'{said}, and no query has one. That something is so of no object, or of each, is a query for each '
+                'object; that it is so of some object is asked by an action with a parameter for that'
                 + (', which sets a fact for the goal.' if is_in_goal(form) else '.')]
     if kind == 'effect':
         return [f'{said}. Write one effect for each object; all facts at once become false by `(clear ..)`.']
