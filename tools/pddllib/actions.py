@@ -2,7 +2,7 @@
 
 import itertools
 import math
-from typing import Callable, Dict, Iterator, List, Optional, Sequence, Tuple
+from typing import Callable, Dict, Iterator, List, NoReturn, Optional, Sequence, Tuple
 
 from . import limits
 from .conditions import NeverTrue, Queries, Scope
@@ -64,6 +64,9 @@ class Action:
         if len(form.parts) < 2 or form.parts[1].is_list():
             raise Refusal(form, 'an action has a name', 'Write `(:action NAME ..)`.')
         found, rest = {}, form.parts[2:]
+        for at, word in enumerate(rest):
+            if at % 2 == 0 and at > 0 and word.is_list():
+                refuse_second(rest[at - 2], rest[at - 1], word)
         for word, part in zip(rest[::2], rest[1::2]):
             if word.word not in PARTS:
                 raise Refusal(word, f'an action can\'t have `{word.text()}`',
@@ -103,6 +106,18 @@ class Action:
                 'Take fewer objects, or split it into two actions.')
         at_most(limits.SENSES, len(self.senses), form, 'an action has at most {} senses',
                 'Take fewer objects, or split it into two actions.')
+
+
+def refuse_second(keyword: Form, first: Form, second: Form) -> NoReturn:
+    """Refuses a second list behind a keyword, which one list that has both mends."""
+    both = f'{first.text()} {second.text()}'
+    if keyword.word == ':parameters':
+        cure = 'Write the variables of both in one list.'
+    else:
+        cure = f'Write `(and {both})`.'
+    if keyword.word in OBSERVATIONS:
+        cure = f'Write `(and {both})`, which observes whether both are true, or `({both})`, which observes each by itself.'
+    raise Refusal(second, f'`{keyword.text()}` has one list behind it, and this is a second one', cure)
 
 
 def fixings(form: Form, declared: Declared) -> List[Fixing]:

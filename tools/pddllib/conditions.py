@@ -115,7 +115,7 @@ def term(form: Form, scope: Scope) -> TypedTerm:
     if name is None and declared.names.find('function', form.word):
         return application(form, scope)
     if name is None:
-        refuse_undeclared(form, 'object', '`:objects` or `:constants`')
+        refuse_undeclared(form, 'object', '`:objects` or `:constants`', declared)
     return name, declared.objects[name]
 
 
@@ -125,7 +125,7 @@ def application(form: Form, scope: Scope) -> TypedTerm:
     name = head.word and scope.declared.names.find('function', head.word)
     if not name:
         refuse_number(head)
-        refuse_undeclared(head, 'function', '`:functions`')
+        refuse_undeclared(head, 'function', '`:functions`', scope.declared)
     types, result = scope.declared.functions[name]
     found = (name,) + arguments(form, form.rest() if form.is_list() else [], types, scope)
     if height(found) > 2:
@@ -155,7 +155,7 @@ def atom(form: Form, scope: Scope) -> Literal:
     name = head.word and scope.declared.names.find('predicate', head.word)
     if not name:
         refuse_number(head)
-        refuse_undeclared(head, 'predicate', '`:predicates`')
+        refuse_undeclared(head, 'predicate', '`:predicates`', scope.declared)
     types = scope.declared.predicates[name]
     return Literal(True, name, arguments(form, form.rest(), types, scope))
 
@@ -178,9 +178,9 @@ def equation(form: Form, scope: Scope) -> Union[bool, Literal]:
     return Literal(True, '=', (left, right))
 
 
-def refuse_undeclared(form: Form, kind: str, where: str) -> NoReturn:
+def refuse_undeclared(form: Form, kind: str, where: str, declared: Declared) -> NoReturn:
     """Refuses a name that isn't declared."""
-    raise Refusal(form, f'the {kind} `{form.text()}` isn\'t declared', f'Add it to {where}.')
+    raise Refusal(form, f'the {kind} `{form.text()}` isn\'t declared', declared.names.cure(kind, form.word or '', where))
 
 
 def refuse_number(form: Form) -> None:

@@ -4,6 +4,7 @@ import re
 from typing import Dict, List, Optional, Tuple
 
 from pkslib.limits import NAME_BYTES
+from whylib.names import near
 
 from .text import Form
 
@@ -50,6 +51,11 @@ class Names:
     def find(self, kind: str, word: Optional[str]) -> Optional[str]:
         """What a name of PDDL is called here, or None."""
         return self.known.get(kind, {}).get(word)
+
+    def cure(self, kind: str, word: str, where: str) -> str:
+        """What to do with a name of PDDL that isn't declared: the one that looks like it, else to declare it."""
+        meant = near(word, (name for name in self.known.get(kind, {}) if not name.startswith(';')))
+        return f'Is `{meant}` meant? Else add it to {where}.' if meant else f'Add it to {where}.'
 
     def table(self) -> List[str]:
         """A line for each name that was changed."""
