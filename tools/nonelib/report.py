@@ -22,11 +22,15 @@ def wrapped(text: str, first: str, others: str) -> List[str]:
 def report(found: Found, depth: int) -> List[str]:
     """All lines of a report."""
     lines = [begun(found, depth)]
-    entries = told(found, depth)
+    entries, others = told(found, depth), also_seen(found)
     for number, entry in enumerate(entries, 1):
         lines += ['', *entry_lines(number, entry)]
     if not entries:
-        lines += ['', 'No single change that was asked makes a plan.']
+        lines += ['', nothing(depth)]
+    if others:
+        lines += ['', f'Also seen, though mending it alone makes no plan to depth {depth}:']
+    for number, entry in enumerate(others, len(entries) + 1):
+        lines += ['', *entry_lines(number, entry)]
     if found.open:
         lines += ['', *wrapped(f'Of {found.open} more changes it isn\'t known whether there is a plan with one, the search '
                                'didn\'t end in its time: a greater --seconds may find more.', '', '')]
@@ -34,6 +38,12 @@ def report(found: Found, depth: int) -> List[str]:
     for part in (goals.said(found.goals, depth, hopeless) if found.goals else [], found.lines):
         lines += ['', *(line for text in part for line in indented(text))]
     return lines
+
+
+def nothing(depth: int) -> str:
+    """What is said where no change makes a plan."""
+    more = '' if depth == limits.DEPTH else ': what wants more steps is found with a greater DEPTH'
+    return f'No single change that was asked makes a plan to depth {depth}{more}.'
 
 
 def indented(text: str) -> List[str]:
@@ -85,6 +95,14 @@ def told(found: Found, depth: int) -> List[List[str]]:
     return entries
 
 
+def also_seen(found: Found) -> List[List[str]]:
+    """The causes that are so in any case, but with whose change alone there is no plan."""
+    cured = {change.why for change in found.cures()}
+    causes = [change.why for change, outcome in sorted(found.outcomes.items(), key=lambda pair: pair[0].rank)
+              if change.always and outcome.is_none and change.why not in cured]
+    return [[why] for why in dict.fromkeys(causes)]
+
+
 def place(change: Change, outcome: Outcome) -> Tuple[int, int, int]:
     """By which changes are sorted: rank, then those with a plan, then the depth.
 
@@ -105,7 +123,7 @@ def said_of(change: Change, outcome: Outcome, depth: int, is_said: bool) -> List
         return [f'The depth is too small by {at - depth}: with {at} in place of {depth} there is a plan.'] if at else []
     if outcome.depth is not None:
         return [f'{why}With this there is a plan of depth {outcome.depth}: {change.what}', *change.lines]
-    if change.always and why and (outcome.ended or not change.what):
+    if change.always and why and not change.what:
         return [why]
     if outcome.ended or not why or not (change.always or change.rank in (Rank.TOLD, Rank.GUARD)):
         return []
