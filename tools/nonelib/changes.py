@@ -126,6 +126,38 @@ def told(file: File, missing: Dict[str, List_]) -> Iterator[Change]:
                      'Several actions may tell more than their `knows` says; `derive` lists it.')
 
 
+MOST_MEMBERS = 8
+
+
+def told_members(file: File) -> Iterator[Change]:
+    """One fact more told of those that a `sense-all` finds, and all of them; `derive` lists none."""
+    for action in file.actions:
+        for sense in action.senses:
+            adds = tuple(untold_members(file, action, sense[1])) if sense[0] == 'sense-all' else ()
+            for more in [(add,) for add in adds] + [adds] * (len(adds) > 1):
+                yield Change(Rank.TOLD if len(more) == 1 else Rank.TOLD_TOGETHER, with_adds(file, action.name, more),
+                             f'in `knows` of `{action.name}` add', texts(more),
+                             f'`{action.name}` has {written(sense)}: the agent knows of what it finds only as far as '
+                             '`knows` tells it, fact by fact.')
+
+
+def untold_members(file: File, action: Action, pattern: Expression) -> Iterator[Expression]:
+    """The adds that tell whether a fact of a pattern is so and that an action lacks, those of asked objects first."""
+    asked = set(words_of((*file.goal, *(query for each in file.actions for query in each.pre))))
+    choices = [sorted(file.of_type(kind), key=lambda name: name not in asked) if term == '_' else [term]
+               for term, kind in zip(pattern[1:], file.arguments[str(pattern[0])])]
+    adds = (('kw', (pattern[0], *terms)) for terms in itertools.product(*choices))
+    yield from itertools.islice((add for add in adds if not is_told(file, action, add)), MOST_MEMBERS)
+
+
+def is_told(file: File, action: Action, add: List_) -> bool:
+    """Whether an action has an add, perhaps with a parameter where that one has an object."""
+    types = action.parameters
+    return any(len(own) == 2 and own[0] == add[0] and own[1][0] == add[1][0] and all(
+        one == other or one in types and file.fits(file.type_of(other), types[str(one)])
+        for one, other in zip(own[1][1:], add[1][1:])) for own in map(item_of, action.knows))
+
+
 def untold(file: File, name: str, add: Expression) -> str:
     """What an add that is missing would tell."""
     item, action = item_of(add), file.action(name)
@@ -280,7 +312,7 @@ def replaced(expression: Expression, words: Dict[str, Expression]) -> Expression
 def found_out(file: File) -> Iterator[Change]:
     """Of each fact and value that is asked for, that no action changes and that none finds out: an action that does."""
     for head in dict.fromkeys(asked_heads(file)):
-        if head not in found_heads(file) | changed_heads(file) and not is_settled(file, head):
+        if head not in found_heads(file) | sensed_heads(file) | changed_heads(file) and not is_settled(file, head):
             look, what = finder(file, head), 'its value' if head in file.results else 'whether it is so'
             yield Change(Rank.FIND_OUT, replace(file, actions=(*file.actions, look)),
                          'add an action that finds it out, such as', (written(look.expression()),),
@@ -291,6 +323,11 @@ def found_heads(file: File) -> Set[str]:
     """The predicates and functions of which some action finds out whether, or the value."""
     return {word for action in file.actions for add in action.knows if item_of(add)[0] in ('kw', 'kv')
             for word in words_of(item_of(add))}
+
+
+def sensed_heads(file: File) -> Set[str]:
+    """The predicates and functions that actions sense, told or not."""
+    return {word for action in file.actions for sense in action.senses for word in words_of(sense)}
 
 
 def asked_heads(file: File) -> Iterator[str]:

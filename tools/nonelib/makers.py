@@ -9,6 +9,9 @@ from pkslib import Expression, written
 from .changes import item_of, target
 from .questions import Asking, Outcome
 
+Given = Tuple[Tuple[str, Expression], ...]
+"""Terms for parameters."""
+
 LEVELS = 3
 """How many levels back are looked at."""
 
@@ -23,24 +26,24 @@ class Maker:
     """An action that may make a query answered, with the terms that its parameters must be, and how it does."""
 
     action: Action
-    given: Tuple[Tuple[str, Expression], ...]
+    given: Given
     how: str
     queries: List_ = ()
     """The queries under which it tells it."""
 
 
 def makers(file: File, query: Expression) -> Iterator[Maker]:
-    """All that may make a query answered: adds, senses, effects that aren't told."""
+    """All that may make a query answered: adds, and effects and senses that aren't told; what tells least comes last."""
     wanted = query[1]
     for action in file.actions:
-        items = [(item_of(add), 'tells it', tuple(add[1]) if add[0] == 'if' else ()) for add in action.knows]
-        items += [(item, 'makes it so, and its `knows` doesn\'t tell', ()) for item in untold(action)]
-        seen: Set[Tuple[Tuple[str, Expression], ...]] = set()
-        for item, how, queries in items:
-            found = matched(file, action, item, str(query[0]), wanted)
+        items = [(item_of(add), '', tuple(add[1]) if add[0] == 'if' else ()) for add in action.knows]
+        items += [(item, how, ()) for item, how in untold(action)]
+        seen: Set[Given] = set()
+        for item, how, queries in sorted(items, key=lambda entry: is_joint(entry[0])):
+            found = matched(file, action, item, query)
             if found is not None and found[0] not in seen:
                 seen.add(found[0])
-                yield Maker(action, found[0], found[1] or how, tuple(queries))
+                yield Maker(action, found[0], how or found[1] or 'tells it', tuple(queries))
         for condition in conditions(action):
             given = unified(file, action, atom_of(condition), atom_of(wanted)) if query[0] in ('k', 'kw') else None
             if given is not None and given not in seen:
@@ -55,20 +58,35 @@ def conditions(action: Action) -> Iterator[Expression]:
             yield from effect[1]
 
 
-def untold(action: Action) -> Iterator[List_]:
-    """The effects of an action as items that `knows` would have to tell."""
+SENSED = {'sense': 'kw', 'sense-value': 'kv', 'sense-all': 'kw'}
+"""By what each sense is told."""
+
+
+def untold(action: Action) -> Iterator[Tuple[List_, str]]:
+    """The effects and the senses of an action as items that `knows` would have to tell, each with a word on it."""
     told = [item_of(add) for add in action.knows]
     for effect in action.effects:
         done = target(effect)
         item: Optional[List_] = {'set': ('kf', done[1]), 'unset': ('kf', ('not', done[1])),
                                       'assign': ('kf', ('=', *done[1:]))}.get(str(done[0]))
         if item is not None and item not in told:
-            yield item
+            yield item, 'makes it so, and its `knows` doesn\'t tell'
+    for sense in action.senses:
+        item = (SENSED[str(sense[0])], *sense[1:])
+        if item not in told:
+            yield item, 'senses it, and its `knows` doesn\'t tell'
 
 
-def matched(file: File, action: Action, item: Expression, head: str,
-            wanted: Expression) -> Optional[Tuple[Tuple[Tuple[str, Expression], ...], str]]:
-    """How an item meets what is wanted: the terms of the parameters, and a word on how; None where it doesn't."""
+def is_joint(item: Expression) -> bool:
+    """Whether an item tells of several literals together."""
+    return item[0] == 'kw' and len(item) > 2
+
+
+def matched(file: File, action: Action, item: Expression, query: Expression) -> Optional[Tuple[Given, str]]:
+    """How an item meets a query: the terms of the parameters, and a word on how; None where it doesn't."""
+    head, wanted = str(query[0]), query[1]
+    if is_joint(item) and head in ('k', 'kw'):
+        return matched_jointly(file, action, item, query)
     if item[0] == 'kf' and head in ('k', 'kw'):
         sides = [item[1]] if head == 'k' else [item[1], negated(item[1])]
         return next(((found, '') for found in (unified(file, action, side, wanted) for side in sides)
@@ -86,14 +104,23 @@ def matched(file: File, action: Action, item: Expression, head: str,
     return None
 
 
-Given = Tuple[Tuple[str, Expression], ...]
-"""Terms for parameters."""
+def matched_jointly(file: File, action: Action, item: Expression, query: Expression) -> Optional[Tuple[Given, str]]:
+    """The same of an item that tells of several literals together: of all that are asked, or of one of them."""
+    whole = unified(file, action, item, query)
+    if whole is not None:
+        return whole, 'finds out'
+    for literal in item[1:]:
+        found = unified(file, action, atom_of(literal), atom_of(query[1]))
+        if found is not None:
+            parts = ' '.join(written(put_in(part, dict(found))) for part in item[1:])
+            return found, f'finds out only whether all of these are true together: {parts}'
+    return None
 
 
 def unified(file: File, action: Action, own: Expression, wanted: Expression) -> Optional[Given]:
     """The terms of an action's parameters with which its expression is the one that is wanted; None where none are.
 
-    A word with a `?` in what is wanted may be anything.
+    A word with a `?` in what is wanted may be anything, and so may what stands where the action has a `_`.
     """
     given: Dict[str, Expression] = {}
     if not met(file, action, own, wanted, given):
@@ -108,7 +135,7 @@ def met(file: File, action: Action, own: Expression, wanted: Expression, given: 
         if kind is not None and not file.fits(kind, action.parameters[own]):
             return False
         return given.setdefault(own, wanted) == wanted
-    if isinstance(wanted, str) and wanted.startswith('?'):
+    if own == '_' or isinstance(wanted, str) and wanted.startswith('?'):
         return True
     if isinstance(own, str) or isinstance(wanted, str):
         return own == wanted

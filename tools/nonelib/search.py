@@ -28,6 +28,9 @@ def seconds_for(rank: Rank, number: int, whole: float) -> float:
 LONGER = 8
 """So many times as long as for its own depth a file is asked for a greater one."""
 
+ASKED_DEEPER = (Rank.TOLD_TOGETHER, Rank.OTHER_WAY, Rank.FIND_OUT)
+"""What a file lacks, and with what a plan may take more steps than were asked for."""
+
 MOST_FOUND = 8
 """So many changes with a plan are enough."""
 
@@ -64,6 +67,7 @@ class Search:
         missing = changes.missing_adds(self.file)
         yield from traps.traps(self.file)
         yield from changes.told(self.file, missing)
+        yield from changes.told_members(self.file)
         yield from changes.told_apart(self.file)
         yield from changes.sensed_apart(self.file)
         yield from changes.guards(self.file)
@@ -115,12 +119,12 @@ class Search:
             found.outcomes[self.greater_depth()] = self.asking.ask(self.file, limits.DEPTH, seconds)
 
     def ask_cures_deeper(self, found: Found) -> None:
-        """Asks deeper what the text of the actions lacks, where that alone made no plan and nothing likelier did."""
+        """Asks deeper what the file lacks, where that alone made no plan and nothing likelier did."""
         if any(change.rank < Rank.START for change in found.cures()):
             return
         seconds = seconds_for(Rank.DEPTH, 0, self.asking.seconds)
         for change, outcome in list(found.outcomes.items()):
-            if change.rank in (Rank.TOLD_TOGETHER, Rank.FIND_OUT) and outcome.is_none and self.asking.left() > seconds:
+            if change.rank in ASKED_DEEPER and outcome.is_none and self.asking.left() > seconds:
                 again = self.asking.ask(change.file, limits.DEPTH, seconds)
                 if again.depth is not None:
                     found.outcomes[change] = again
