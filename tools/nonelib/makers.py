@@ -33,7 +33,7 @@ class Maker:
 
 
 def makers(file: File, query: Expression) -> Iterator[Maker]:
-    """All that may make a query answered: adds, and effects and senses that aren't told; what tells least comes last."""
+    """All that may make a query answered: adds, and what isn't told of effects and senses; what tells least is last."""
     wanted = query[1]
     for action in file.actions:
         items = [(item_of(add), '', tuple(add[1]) if add[0] == 'if' else ()) for add in action.knows]

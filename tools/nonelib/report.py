@@ -3,10 +3,11 @@
 import textwrap
 from typing import List, Sequence, Tuple
 
-from pkslib import limits
+from pkslib import limits, written
 
 from . import goals
 from .changes import Change, Rank
+from .parts import Helped
 from .questions import Outcome
 from .search import Found
 
@@ -83,12 +84,14 @@ def told(found: Found, depth: int) -> List[List[str]]:
     entries: List[List[str]] = []
     said: List[str] = []
     cured = {change.rank for change in found.cures()}
-    for change, outcome in sorted(found.outcomes.items(), key=lambda pair: place(*pair)):
+    parts = {} if found.cures() else found.parts
+    for change, outcome in sorted(found.outcomes.items(), key=lambda pair: (pair[0] not in parts, place(*pair))):
         if SINGLE.get(change.rank) in cured:
             continue
         if said.count(change.why) == MOST_ALIKE or len(entries) == MOST_SHOWN:
             continue
-        entry = said_of(change, outcome, depth, change.why in said)
+        entry = said_of_part(change, parts[change], change.why in said) if change in parts else \
+            said_of(change, outcome, depth, change.why in said)
         if entry:
             said.append(change.why)
             entries.append(entry)
@@ -129,6 +132,13 @@ def said_of(change: Change, outcome: Outcome, depth: int, is_said: bool) -> List
         return []
     return [f'{why}Whether there is a plan with this isn\'t known, the search didn\'t end: {change.what}',
             *change.lines]
+
+
+def said_of_part(change: Change, helped: Helped, is_said: bool) -> List[str]:
+    """What is said of a change that makes a plan for one goal alone."""
+    why, aim = '' if is_said else change.why + ' ', written(helped.part.aim)
+    return [f'{why}For {aim} alone there is a plan of depth {helped.depth} with this, and none to depth '
+            f'{helped.part.none_to} without it; for all goals the search didn\'t end: {change.what}', *change.lines]
 
 
 def entry_lines(number: int, entry: Sequence[str]) -> List[str]:

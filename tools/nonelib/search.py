@@ -2,7 +2,7 @@
 
 from concurrent.futures import Future, TimeoutError
 from dataclasses import dataclass, field, replace
-from typing import Dict, Iterator, List, Optional, Sequence, Tuple
+from typing import Dict, Iterator, List, Optional, Sequence, Set, Tuple
 
 from asklib.files import File
 from pkslib import limits, written
@@ -10,6 +10,7 @@ from pkslib import limits, written
 from . import cases, changes, makers, traps
 from .changes import Change, Rank
 from .goals import Goals, alone, look_at
+from .parts import Helped, Part, helped, parts
 from .questions import SIDE_BY_SIDE, Asking, Outcome
 
 WHOLE = 60.0
@@ -43,6 +44,8 @@ class Found:
     outcomes: Dict[Change, Outcome] = field(default_factory=dict)
     """What came of each change that was asked; of one that couldn't be asked, that it isn't ended."""
     goals: Optional[Goals] = None
+    parts: Dict[Change, Helped] = field(default_factory=dict)
+    """The changes for which the search for all goals didn't end, and that make a plan for one of them."""
     lines: List[str] = field(default_factory=list)
     """What would make the goals known."""
     open: int = 0
@@ -61,6 +64,9 @@ class Search:
         self.base = asking.begin(file, depth, asking.seconds * 0.6)
         self.deeper = 0
         """The round in which the file is next asked deeper."""
+        self.parts: List[Part] = []
+        """The goals with which a change is asked alone where the search for all of them doesn't end."""
+        self.asked_alone: Set[Change] = set()
 
     def candidates(self) -> Iterator[Change]:
         """All changes, the likeliest first."""
@@ -92,7 +98,9 @@ class Search:
             return None
         found = Found(base)
         if len(self.file.goal) > 1:
-            alone(self.file, self.depth, self.asking, seconds_for(Rank.START, 0, self.asking.seconds))
+            seconds = seconds_for(Rank.START, 0, self.asking.seconds)
+            alone(self.file, self.depth, self.asking, seconds)
+            self.parts = [] if self.base.done() else parts(self.file, self.depth, self.asking, seconds / 2)
         self.ask_changes(found)
         self.ask_cases(found)
         try:
@@ -187,8 +195,14 @@ class Search:
         return self.asking.begin(change.file, depth, seconds_for(change.rank, number, self.asking.seconds))
 
     def collect(self, found: Found, change: Change, task: 'Future[Outcome]') -> None:
-        """Takes what came of a question."""
+        """Takes what came of a question; where it isn't ended, the change is asked once with one goal alone."""
         found.outcomes[change] = task.result()
+        if self.parts and not found.outcomes[change].ended and change not in self.asked_alone \
+                and change.rank != Rank.DEPTH and change.file.goal == self.file.goal:
+            self.asked_alone.add(change)
+            part = helped(change, self.parts, self.asking, seconds_for(Rank.START, 0, self.asking.seconds))
+            if part is not None:
+                found.parts[change] = part
 
     def is_over(self, found: Found) -> bool:
         """Whether no more changes are asked."""

@@ -111,12 +111,9 @@ class Action:
 def refuse_second(keyword: Form, first: Form, second: Form) -> NoReturn:
     """Refuses a second list behind a keyword, which one list that has both mends."""
     both = f'{first.text()} {second.text()}'
-    if keyword.word == ':parameters':
-        cure = 'Write the variables of both in one list.'
-    else:
-        cure = f'Write `(and {both})`.'
+    cure = 'Write the variables of both in one list.' if keyword.word == ':parameters' else f'Write `(and {both})`.'
     if keyword.word in OBSERVATIONS:
-        cure = f'Write `(and {both})`, which observes whether both are true, or `({both})`, which observes each by itself.'
+        cure = f'Write `(and {both})`, which observes whether both are true, or `({both})`, which observes each.'
     raise Refusal(second, f'`{keyword.text()}` has one list behind it, and this is a second one', cure)
 
 

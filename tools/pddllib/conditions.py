@@ -180,7 +180,8 @@ def equation(form: Form, scope: Scope) -> Union[bool, Literal]:
 
 def refuse_undeclared(form: Form, kind: str, where: str, declared: Declared) -> NoReturn:
     """Refuses a name that isn't declared."""
-    raise Refusal(form, f'the {kind} `{form.text()}` isn\'t declared', declared.names.cure(kind, form.word or '', where))
+    raise Refusal(form, f'the {kind} `{form.text()}` isn\'t declared',
+                  declared.names.cure(kind, form.word or '', where))
 
 
 def refuse_number(form: Form) -> None:

@@ -98,7 +98,8 @@ class Declared:
             return OBJECT
         found = self.names.find('type', form.word)
         if found is None:
-            raise Refusal(form, f'the type `{form.raw}` isn\'t declared', self.names.cure('type', form.word, '`:types`'))
+            raise Refusal(form, f'the type `{form.raw}` isn\'t declared',
+                          self.names.cure('type', form.word or '', '`:types`'))
         return found
 
     def argument_type(self, form: Optional[Form]) -> str:
