@@ -151,11 +151,12 @@ def untold_members(file: File, action: Action, pattern: Expression) -> Iterator[
 
 
 def is_told(file: File, action: Action, add: List_) -> bool:
-    """Whether an action has an add, perhaps with a parameter where that one has an object."""
+    """Whether an action has such a `kw`, perhaps with a parameter where this one has an object."""
     types = action.parameters
-    return any(len(own) == 2 and own[0] == add[0] and own[1][0] == add[1][0] and all(
+    atoms = [atom_of(item[1]) for item in map(item_of, action.knows) if item[0] == 'kw' and len(item) == 2]
+    return any(atom[0] == add[1][0] and all(
         one == other or one in types and file.fits(file.type_of(other), types[str(one)])
-        for one, other in zip(own[1][1:], add[1][1:])) for own in map(item_of, action.knows))
+        for one, other in zip(atom[1:], add[1][1:])) for atom in atoms)
 
 
 def untold(file: File, name: str, add: Expression) -> str:

@@ -126,7 +126,7 @@ def said_of(change: Change, outcome: Outcome, depth: int, is_said: bool) -> List
         return [f'The depth is too small by {at - depth}: with {at} in place of {depth} there is a plan.'] if at else []
     if outcome.depth is not None:
         return [f'{why}With this there is a plan of depth {outcome.depth}: {change.what}', *change.lines]
-    if change.always and why and not change.what:
+    if change.always and why and (outcome.refused or not change.what):
         return [why]
     if outcome.ended or not why or not (change.always or change.rank in (Rank.TOLD, Rank.GUARD)):
         return []
