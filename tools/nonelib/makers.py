@@ -41,7 +41,7 @@ def makers(file: File, query: Expression) -> Iterator[Maker]:
         seen: Set[Given] = set()
         for item, how, queries in sorted(items, key=lambda entry: is_joint(entry[0])):
             found = matched(file, action, item, query)
-            if found is not None and found[0] not in seen:
+            if found is not None and not is_seen(found[0], seen, bool(how)):
                 seen.add(found[0])
                 yield Maker(action, found[0], how or found[1] or 'tells it', tuple(queries))
         for condition in conditions(action):
@@ -49,6 +49,11 @@ def makers(file: File, query: Expression) -> Iterator[Maker]:
             if given is not None and given not in seen:
                 seen.add(given)
                 yield Maker(action, given, 'has an effect that hangs on it: what comes of that may tell, on a branch')
+
+
+def is_seen(given: Given, seen: Set[Given], may_be_wider: bool) -> bool:
+    """Whether these terms were met before, perhaps with more of them beside."""
+    return given in seen or may_be_wider and any(set(given) <= set(own) for own in seen)
 
 
 def conditions(action: Action) -> Iterator[Expression]:
