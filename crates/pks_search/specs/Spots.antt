@@ -1,13 +1,10 @@
 -- Where a search is, and what it takes along.
-use Rattle.std.specs.Prelude.{ℕ, IfSome}
+use Rattle.std.specs.Prelude.{ℕ}
 use Rattle.pks_terms.specs.Sets.{Each}
 use Rattle.pks_terms.specs.Problems.{Problem}
 use Rattle.pks_terms.specs.Views.{problem_of}
-use Rattle.pks_search_nogoods.specs.Failing.{AreRight}
-use Rattle.pks_search_nogoods.specs.Noted.{AreFound}
 use Rattle.pks_search.specs.Ready.{IsReady}
-use Rattle.pks_search.specs.Shelves.{IsShelved}
-use Rattle.pks_search_distance.specs.Remembered.{AreItsDeeds}
+use Rattle.pks_search.specs.Shelves.{IsLearned, IsShelved}
 use Rattle.pks_search.specs.Near.{IsNear}
 use Rattle.pks_search.specs.Twins.{AreTwins}
 use Rattle.pks_search.specs.declared.spots.Spot.{Spot}
@@ -21,7 +18,5 @@ pub record MayGoOn (x : Spot) (n : ℕ) : Type 0 where
 
 -- what is taken along is so
 pub record AreSo (p : Problem) (x : Notes) : Type 0 where
-  pub deeds : IfSome x.deeds (AreItsDeeds p)
-  pub failures : AreRight p x.failures
-  pub finds : AreFound p x.finds
+  pub own : IsLearned p x.own
   pub shelf : Each (IsShelved p) x.shelf.items

@@ -4,6 +4,7 @@
 mod copying;
 mod fewer;
 pub mod laws;
+mod learned;
 mod nearing;
 mod parts;
 mod rising;

@@ -7,11 +7,11 @@ ghost use Rattle.pks_terms.specs.ValidProblems.{IsValidProblem};
 ghost use Rattle.pks_terms.specs.Views.{instance_of, problem_of};
 ghost use Rattle.pks_terms.specs.ChoiceViews.{choice_of, side_of};
 ghost use Rattle.pks_world.specs.Contents.{world_of};
-ghost use Rattle.pks_search_distance.specs.Remembered.{AreItsDeeds};
+ghost use Rattle.pks_search_distance.specs.Remembered.{AreItsGroundActions};
 ghost use Rattle.pks_search.specs.Near.{IsFirst, ComeFrom, Becomes, IsKept, is_far, is_tight, is_so};
 ghost use Rattle.pks_search_witness.specs.Near.{world_in, IsCounted};
 
-use pks_search_distance::Deeds;
+use pks_search_distance::GroundActions;
 use pks_search_witness::{Witness, witnesses_of};
 use pks_terms::choices::{Choice, Side};
 use pks_terms::problem::Problem;
@@ -26,18 +26,18 @@ const MOST: u32 = 17;
 #[derive(Drop)]
 pub(crate) struct Start {
     pub(crate) near: Vec<Witness>,
-    pub(crate) deeds: Option<Deeds>,
+    pub(crate) ground_actions: Option<GroundActions>,
 }
 
 impl Start {
     /// Without a witness.
     fn nowhere(alloc: Global) -> Start
         ensures near { result.near.items ≡ [] }
-        ensures deeds { result.deeds ≡ None }
+        ensures ground_actions { result.ground_actions ≡ None }
     {
         Start {
             near: Vec::new(alloc),
-            deeds: None,
+            ground_actions: None,
         }
     }
 
@@ -45,19 +45,19 @@ impl Start {
     pub(crate) fn of(alloc: Global, p: &Problem<'_>) -> Result<Start, AllocError>
         requires { IsValidProblem p.now }
         ensures near { IfOk result (λ x. Each (IsFirst (problem_of p.now)) x.near.items) }
-        ensures deeds { IfOk result (λ x. IfSome x.deeds (AreItsDeeds (problem_of p.now))) }
+        ensures ground_actions { IfOk result (λ x. IfSome x.ground_actions (AreItsGroundActions (problem_of p.now))) }
     {
         let worlds = witnesses_of(alloc, p)?;
         if worlds.is_empty() {
             return Ok(Start::nowhere(alloc));
         }
-        let Some(mut deeds) = Deeds::of(alloc, p)? else {
+        let Some(mut ground_actions) = GroundActions::of(alloc, p)? else {
             return Ok(Start::nowhere(alloc));
         };
-        let near = with_bounds(alloc, p, &mut deeds, worlds)?;
+        let near = with_bounds(alloc, p, &mut ground_actions, worlds)?;
         Ok(Start {
             near,
-            deeds: Some(deeds),
+            ground_actions: Some(ground_actions),
         })
     }
 }
@@ -66,17 +66,17 @@ impl Start {
 fn with_bounds(
     alloc: Global,
     p: &Problem<'_>,
-    deeds: &mut Deeds,
+    ground_actions: &mut GroundActions,
     worlds: Vec<World>,
 ) -> Result<Vec<Witness>, AllocError>
     requires compatible { Each (λ w. IsCompatible (problem_of p.now) (world_of w)) worlds.items }
-    requires deeds { AreItsDeeds (problem_of p.now) deeds.old }
+    requires ground_actions { AreItsGroundActions (problem_of p.now) ground_actions.old }
     ensures first { IfOk result (λ xs. Each (IsFirst (problem_of p.now)) xs.items) }
-    ensures deeds { AreItsDeeds (problem_of p.now) deeds.new }
+    ensures ground_actions { AreItsGroundActions (problem_of p.now) ground_actions.new }
 {
     let mut near = Vec::new(alloc);
     for world in worlds {
-        near.push(Witness::of(alloc, p, deeds, world, MOST)?)?;
+        near.push(Witness::of(alloc, p, ground_actions, world, MOST)?)?;
     }
     Ok(near)
 }
@@ -87,22 +87,22 @@ fn after(
     alloc: Global,
     p: &Problem<'_>,
     x: &Witness,
-    deeds: &mut Deeds,
+    ground_actions: &mut GroundActions,
     step: &Instance,
     room: u32,
 ) -> Result<Witness, AllocError>
     requires valid { IsValidProblem p.now }
     requires counted { IsCounted (problem_of p.now) x.now }
-    requires deeds { AreItsDeeds (problem_of p.now) deeds.old }
+    requires ground_actions { AreItsGroundActions (problem_of p.now) ground_actions.old }
     ensures world { IfOk result (λ y. world_in y ≡ after_action (problem_of p.now) (world_in x.now) (grounded (world_in x.now) (instance_of step.now))) }
     ensures counted { IfOk result (IsCounted (problem_of p.now)) }
-    ensures deeds { AreItsDeeds (problem_of p.now) deeds.new }
+    ensures ground_actions { AreItsGroundActions (problem_of p.now) ground_actions.new }
 {
     if x.stays(p, step) {
         let same = x.share()?;
         return Ok(same);
     }
-    let next = x.after(alloc, p, deeds, step, room.saturating_add(1))?;
+    let next = x.after(alloc, p, ground_actions, step, room.saturating_add(1))?;
     Ok(next)
 }
 
@@ -111,19 +111,19 @@ fn all_after(
     alloc: Global,
     p: &Problem<'_>,
     near: &[Witness],
-    deeds: &mut Deeds,
+    ground_actions: &mut GroundActions,
     step: &Instance,
     room: u32,
 ) -> Result<Vec<Witness>, AllocError>
     requires valid { IsValidProblem p.now }
     requires counted { Each (IsCounted (problem_of p.now)) near.now }
-    requires deeds { AreItsDeeds (problem_of p.now) deeds.old }
+    requires ground_actions { AreItsGroundActions (problem_of p.now) ground_actions.old }
     ensures becomes { IfOk result (λ ys. ComeFrom (Becomes (problem_of p.now) (instance_of step.now)) near.now ys.items) }
-    ensures deeds { AreItsDeeds (problem_of p.now) deeds.new }
+    ensures ground_actions { AreItsGroundActions (problem_of p.now) ground_actions.new }
 {
     let mut next = Vec::new(alloc);
     for x in near {
-        let y = after(alloc, p, x, deeds, step, room)?;
+        let y = after(alloc, p, x, ground_actions, step, room)?;
         let is_far = y.is_beyond(room);
         next.push(y)?;
         if is_far {
@@ -138,17 +138,17 @@ pub(crate) fn near_after(
     alloc: Global,
     p: &Problem<'_>,
     near: &[Witness],
-    deeds: &mut Option<Deeds>,
+    ground_actions: &mut Option<GroundActions>,
     step: &Instance,
     room: u32,
 ) -> Result<Vec<Witness>, AllocError>
     requires valid { IsValidProblem p.now }
     requires counted { Each (IsCounted (problem_of p.now)) near.now }
-    requires deeds { IfSome deeds.old (AreItsDeeds (problem_of p.now)) }
+    requires ground_actions { IfSome ground_actions.old (AreItsGroundActions (problem_of p.now)) }
     ensures becomes { IfOk result (λ ys. ComeFrom (Becomes (problem_of p.now) (instance_of step.now)) near.now ys.items) }
-    ensures deeds { IfSome deeds.new (AreItsDeeds (problem_of p.now)) }
+    ensures ground_actions { IfSome ground_actions.new (AreItsGroundActions (problem_of p.now)) }
 {
-    let Some(all) = deeds else {
+    let Some(all) = ground_actions else {
         return Ok(Vec::new(alloc));
     };
     let next = all_after(alloc, p, near, all, step, room)?;

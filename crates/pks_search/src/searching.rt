@@ -14,6 +14,7 @@ ghost use Rattle.pks_plan.specs.TreeViews.{tree_of};
 ghost use Rattle.pks_terms.specs.Remembering.{RemembersPast};
 
 use crate::fewer::{some_is_met, unmet_aims, with_goal};
+use crate::learned::Learned;
 use crate::nearing::Start;
 use crate::rising::best_rising;
 use crate::spots::{Notes, Spot};
@@ -21,8 +22,6 @@ use pks_history::histories::History;
 use pks_plan::Tree;
 use pks_query::databases::Db;
 use pks_query_closing::closing::CloseEnd;
-use pks_search_nogoods::failures::Failures;
-use pks_search_nogoods::finds::Finds;
 use pks_search_witness::twins_of;
 use pks_terms::problem::Problem;
 use std::alloc::{AllocError, Global};
@@ -105,17 +104,14 @@ fn best_of_all(
     ensures { IfOk result (λ o. IsBest (problem_of p.now) depth (option_map tree_of o)) }
 {
     let first = Start::of(alloc, p)?;
-    let Start { near, deeds } = first;
+    let Start {
+        near,
+        ground_actions,
+    } = first;
+    let own = Learned::with(alloc, p, ground_actions)?;
     let twins = twins_of(alloc, p)?;
-    let failures = Failures::new(alloc, p)?;
-    let finds = Finds::new(alloc)?;
     let shelf = Vec::new(alloc);
-    let mut notes = Notes {
-        deeds,
-        failures,
-        finds,
-        shelf,
-    };
+    let mut notes = Notes { own, shelf };
     let spot = Spot {
         alloc,
         problem: p,

@@ -5,25 +5,22 @@ ghost use Rattle.pks_terms.specs.Sets.{Each};
 ghost use Rattle.pks_terms.specs.ValidProblems.{IsValidProblem};
 ghost use Rattle.pks_terms.specs.Views.{aim_of, problem_of};
 ghost use Rattle.pks_search.specs.Fewer.{with_goal};
-ghost use Rattle.pks_search.specs.Shelves.{IsShelved};
+ghost use Rattle.pks_search.specs.Shelves.{HasAims, IsShelved};
 ghost use Rattle.pks_search.specs.Spots.{AreSo};
 ghost use Rattle.pks_laws_forget.specs.Fewer.{with_aims};
 
 use crate::fewer::{same_aims, with_goal};
+use crate::learned::Learned;
 use crate::spots::Notes;
-use pks_search_distance::Deeds;
-use pks_search_nogoods::failures::Failures;
-use pks_search_nogoods::finds::Finds;
 use pks_terms::problem::{Aim, AimList, Problem};
 use std::alloc::{AllocError, Global};
+use std::mem::drop;
 
-/// A problem with fewer aims, and what a search in it takes along.
+/// A problem with fewer aims, and what a search in it has learned.
 #[derive(Drop)]
 pub(crate) struct Shelved<'s> {
     pub(crate) problem: Problem<'s>,
-    pub(crate) deeds: Option<Deeds>,
-    pub(crate) failures: Failures,
-    pub(crate) finds: Finds,
+    pub(crate) learned: Learned,
 }
 
 /// The one of some aims, if there is one, and the others.
@@ -40,42 +37,67 @@ pub(crate) struct Taken<'s> {
     pub(crate) others: Vec<Shelved<'s>>,
 }
 
-/// One for the problem, with empty tables.
+/// One for the problem, in which nothing has been learned.
 fn new_shelved<'s>(alloc: Global, problem: Problem<'s>) -> Result<Shelved<'s>, AllocError>
     requires { IsValidProblem problem }
     ensures own { IfOk result (λ y. y.problem ≡ problem.entry) }
     ensures shelved { IfOk result (IsShelved (problem_of problem.entry)) }
 {
-    let deeds = Deeds::of(alloc, &problem)?;
-    let failures = Failures::new(alloc, &problem)?;
-    let finds = Finds::new(alloc)?;
-    Ok(Shelved {
-        problem,
-        deeds,
-        failures,
-        finds,
-    })
-}
-
-/// Takes the last one of these aims out.
-fn part<'s>(alloc: Global, shelf: Vec<Shelved<'s>>, goal: &[Aim]) -> Result<Parted<'s>, AllocError>
-    ensures found { (p : SProblem) → Each (IsShelved p) shelf.entry.items → IfOk result (λ x. IfSome x.found (IsShelved p)) }
-    ensures others { (p : SProblem) → Each (IsShelved p) shelf.entry.items → IfOk result (λ x. Each (IsShelved p) x.others.items) }
-    ensures goal { IfOk result (λ x. IfSome x.found (λ y. map aim_of y.problem.goal ≡ map aim_of goal.now)) }
-{
-    let mut found = None;
-    let mut others = Vec::new(alloc);
-    for x in shelf {
-        if same_aims(x.problem.goal.as_slice(), goal) {
-            found = Some(x);
-        } else {
-            others.push(x)?;
+    match Learned::nothing(alloc, &problem) {
+        Ok(learned) => Ok(Shelved { problem, learned }),
+        Err(error) => {
+            drop(problem);
+            Err(error)
         }
     }
-    Ok(Parted { found, others })
 }
 
-/// Takes the one of these aims out of the shelf, or makes one.
+/// The place of the first one of these aims.
+fn place_of(shelf: &[Shelved<'_>], goal: &[Aim]) -> Option<usize>
+    ensures { IfSome result (HasAims (map aim_of goal.now) shelf.now) }
+{
+    for n in 0..shelf.len() {
+        if same_aims(shelf[n].problem.goal.as_slice(), goal) {
+            return Some(n);
+        }
+    }
+    None
+}
+
+/// Takes the first one of these aims out.
+fn part<'s>(shelf: Vec<Shelved<'s>>, goal: &[Aim]) -> Parted<'s>
+    ensures found { (p : SProblem) → Each (IsShelved p) shelf.entry.items → IfSome result.found (IsShelved p) }
+    ensures others { (p : SProblem) → Each (IsShelved p) shelf.entry.items → Each (IsShelved p) result.others.items }
+    ensures goal { IfSome result.found (λ y. map aim_of y.problem.goal ≡ map aim_of goal.now) }
+{
+    let mut others = shelf;
+    match place_of(others.as_slice(), goal) {
+        Some(n) => {
+            let own = others.remove(n);
+            Parted {
+                found: Some(own),
+                others,
+            }
+        }
+        None => Parted {
+            found: None,
+            others,
+        },
+    }
+}
+
+/// One for the problem with these aims.
+fn make<'s>(alloc: Global, p: &Problem<'s>, goal: AimList) -> Result<Shelved<'s>, AllocError>
+    requires valid { IsValidProblem (with_goal p.now goal) }
+    ensures own { IfOk result (λ y. problem_of y.problem ≡ problem_of (with_goal p.now goal)) }
+    ensures shelved { IfOk result (IsShelved (problem_of p.now)) }
+{
+    let problem = with_goal(alloc, p, goal)?;
+    let own = new_shelved(alloc, problem)?;
+    Ok(own)
+}
+
+/// Takes the one of these aims out of the shelf, or makes one. The error is want of memory.
 pub(crate) fn take<'s>(
     alloc: Global,
     p: &Problem<'s>,
@@ -88,18 +110,20 @@ pub(crate) fn take<'s>(
     ensures shelved { IfOk result (λ x. IsShelved (problem_of p.now) x.own) }
     ensures others { IfOk result (λ x. Each (IsShelved (problem_of p.now)) x.others.items) }
 {
-    let Parted { found, others } = part(alloc, shelf, goal.as_slice())?;
-    let own = match found {
-        Some(own) => own,
-        None => {
-            let problem = with_goal(alloc, p, goal)?;
-            new_shelved(alloc, problem)?
-        }
-    };
-    Ok(Taken { own, others })
+    let Parted { found, others } = part(shelf, goal.as_slice());
+    match found {
+        Some(own) => Ok(Taken { own, others }),
+        None => match make(alloc, p, goal) {
+            Ok(own) => Ok(Taken { own, others }),
+            Err(error) => {
+                drop(others);
+                Err(error)
+            }
+        },
+    }
 }
 
-/// The shelf that a search in the problem took along, with what it had of its own.
+/// The shelf that a search in the problem took along, with what it learned itself. The error is want of memory.
 pub(crate) fn shelf_with<'s>(
     problem: Problem<'s>,
     notes: Notes<'s>,
@@ -107,18 +131,11 @@ pub(crate) fn shelf_with<'s>(
     ensures { (p : SProblem) → IsValidProblem problem.entry → problem_of problem.entry ≡ with_aims p (problem_of problem.entry).goal → AreSo (problem_of problem.entry) notes.entry
         → IfOk result (λ shelf. Each (IsShelved p) shelf.items) }
 {
-    let Notes {
-        deeds,
-        failures,
-        finds,
-        shelf,
-    } = notes;
+    let Notes { own, shelf } = notes;
     let mut all = shelf;
     all.push(Shelved {
         problem,
-        deeds,
-        failures,
-        finds,
+        learned: own,
     })?;
     Ok(all)
 }

@@ -7,13 +7,12 @@ ghost use Rattle.pks_search_nogoods.specs.Failing.{AreRight};
 ghost use Rattle.pks_search.specs.Straight.{last_alone, HasTreesWithin, LastFails};
 ghost use Rattle.pks_search.specs.Spots.{MayGoOn};
 
+use crate::learned::Learned;
 use crate::nearing::is_tight;
 use crate::shelves::Shelved;
 use pks_history::histories::History;
 use pks_history_forget::{are_now, cut};
-use pks_search_distance::Deeds;
 use pks_search_nogoods::failures::{Failures, Question};
-use pks_search_nogoods::finds::Finds;
 use pks_search_symmetry::Keyed;
 use pks_search_witness::{Twins, Witness};
 use pks_terms::problem::Problem;
@@ -31,13 +30,10 @@ pub(crate) struct Spot<'a, 's> {
     pub(crate) twins: &'a [Twins],
 }
 
-/// What a search takes along: the ground actions by which bounds are counted, or none, the failures and the best trees that it
-/// met, and the same for problems with fewer aims.
+/// What a search takes along: what it has learned, and what was learned in problems with fewer aims.
 #[derive(Drop)]
 pub(crate) struct Notes<'s> {
-    pub(crate) deeds: Option<Deeds>,
-    pub(crate) failures: Failures,
-    pub(crate) finds: Finds,
+    pub(crate) own: Learned,
     pub(crate) shelf: Vec<Shelved<'s>>,
 }
 
@@ -48,7 +44,7 @@ impl Notes<'_> {
     /// Whether aims are left out on the way: what fails there serves no images among the failures of other aims, so it is done
     /// where no two objects are alike, and while few problems are kept.
     pub(crate) fn leave_aims_out(&self) -> bool {
-        self.failures.serve_no_images() && self.shelf.len() <= MOST_SHELVED
+        self.own.failures.serve_no_images() && self.shelf.len() <= MOST_SHELVED
     }
 }
 

@@ -120,16 +120,9 @@ fn best_of_fewer<'s>(
     let shelf = replace(&mut notes.shelf, Vec::new(spot.alloc));
     let taken = take(spot.alloc, spot.problem, goal, shelf)?;
     let Taken { own, others } = taken;
-    let Shelved {
-        problem,
-        deeds,
-        failures,
-        finds,
-    } = own;
+    let Shelved { problem, learned } = own;
     let mut fewer = Notes {
-        deeds,
-        failures,
-        finds,
+        own: learned,
         shelf: others,
     };
     let there = Spot {
@@ -188,7 +181,7 @@ fn best_of_rest<'s>(
     ensures best { IfOk result (λ o. IsBestWithin (problem_of spot.now.problem.now) (At spot.now.history.now) n limit (option_map tree_of o)) }
     ensures notes { AreSo (problem_of spot.now.problem.now) notes.new }
 {
-    let key = notes.failures.key_of(spot.alloc, spot.history)?;
+    let key = notes.own.failures.key_of(spot.alloc, spot.history)?;
     let asked = Question {
         at: Keyed {
             history: spot.history,
@@ -197,19 +190,19 @@ fn best_of_rest<'s>(
         n,
         limit,
     };
-    if notes.failures.tells(spot.alloc, spot.problem, &asked) {
+    if notes.own.failures.tells(spot.alloc, spot.problem, &asked) {
         return Ok(None);
     }
-    if let Some(told) = notes.finds.tells(spot.alloc, &asked) {
+    if let Some(told) = notes.own.finds.tells(spot.alloc, &asked) {
         return Ok(told);
     }
     match best_of_choices(spot, n - 1, limit, notes)? {
         Some(t) => {
-            notes.finds.note(spot.alloc, spot.problem, &asked, &t);
+            notes.own.finds.note(spot.alloc, spot.problem, &asked, &t);
             Ok(Some(t))
         }
         None => {
-            notes.failures.note(spot.history, key, n, limit);
+            notes.own.failures.note(spot.history, key, n, limit);
             Ok(None)
         }
     }
@@ -290,7 +283,7 @@ fn best_by_action<'s>(
         spot.alloc,
         spot.problem,
         front(spot.near, 1),
-        &mut notes.deeds,
+        &mut notes.own.ground_actions,
         step,
         room,
     )?;
@@ -302,7 +295,7 @@ fn best_by_action<'s>(
         return Ok(None);
     }
     let tight = is_tight(first.as_slice(), room);
-    let barren = last_fails(spot, tight, n + 1, limit, &mut notes.failures)?;
+    let barren = last_fails(spot, tight, n + 1, limit, &mut notes.own.failures)?;
     if barren {
         return Ok(None);
     }
@@ -339,7 +332,7 @@ fn best_after<'s>(
                 spot.alloc,
                 spot.problem,
                 others_of(spot.near),
-                &mut notes.deeds,
+                &mut notes.own.ground_actions,
                 step,
                 room,
             )?;

@@ -15,9 +15,9 @@ use Rattle.pks_terms.specs.Totality.{literal_cmp_total}
 use Rattle.pks_terms.specs.Worlds.{World, true_in}
 use Rattle.pks_terms.specs.Views.{literal_of, literals_in}
 use Rattle.pks_terms.specs.declared.literal.Literal as literal
-use Rattle.pks_search_distance.specs.Relaxed.{Deed}
-use Rattle.pks_search_distance.specs.Gained.{deed_of}
-use Rattle.pks_search_distance.specs.declared.deeds.Deed.{Deed as DDeed}
+use Rattle.pks_search_distance.specs.Relaxed.{GroundAction}
+use Rattle.pks_search_distance.specs.Gained.{ground_action_of}
+use Rattle.pks_search_distance.specs.declared.ground_actions.GroundAction.{GroundAction as DGroundAction}
 use Rattle.pks_search_distance.specs.Landmarks.{is_met, is_of_mark, may_reach, asks, AddsMarks, AddsBehind, AreAsking, IsWider}
 use Rattle.pks_search_distance.specs.Marked.{landmark_of, landmarks_of}
 use Rattle.pks_search_distance.specs.declared.landmarks.Landmark.{Landmark}
@@ -66,11 +66,11 @@ wider_met (l ∷ c) d f w h =
 
 -- ---- preconditions that ground actions ask for
 
-pub asks_wider : (x : Deed) (c d : List Literal) → IsWider c d → asks x c ≡ true → asks x d ≡ true
+pub asks_wider : (x : GroundAction) (c d : List Literal) → IsWider c d → asks x c ≡ true → asks x d ≡ true
 asks_wider x c d f h = any_through (λ l. is_of_mark l c) (λ l. is_of_mark l d) x.pre f h
 
 -- one that is among its preconditions
-pub asks_it : (x : DDeed) (k : ℕ) (ls : List literal.Literal) (l : literal.Literal) (c : List Literal) → ls ≡ x.pre.items → true ≡ nat_lt k (length ls) → l ≡ get_or ls k l → is_of_mark (literal_of l) c ≡ true → asks (deed_of x) c ≡ true
+pub asks_it : (x : DGroundAction) (k : ℕ) (ls : List literal.Literal) (l : literal.Literal) (c : List Literal) → ls ≡ x.pre.items → true ≡ nat_lt k (length ls) → l ≡ get_or ls k l → is_of_mark (literal_of l) c ≡ true → asks (ground_action_of x) c ≡ true
 asks_it x k ls l c same within is h =
     let inside : k < length ls = ltb-true k (length ls) (sym within) in
     let is_there : slice_get (literals_in ls) k ≡ Some (literal_of l) = slice_get-map literal_of ls k ∙ ap (option_map literal_of) (slice_get_read ls (length ls) k l refl inside is) in
@@ -79,10 +79,10 @@ asks_it x k ls l c same within is h =
     (subst (λ m. is_of_mark m c ≡ true) (sym (get_or_from_slice_get (literals_in ls) k (literal_of l) (literal_of l) is_there)) h))
 
 -- what holds of the first ground action, and of the others
-pub asking_split : (xs : List DDeed) (x : DDeed) (c new : List Literal) → 1 ≤ length xs → x ≡ get_or xs 0 x → (may_reach (deed_of x) c ≡ true → asks (deed_of x) new ≡ true) → AreAsking (map deed_of (take (length xs - 1) (drop 1 xs))) c new → AreAsking (map deed_of xs) c new
+pub asking_split : (xs : List DGroundAction) (x : DGroundAction) (c new : List Literal) → 1 ≤ length xs → x ≡ get_or xs 0 x → (may_reach (ground_action_of x) c ≡ true → asks (ground_action_of x) new ≡ true) → AreAsking (map ground_action_of (take (length xs - 1) (drop 1 xs))) c new → AreAsking (map ground_action_of xs) c new
 asking_split xs x c new is_some is f g =
-    let others = map deed_of (take (length xs - 1) (drop 1 xs)) in
-    subst (λ ys. AreAsking ys c new) (sym (first_and_others deed_of xs x is_some ∙ ap (λ (y : DDeed). deed_of y ∷ others) (sym is))) (f, g)
+    let others = map ground_action_of (take (length xs - 1) (drop 1 xs)) in
+    subst (λ ys. AreAsking ys c new) (sym (first_and_others ground_action_of xs x is_some ∙ ap (λ (y : DGroundAction). ground_action_of y ∷ others) (sym is))) (f, g)
 
 -- ---- landmarks
 

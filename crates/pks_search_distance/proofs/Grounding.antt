@@ -19,15 +19,15 @@ use Rattle.pks_terms.specs.Views.{problem_of}
 use Rattle.pks_terms.specs.Views as views
 use Rattle.pks_laws.proofs.Least.{in_flat}
 use Rattle.pks_search_distance.specs.Runs.{MayBeDone}
-use Rattle.pks_search_distance.specs.Relaxed.{deed_with, deeds_from, all_deeds, deed_of_instance}
+use Rattle.pks_search_distance.specs.Relaxed.{ground_action_with, ground_actions_from, all_ground_actions, ground_action_of_instance}
 
-deeds_in : (s : Signature) (sc : Schema) (given : List Inner) (tys ds : List ℕ) → AreOfTypes s tys ds → IsIn (deed_with sc (given ++ map Object ds)) (deeds_from s sc given tys)
-deeds_in s sc given [] [] k = inl (ap (deed_with sc) (sym (append-nil given)))
-deeds_in s sc given [] (d ∷ ds) k = absurd k
-deeds_in s sc given (a ∷ tys) [] k = absurd k
-deeds_in s sc given (a ∷ tys) (d ∷ ds) k =
-    in_flat (λ e. deeds_from s sc (given ++ Object e ∷ []) tys) (objects_of s a) d (deed_with sc (given ++ map Object (d ∷ ds))) k.0
-    (subst (λ xs. IsIn (deed_with sc xs) (deeds_from s sc (given ++ Object d ∷ []) tys)) (append_assoc given (Object d ∷ []) (map Object ds)) (deeds_in s sc (given ++ Object d ∷ []) tys ds k.1))
+ground_actions_in : (s : Signature) (sc : Schema) (given : List Inner) (tys ds : List ℕ) → AreOfTypes s tys ds → IsIn (ground_action_with sc (given ++ map Object ds)) (ground_actions_from s sc given tys)
+ground_actions_in s sc given [] [] k = inl (ap (ground_action_with sc) (sym (append-nil given)))
+ground_actions_in s sc given [] (d ∷ ds) k = absurd k
+ground_actions_in s sc given (a ∷ tys) [] k = absurd k
+ground_actions_in s sc given (a ∷ tys) (d ∷ ds) k =
+    in_flat (λ e. ground_actions_from s sc (given ++ Object e ∷ []) tys) (objects_of s a) d (ground_action_with sc (given ++ map Object (d ∷ ds))) k.0
+    (subst (λ xs. IsIn (ground_action_with sc xs) (ground_actions_from s sc (given ++ Object d ∷ []) tys)) (append_assoc given (Object d ∷ []) (map Object ds)) (ground_actions_in s sc (given ++ Object d ∷ []) tys ds k.1))
 
 at_place : {X : Type 0} (xs : List X) (k : ℕ) (x : X) → slice_get xs k ≡ Some x → IsIn x xs
 at_place [] k x e = absurd (none-some x e)
@@ -39,15 +39,15 @@ module _ (p : Problem) (v : World) (i : Instance) (m : MayBeDone p v i) where
   unknown = record { cost = 1; parameters = []; pre = []; effects = []; senses = []; adds = [] }
 
   abbrev IsDone : Type 0
-  IsDone = ((schema_of p i.action).effects ≡ []) ⊎ IsIn (deed_of_instance p i) (flat_map (all_deeds p.signature) p.schemas)
+  IsDone = ((schema_of p i.action).effects ≡ []) ⊎ IsIn (ground_action_of_instance p i) (flat_map (all_ground_actions p.signature) p.schemas)
 
   declared : (sc : Schema) → slice_get p.schemas i.action ≡ Some sc → IsDone
   declared sc e =
       let same : schema_of p i.action ≡ sc = ap (λ o. unwrap_or o unknown) e in
       let typed : AreOfTypes p.signature sc.parameters m.objects = subst (λ (x : Schema). AreOfTypes p.signature x.parameters m.objects) same m.typed in
-      let instance : deed_with sc (map Object m.objects) ≡ deed_of_instance p i = λ j. deed_with (sym same j) (sym m.ground j) in
-      inr (in_flat (all_deeds p.signature) p.schemas sc (deed_of_instance p i) (at_place p.schemas i.action sc e)
-      (subst (λ d. IsIn d (all_deeds p.signature sc)) instance (deeds_in p.signature sc [] sc.parameters m.objects typed)))
+      let instance : ground_action_with sc (map Object m.objects) ≡ ground_action_of_instance p i = λ j. ground_action_with (sym same j) (sym m.ground j) in
+      inr (in_flat (all_ground_actions p.signature) p.schemas sc (ground_action_of_instance p i) (at_place p.schemas i.action sc e)
+      (subst (λ d. IsIn d (all_ground_actions p.signature sc)) instance (ground_actions_in p.signature sc [] sc.parameters m.objects typed)))
 
   pub done_in : IsDone
   done_in =

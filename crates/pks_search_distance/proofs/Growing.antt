@@ -20,7 +20,7 @@ use Rattle.pks_terms.proofs.ListLaws.{in_map, in_appended, found_in}
 use Rattle.pks_laws.proofs.Least.{in_left, in_right, in_flat}
 use Rattle.pks_world.specs.Contents.{ground, atom_eq, is_listed}
 use Rattle.pks_search_distance.specs.Levels.{Chances, Allows, Grows}
-use Rattle.pks_search_distance.specs.declared.gains.Gains.{Gains}
+use Rattle.pks_search_distance.specs.declared.gains.RelaxedFacts.{RelaxedFacts}
 use Rattle.pks_search_distance.specs.declared.gains.Given.{Given}
 use Rattle.pks_search_distance.specs.Relaxed.{New, NewTruth, NewValue, NewFalse, IsNewIn}
 use Rattle.pks_search_distance.specs.Gained.{given_of, given_to, is_cleared, may_be, values_at, chances_of, has_new}
@@ -68,7 +68,7 @@ value_is : (w : World) (f : ℕ) (ds : List ℕ) → value_of w (place f ds) ≡
 unfolding value_of
 value_is w f ds = ap (w.value f) (inners_of_objects w ds)
 
-pub allows_first : (w : World) (g : Gains) → Allows (chances_of w g) w
+pub allows_first : (w : World) (g : RelaxedFacts) → Allows (chances_of w g) w
 allows_first w g = record {
   truth = λ p ds. go p ds (w.truth p ds) (affirmed_is w p ds);
   values = λ f ds. inl (value_is w f ds);
@@ -101,7 +101,7 @@ module _ (a : PredAtom) (old new : BTreeSet PredAtom) (h : HasMore a old new) wh
 either : (a b c d : Bool) → (a ≡ true → c ≡ true) → (b ≡ true → d ≡ true) → (a || b) ≡ true → (c || d) ≡ true
 either a b c d f g h = ⊎_elim (λ e. or_left c d (f e)) (λ e. or_right c d (g e)) (or_cases a b h)
 
-module _ (w : World) (g : Gains) where
+module _ (w : World) (g : RelaxedFacts) where
   pub true_grows : (a : PredAtom) (new : BTreeSet PredAtom) → HasMore a g.trues new → Grows (chances_of w g) (chances_of w (record g { trues = new }))
   true_grows a new h = record { truth = go; values = λ f ds d k. k }
     where
@@ -148,7 +148,7 @@ same_place : (t : Term) (f : ℕ) (ds : List ℕ) → t ≡ place f ds → term_
 unfolding term_eq
 same_place t f ds e = subst (λ u. is_eq (term_cmp (place f ds) u) ≡ true) (sym e) (ap is_eq (tied_itself term_cmp_total (place f ds)))
 
-module _ (w : World) (g n : Gains) where
+module _ (w : World) (g n : RelaxedFacts) where
   grow_by : n.trues.keys ≡ g.trues.keys → n.falses.keys ≡ g.falses.keys → ((p : ℕ) → is_cleared g p ≡ true → is_cleared n p ≡ true)
       → ((t : Term) (d : ℕ) → IsIn d (flat_map (given_to t) (map given_of g.values.items)) → IsIn d (flat_map (given_to t) (map given_of n.values.items)))
       → Grows (chances_of w g) (chances_of w n)
@@ -185,7 +185,7 @@ module _ (w : World) (g n : Gains) where
 
 -- ---- what may be so already
 
-pub had : (w : World) (g : Gains) (x : New) → has_new w g x ≡ true → IsNewIn (chances_of w g) x
+pub had : (w : World) (g : RelaxedFacts) (x : New) → has_new w g x ≡ true → IsNewIn (chances_of w g) x
 had w g (NewTruth b a) h = λ p ds e. subst (λ (x : Atom). may_be w g b x ≡ true) e h
 had w g (NewValue t d) h = λ f ds e.
     let r = found_in (λ k. k == d) (values_at w g t) h in

@@ -15,7 +15,7 @@ use Rattle.pks_terms.specs.Problems.{Problem, schema_of}
 use Rattle.pks_terms.specs.Knowledge.{after_action}
 use Rattle.pks_terms.proofs.OrderLaws.{same_literal}
 use Rattle.pks_search_distance.specs.Runs.{asked, IsSo, MayBeDone}
-use Rattle.pks_search_distance.specs.Relaxed.{Deed, asked_at, deed_of_instance}
+use Rattle.pks_search_distance.specs.Relaxed.{GroundAction, asked_at, ground_action_of_instance}
 use Rattle.pks_search_distance.specs.Counted.{may_meet}
 use Rattle.pks_search_distance.specs.Landmarks.{is_met, unmet_marks, ReachAtMost, is_of_mark, may_reach, reaches, most_reached}
 use Rattle.pks_search_distance.specs.Marked.{landmark_of}
@@ -27,7 +27,7 @@ use Rattle.pks_search_distance.proofs.Unmet.{less_if, more_if, stays_unmet, coun
 pub counted_unmet : (w : World) (cs : List Landmark) → unmet_marks w (map landmark_of cs) ≡ count_by (λ c. not (is_met w (landmark_of c))) cs
 counted_unmet w = is_count_by (λ cs. unmet_marks w (map landmark_of cs)) (λ c. not (is_met w (landmark_of c))) refl (λ c cs. less_if (is_met w (landmark_of c)) (unmet_marks w (map landmark_of cs)))
 
-pub counted_reaches : (x : Deed) (cs : List Landmark) → reaches x (map landmark_of cs) ≡ count_by (λ c. may_reach x (landmark_of c)) cs
+pub counted_reaches : (x : GroundAction) (cs : List Landmark) → reaches x (map landmark_of cs) ≡ count_by (λ c. may_reach x (landmark_of c)) cs
 counted_reaches x = is_count_by (λ cs. reaches x (map landmark_of cs)) (λ c. may_reach x (landmark_of c)) refl (λ c cs. more_if (may_reach x (landmark_of c)) (reaches x (map landmark_of cs)))
 
 -- ---- one ground action
@@ -54,7 +54,7 @@ module _ (v : World) where
   unasked true b f h = absurd (f refl)
   unasked false b f h = h
 
-  module _ (x : Deed) (so : Each (λ l. true_in v l ≡ true) x.pre) where
+  module _ (x : GroundAction) (so : Each (λ l. true_in v l ≡ true) x.pre) where
     -- a landmark that is unmet and that the ground action can't meet stays unmet
     mark_stays : (c : List Literal) → may_reach x c ≡ false → is_met v c ≡ false → is_met (applied_to v x.effects) c ≡ false
     mark_stays c m h =
@@ -78,20 +78,20 @@ module _ (v : World) where
 
 -- ---- ground actions
 
-reaches_below : (x : Deed) (xs : List Deed) (cs : List (List Literal)) → IsIn x xs → reaches x cs ≤ most_reached xs cs
+reaches_below : (x : GroundAction) (xs : List GroundAction) (cs : List (List Literal)) → IsIn x xs → reaches x cs ≤ most_reached xs cs
 reaches_below x [] cs i = absurd i
-reaches_below x (y ∷ xs) cs (inl e) = subst (λ (z : Deed). reaches z cs ≤ max (reaches y cs) (most_reached xs cs)) e (omega arith)
+reaches_below x (y ∷ xs) cs (inl e) = subst (λ (z : GroundAction). reaches z cs ≤ max (reaches y cs) (most_reached xs cs)) e (omega arith)
 reaches_below x (y ∷ xs) cs (inr i) = let rest : reaches x cs ≤ most_reached xs cs = reaches_below x xs cs i in omega (arith, rest)
 
-pub deeds_reach : (p : Problem) (xs : List Deed) (cs : List (List Literal)) → ((v : World) (i : Instance) → MayBeDone p v i → ((schema_of p i.action).effects ≡ []) ⊎ IsIn (deed_of_instance p i) xs) → ReachAtMost p cs (most_reached xs cs)
+pub ground_actions_reach : (p : Problem) (xs : List GroundAction) (cs : List (List Literal)) → ((v : World) (i : Instance) → MayBeDone p v i → ((schema_of p i.action).effects ≡ []) ⊎ IsIn (ground_action_of_instance p i) xs) → ReachAtMost p cs (most_reached xs cs)
 unfolding after_action applied_to
-deeds_reach p xs cs listed v i b = ⊎_elim none some (listed v i b)
+ground_actions_reach p xs cs listed v i b = ⊎_elim none some (listed v i b)
   where
     none : (schema_of p i.action).effects ≡ [] → unmet_marks v cs ≤ most_reached xs cs + unmet_marks (after_action p v i) cs
     none e = subst (λ (es : List Effect). unmet_marks v cs ≤ most_reached xs cs + unmet_marks (applied_to v (map (effect_at i.arguments) es)) cs) (sym e) (omega arith)
 
-    some : IsIn (deed_of_instance p i) xs → unmet_marks v cs ≤ most_reached xs cs + unmet_marks (after_action p v i) cs
+    some : IsIn (ground_action_of_instance p i) xs → unmet_marks v cs ≤ most_reached xs cs + unmet_marks (after_action p v i) cs
     some k =
-        let below : reaches (deed_of_instance p i) cs ≤ most_reached xs cs = reaches_below (deed_of_instance p i) xs cs k in
-        let enough : unmet_marks v cs ≤ reaches (deed_of_instance p i) cs + unmet_marks (after_action p v i) cs = reaches_enough v (deed_of_instance p i) (asked_so v i.arguments (schema_of p i.action).pre b.pre) cs in
+        let below : reaches (ground_action_of_instance p i) cs ≤ most_reached xs cs = reaches_below (ground_action_of_instance p i) xs cs k in
+        let enough : unmet_marks v cs ≤ reaches (ground_action_of_instance p i) cs + unmet_marks (after_action p v i) cs = reaches_enough v (ground_action_of_instance p i) (asked_so v i.arguments (schema_of p i.action).pre b.pre) cs in
         omega (arith, below, enough)

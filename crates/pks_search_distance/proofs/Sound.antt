@@ -18,7 +18,7 @@ use Rattle.pks_laws.proofs.Values.{same_objects_same}
 use Rattle.pks_world.specs.Contents.{ground}
 use Rattle.pks_search_distance.specs.Runs.{asked, IsSo, IsAim}
 use Rattle.pks_search_distance.specs.Levels.{Chances, Allows, Has, HasAll}
-use Rattle.pks_search_distance.specs.Relaxed.{tuples, inner_values, term_values, may_relate, may, aim_may, NewTruth, NewValue, NewFalse, atom_news, place_news, news, effect_news, Deed, deed_news, IsNewIn, asked_at}
+use Rattle.pks_search_distance.specs.Relaxed.{tuples, inner_values, term_values, may_relate, may, aim_may, NewTruth, NewValue, NewFalse, atom_news, place_news, news, effect_news, GroundAction, ground_action_news, IsNewIn, asked_at}
 use Rattle.pks_search_distance.proofs.Lists.{all_appended}
 
 module _ {A : Type 0} (values : A → List ℕ) (value : A → ℕ) (has : (t : A) → IsIn (value t) (values t)) where
@@ -148,5 +148,5 @@ module _ (m : Chances) (v : World) (a : Allows m v) where
     effects_have n es (each_back (IsNewIn n) (effect_news m e) (flat_map (effect_news m) es) k),
   )
 
-  pub deed_has : (n : Chances) (x : Deed) → list_all (may m) x.pre ≡ true → Each (IsNewIn n) (deed_news m x) → HasAll n v x.effects
-  deed_has n x h k = effects_have n x.effects (subst (λ b. Each (IsNewIn n) (cond b (flat_map (effect_news m) x.effects) [])) h k)
+  pub ground_action_has : (n : Chances) (x : GroundAction) → list_all (may m) x.pre ≡ true → Each (IsNewIn n) (ground_action_news m x) → HasAll n v x.effects
+  ground_action_has n x h k = effects_have n x.effects (subst (λ b. Each (IsNewIn n) (cond b (flat_map (effect_news m) x.effects) [])) h k)

@@ -19,7 +19,7 @@ use Rattle.pks_laws.proofs.Changing.{last_written_has}
 use Rattle.pks_laws.proofs.Values.{same_objects_same}
 use Rattle.pks_search_distance.specs.Runs.{MayBeDone}
 use Rattle.pks_search_distance.specs.Unmet.{unmet, MeetsAtMost}
-use Rattle.pks_search_distance.specs.Relaxed.{Deed, deed_of_instance}
+use Rattle.pks_search_distance.specs.Relaxed.{GroundAction, ground_action_of_instance}
 use Rattle.pks_terms.specs.Objects.{is_object, are_objects, is_place}
 use Rattle.pks_search_distance.specs.Counted.{are_different, are_apart, is_plain, may_be, may_hit, may_make, may_meet, meets, most_met}
 
@@ -172,20 +172,20 @@ module _ (v : World) where
 
 -- ---- ground actions
 
-meets_below : (x : Deed) (xs : List Deed) (ls : List Literal) → IsIn x xs → meets x.effects ls ≤ most_met xs ls
+meets_below : (x : GroundAction) (xs : List GroundAction) (ls : List Literal) → IsIn x xs → meets x.effects ls ≤ most_met xs ls
 meets_below x [] ls i = absurd i
-meets_below x (y ∷ xs) ls (inl e) = subst (λ (z : Deed). meets z.effects ls ≤ max (meets y.effects ls) (most_met xs ls)) e (omega arith)
+meets_below x (y ∷ xs) ls (inl e) = subst (λ (z : GroundAction). meets z.effects ls ≤ max (meets y.effects ls) (most_met xs ls)) e (omega arith)
 meets_below x (y ∷ xs) ls (inr i) = let rest : meets x.effects ls ≤ most_met xs ls = meets_below x xs ls i in omega (arith, rest)
 
-pub deeds_meet : (p : Problem) (xs : List Deed) (ls : List Literal) → ((v : World) (i : Instance) → MayBeDone p v i → ((schema_of p i.action).effects ≡ []) ⊎ IsIn (deed_of_instance p i) xs) → MeetsAtMost p ls (most_met xs ls)
+pub ground_actions_meet : (p : Problem) (xs : List GroundAction) (ls : List Literal) → ((v : World) (i : Instance) → MayBeDone p v i → ((schema_of p i.action).effects ≡ []) ⊎ IsIn (ground_action_of_instance p i) xs) → MeetsAtMost p ls (most_met xs ls)
 unfolding after_action applied_to
-deeds_meet p xs ls listed v i b = ⊎_elim none some (listed v i b)
+ground_actions_meet p xs ls listed v i b = ⊎_elim none some (listed v i b)
   where
     none : (schema_of p i.action).effects ≡ [] → unmet v ls ≤ most_met xs ls + unmet (after_action p v i) ls
     none e = subst (λ (es : List Effect). unmet v ls ≤ most_met xs ls + unmet (applied_to v (map (effect_at i.arguments) es)) ls) (sym e) (omega arith)
 
-    some : IsIn (deed_of_instance p i) xs → unmet v ls ≤ most_met xs ls + unmet (after_action p v i) ls
+    some : IsIn (ground_action_of_instance p i) xs → unmet v ls ≤ most_met xs ls + unmet (after_action p v i) ls
     some k =
-        let below : meets (deed_of_instance p i).effects ls ≤ most_met xs ls = meets_below (deed_of_instance p i) xs ls k in
-        let enough : unmet v ls ≤ meets (deed_of_instance p i).effects ls + unmet (after_action p v i) ls = meets_enough v (map (effect_at i.arguments) (schema_of p i.action).effects) ls in
+        let below : meets (ground_action_of_instance p i).effects ls ≤ most_met xs ls = meets_below (ground_action_of_instance p i) xs ls k in
+        let enough : unmet v ls ≤ meets (ground_action_of_instance p i).effects ls + unmet (after_action p v i) ls = meets_enough v (map (effect_at i.arguments) (schema_of p i.action).effects) ls in
         omega (arith, below, enough)

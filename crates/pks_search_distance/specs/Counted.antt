@@ -8,7 +8,7 @@ use Rattle.pks_terms.specs.Worlds.{World, true_in}
 use Rattle.pks_terms.specs.Actions.{Target, Set, Unset, Clear, Assign, Effect}
 use Rattle.pks_terms.specs.Problems.{Aim}
 use Rattle.pks_search_distance.specs.Runs.{IsAim}
-use Rattle.pks_search_distance.specs.Relaxed.{Deed}
+use Rattle.pks_search_distance.specs.Relaxed.{GroundAction}
 
 -- they are two different objects
 abbrev pub are_different : {A : Type 0} → Form A → Form A → Bool
@@ -66,7 +66,7 @@ meets es [] = 0
 meets es (l ∷ ls) = (if may_meet es l then 1 else 0) + meets es ls
 
 -- the most of the literals that one of the ground actions may make true
-abbrev pub most_met : List Deed → List Literal → ℕ
+abbrev pub most_met : List GroundAction → List Literal → ℕ
 most_met [] ls = 0
 most_met (x ∷ xs) ls = max (meets x.effects ls) (most_met xs ls)
 

@@ -13,15 +13,15 @@ use Rattle.pks_world.specs.Contents.{ground, is_listed}
 use Rattle.pks_search_distance.specs.Runs.{MayBeDone}
 use Rattle.pks_search_distance.specs.Levels.{Chances}
 use Rattle.pks_search_distance.specs.declared.objects.Pair.{Pair}
-use Rattle.pks_search_distance.specs.declared.gains.Gains.{Gains}
+use Rattle.pks_search_distance.specs.declared.gains.RelaxedFacts.{RelaxedFacts}
 use Rattle.pks_search_distance.specs.declared.gains.Given.{Given}
 use Rattle.pks_search_distance.specs.declared.news.New as news
 use Rattle.pks_search_distance.specs.declared.news.New.TheVariants as news_is
-use Rattle.pks_search_distance.specs.declared.deeds.Deed.{Deed as DDeed}
-use Rattle.pks_search_distance.specs.declared.deeds.Deeds.{Deeds}
+use Rattle.pks_search_distance.specs.declared.ground_actions.GroundAction.{GroundAction as DGroundAction}
+use Rattle.pks_search_distance.specs.declared.ground_actions.GroundActions.{GroundActions}
 use Rattle.pks_search_distance.specs.Landmarks.{AreLandmarks, ReachAtMost}
 use Rattle.pks_search_distance.specs.Marked.{landmarks_of}
-use Rattle.pks_search_distance.specs.Relaxed.{New, NewTruth, NewValue, NewFalse, Deed, deed_of_instance, Leads}
+use Rattle.pks_search_distance.specs.Relaxed.{New, NewTruth, NewValue, NewFalse, GroundAction, ground_action_of_instance, Leads}
 
 -- up to two
 abbrev pub pair_of : Pair → List ℕ
@@ -36,20 +36,20 @@ abbrev pub given_to : Term → Term × ℕ → List ℕ
 given_to t x = if term_eq t x.0 then x.1 ∷ [] else []
 
 -- each atom of the predicate may be false
-abbrev pub is_cleared : Gains → ℕ → Bool
+abbrev pub is_cleared : RelaxedFacts → ℕ → Bool
 is_cleared g p = list_any (λ q. q == p) (map (λ q. q.0) g.cleared.items)
 
 -- the atom may be true, or false
-abbrev pub may_be : World → Gains → Bool → Atom → Bool
+abbrev pub may_be : World → RelaxedFacts → Bool → Atom → Bool
 may_be w g true a = true_in w (affirmed a) || is_listed g.trues.keys a
 may_be w g false a = not (true_in w (affirmed a)) || (is_listed g.falses.keys a || is_cleared g a.predicate)
 
 -- the values that the place may have
-abbrev pub values_at : World → Gains → Term → List ℕ
+abbrev pub values_at : World → RelaxedFacts → Term → List ℕ
 values_at w g t = value_of w t ∷ flat_map (given_to t) (map given_of g.values.items)
 
 -- all that may be so
-abbrev pub chances_of : World → Gains → Chances
+abbrev pub chances_of : World → RelaxedFacts → Chances
 chances_of w g = record { truth = λ b p ds. may_be w g b (ground p ds); values = λ f ds. values_at w g (place f ds) }
 
 -- what may become so
@@ -59,22 +59,22 @@ new_of (news_is.Value t d) = NewValue (term_of t) d.0
 new_of (news_is.Cleared q) = NewFalse q.0
 
 -- it may be so already
-abbrev pub has_new : World → Gains → New → Bool
+abbrev pub has_new : World → RelaxedFacts → New → Bool
 has_new w g (NewTruth b a) = may_be w g b a
 has_new w g (NewValue t d) = list_any (λ e. e == d) (values_at w g t)
 has_new w g (NewFalse p) = is_cleared g p
 
 -- one of them isn't so yet
-abbrev pub some_new : World → Gains → List New → Bool
+abbrev pub some_new : World → RelaxedFacts → List New → Bool
 some_new w g xs = list_any (λ x. not (has_new w g x)) xs
 
 -- a ground action
-abbrev pub deed_of : DDeed → Deed
-deed_of x = record { pre = literals_in x.pre.items; effects = map effect_of x.effects.items }
+abbrev pub ground_action_of : DGroundAction → GroundAction
+ground_action_of x = record { pre = literals_in x.pre.items; effects = map effect_of x.effects.items }
 
 -- among the ground actions is each that does something and may be done in a world that others lead to, and none of them meets more of the landmarks than is noted
-pub record AreDeeds (p : Problem) (x : Deeds) (w : World) : Type 0 where
-  pub placed : Each (λ y. ArePlaced y.effects.items) x.deeds.items
-  pub listed : (n : ℕ) (v : World) (i : Instance) → Leads p w n v → MayBeDone p v i → ((schema_of p i.action).effects ≡ []) ⊎ IsIn (deed_of_instance p i) (map deed_of x.deeds.items)
+pub record AreGroundActions (p : Problem) (x : GroundActions) (w : World) : Type 0 where
+  pub placed : Each (λ y. ArePlaced y.effects.items) x.ground_actions.items
+  pub listed : (n : ℕ) (v : World) (i : Instance) → Leads p w n v → MayBeDone p v i → ((schema_of p i.action).effects ≡ []) ⊎ IsIn (ground_action_of_instance p i) (map ground_action_of x.ground_actions.items)
   pub landmarks : AreLandmarks p (landmarks_of x.landmarks.items)
   pub reached : ReachAtMost p (landmarks_of x.landmarks.items) x.reached

@@ -10,7 +10,7 @@ use Rattle.pks_terms.specs.Actions.{Instance}
 use Rattle.pks_terms.specs.Problems.{Problem}
 use Rattle.pks_terms.specs.Knowledge.{after_action}
 use Rattle.pks_search_distance.specs.Runs.{MayBeDone, IsGoal}
-use Rattle.pks_search_distance.specs.Relaxed.{Deed}
+use Rattle.pks_search_distance.specs.Relaxed.{GroundAction}
 use Rattle.pks_search_distance.specs.Counted.{is_plain, may_meet}
 
 -- one of the literals is true in the world
@@ -35,25 +35,25 @@ abbrev pub is_of_mark : Literal → List Literal → Bool
 is_of_mark l c = list_any (λ k. literal_eq k l) c
 
 -- the ground action asks for one of the literals
-abbrev pub asks : Deed → List Literal → Bool
+abbrev pub asks : GroundAction → List Literal → Bool
 asks x c = list_any (λ l. is_of_mark l c) x.pre
 
 -- the ground action may meet a landmark that is unmet: it asks for none of the literals, and may make one of them true
-abbrev pub may_reach : Deed → List Literal → Bool
+abbrev pub may_reach : GroundAction → List Literal → Bool
 may_reach x c = not (asks x c) && list_any (may_meet x.effects) c
 
 -- how many of the landmarks the ground action may meet
-abbrev pub reaches : Deed → List (List Literal) → ℕ
+abbrev pub reaches : GroundAction → List (List Literal) → ℕ
 reaches x [] = 0
 reaches x (c ∷ cs) = (if may_reach x c then 1 else 0) + reaches x cs
 
 -- the most of them that one of the ground actions may meet
-abbrev pub most_reached : List Deed → List (List Literal) → ℕ
+abbrev pub most_reached : List GroundAction → List (List Literal) → ℕ
 most_reached [] cs = 0
 most_reached (x ∷ xs) cs = max (reaches x cs) (most_reached xs cs)
 
 -- one of the ground actions may meet the landmark, and none that may meets m of the others
-abbrev pub is_light : List Deed → List (List Literal) → List Literal → ℕ → Bool
+abbrev pub is_light : List GroundAction → List (List Literal) → List Literal → ℕ → Bool
 is_light xs cs c m = list_any (λ x. may_reach x c) xs && list_all (λ x. not (may_reach x c) || nat_lt (reaches x cs) m) xs
 
 -- where the literals are true and the first landmarks are met, the second ones are
@@ -65,15 +65,15 @@ abbrev pub IsWider : List Literal → List Literal → Type 0
 IsWider c d = (l : Literal) → is_of_mark l c ≡ true → is_of_mark l d ≡ true
 
 -- each of the ground actions that may meet the first landmark asks for a literal of the second, and so may not meet that
-abbrev pub AreAsking : List Deed → List Literal → List Literal → Type 0
+abbrev pub AreAsking : List GroundAction → List Literal → List Literal → Type 0
 AreAsking xs c d = Each (λ x. may_reach x c ≡ true → asks x d ≡ true) xs
 
 -- the ground action has a plain precondition at the place
-abbrev pub has_plain : Deed → ℕ → Bool
+abbrev pub has_plain : GroundAction → ℕ → Bool
 has_plain x k = option_map_or (λ l. is_plain l.relation l.arguments) (slice_get x.pre k) false
 
 -- one of the ground actions that may meet the landmark has no plain precondition at the place
-abbrev pub some_lacks : List Deed → List Literal → ℕ → Bool
+abbrev pub some_lacks : List GroundAction → List Literal → ℕ → Bool
 some_lacks xs c k = list_any (λ x. may_reach x c && not (has_plain x k)) xs
 
 -- where the landmark and the first ones are met, the second ones are

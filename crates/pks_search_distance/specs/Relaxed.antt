@@ -82,13 +82,13 @@ abbrev pub effect_news : Chances → Effect → List New
 effect_news m e = if list_all (may m) e.condition then news m e.target else []
 
 -- a ground action: the literals that it asks for, and its effects
-pub record Deed : Type 0 where
+pub record GroundAction : Type 0 where
   pub pre : List Literal
   pub effects : List Effect
 
 -- what the ground action may make so
-abbrev pub deed_news : Chances → Deed → List New
-deed_news m x = if list_all (may m) x.pre then flat_map (effect_news m) x.effects else []
+abbrev pub ground_action_news : Chances → GroundAction → List New
+ground_action_news m x = if list_all (may m) x.pre then flat_map (effect_news m) x.effects else []
 
 -- it may be so
 abbrev pub IsNewIn : Chances → New → Type 0
@@ -103,21 +103,21 @@ abbrev pub asked_at : List Inner → List Query → List Literal
 asked_at given qs = flat_map (λ q. option_to_list (asked (query_at given q))) qs
 
 -- the action with these arguments
-abbrev pub deed_with : Schema → List Inner → Deed
-deed_with sc given = record { pre = asked_at given sc.pre; effects = map (effect_at given) sc.effects }
+abbrev pub ground_action_with : Schema → List Inner → GroundAction
+ground_action_with sc given = record { pre = asked_at given sc.pre; effects = map (effect_at given) sc.effects }
 
 -- those whose arguments begin with these
-abbrev pub deeds_from : Signature → Schema → List Inner → List ℕ → List Deed
-deeds_from s sc given [] = deed_with sc given ∷ []
-deeds_from s sc given (a ∷ tys) = flat_map (λ d. deeds_from s sc (given ++ Object d ∷ []) tys) (objects_of s a)
+abbrev pub ground_actions_from : Signature → Schema → List Inner → List ℕ → List GroundAction
+ground_actions_from s sc given [] = ground_action_with sc given ∷ []
+ground_actions_from s sc given (a ∷ tys) = flat_map (λ d. ground_actions_from s sc (given ++ Object d ∷ []) tys) (objects_of s a)
 
 -- all of the action
-abbrev pub all_deeds : Signature → Schema → List Deed
-all_deeds s sc = deeds_from s sc [] sc.parameters
+abbrev pub all_ground_actions : Signature → Schema → List GroundAction
+all_ground_actions s sc = ground_actions_from s sc [] sc.parameters
 
 -- the ground action that an instance is
-abbrev pub deed_of_instance : Problem → Instance → Deed
-deed_of_instance p i = deed_with (schema_of p i.action) i.arguments
+abbrev pub ground_action_of_instance : Problem → Instance → GroundAction
+ground_action_of_instance p i = ground_action_with (schema_of p i.action) i.arguments
 
 -- so many ground actions that may be done one after another lead from the world to the other one
 abbrev pub Leads : Problem → World → ℕ → World → Type 0

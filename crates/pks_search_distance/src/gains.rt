@@ -23,7 +23,7 @@ pub(crate) struct Given {
 /// What may be true, what may be false, of which predicates each atom may be false, and what values places may have, beside what is so
 /// in the world.
 #[derive(Drop)]
-pub(crate) struct Gains {
+pub(crate) struct RelaxedFacts {
     pub(crate) trues: BTreeSet<PredAtom>,
     pub(crate) falses: BTreeSet<PredAtom>,
     pub(crate) cleared: Vec<PredId>,
@@ -64,10 +64,10 @@ fn add_all_given(xs: &[Given], place: &Term, to: &mut Vec<ObjId>) -> Result<(), 
     Ok(())
 }
 
-impl Gains {
+impl RelaxedFacts {
     /// Nothing more than what is so.
-    pub(crate) fn none(alloc: Global) -> Gains {
-        Gains {
+    pub(crate) fn none(alloc: Global) -> RelaxedFacts {
+        RelaxedFacts {
             trues: BTreeSet::new(alloc),
             falses: BTreeSet::new(alloc),
             cleared: Vec::new(alloc),

@@ -5,11 +5,11 @@ ghost use Rattle.std.specs.List.{list_any};
 ghost use Rattle.pks_terms.specs.Views.{literal_of, literals_in, effect_of};
 ghost use Rattle.pks_world.specs.Contents.{world_of};
 ghost use Rattle.pks_search_distance.specs.Counted.{may_meet};
-ghost use Rattle.pks_search_distance.specs.Gained.{deed_of};
+ghost use Rattle.pks_search_distance.specs.Gained.{ground_action_of};
 ghost use Rattle.pks_search_distance.specs.Landmarks.{is_met, unmet_marks, is_of_mark, may_reach, reaches, most_reached};
 ghost use Rattle.pks_search_distance.specs.Marked.{landmark_of, landmarks_of};
 
-use crate::deeds::Deed;
+use crate::ground_actions::GroundAction;
 use crate::wanted::may_meet;
 use pks_terms::literal::Literal;
 use pks_terms::schema::Effect;
@@ -86,33 +86,33 @@ fn some_met(effects: &[Effect], literals: &[Literal]) -> bool
 }
 
 /// Whether the ground action may meet the landmark where it is unmet.
-pub(crate) fn may_reach(x: &Deed, literals: &[Literal]) -> bool
-    ensures { result ≡ may_reach (deed_of x.now) (literals_in literals.now) }
+pub(crate) fn may_reach(x: &GroundAction, literals: &[Literal]) -> bool
+    ensures { result ≡ may_reach (ground_action_of x.now) (literals_in literals.now) }
 {
     !asks_one(x.pre.as_slice(), literals) && some_met(x.effects.as_slice(), literals)
 }
 
 /// The same of a landmark.
-fn reaches_it(x: &Deed, c: &Landmark) -> bool
-    ensures { result ≡ may_reach (deed_of x.now) (landmark_of c.now) }
+fn reaches_it(x: &GroundAction, c: &Landmark) -> bool
+    ensures { result ≡ may_reach (ground_action_of x.now) (landmark_of c.now) }
 {
     may_reach(x, c.literals.as_slice())
 }
 
 /// How many of the landmarks the ground action may meet.
 #[tactic(auto, using(crate::proofs::Marks::counted_reaches))]
-pub(crate) fn reaches(x: &Deed, marks: &[Landmark]) -> usize
-    ensures { result ≡ reaches (deed_of x.now) (landmarks_of marks.now) }
+pub(crate) fn reaches(x: &GroundAction, marks: &[Landmark]) -> usize
+    ensures { result ≡ reaches (ground_action_of x.now) (landmarks_of marks.now) }
 {
     marks.iter().filter(|c| reaches_it(x, *c)).count()
 }
 
 /// The most of them that one of the ground actions may meet.
-pub(crate) fn most_reached(deeds: &[Deed], marks: &[Landmark]) -> usize
-    ensures { result ≡ most_reached (map deed_of deeds.now) (landmarks_of marks.now) }
+pub(crate) fn most_reached(ground_actions: &[GroundAction], marks: &[Landmark]) -> usize
+    ensures { result ≡ most_reached (map ground_action_of ground_actions.now) (landmarks_of marks.now) }
 {
-    match deeds {
+    match ground_actions {
         [] => 0,
-        [deed, rest @ ..] => reaches(deed, marks).max(most_reached(rest, marks)),
+        [ground_action, rest @ ..] => reaches(ground_action, marks).max(most_reached(rest, marks)),
     }
 }

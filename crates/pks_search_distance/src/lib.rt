@@ -4,8 +4,8 @@
 #![tactic(auto)]
 
 mod counted;
-pub mod deeds;
 mod gains;
+pub mod ground_actions;
 mod landmarks;
 pub mod laws;
 mod marking;
@@ -17,4 +17,4 @@ mod taking;
 mod values;
 mod wanted;
 
-pub use deeds::Deeds;
+pub use ground_actions::GroundActions;

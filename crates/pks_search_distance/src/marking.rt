@@ -1,12 +1,12 @@
 //! Which landmarks are counted: each goal literal alone, and from there back over preconditions that the actions which meet one ask for.
 ghost use Rattle.std.specs.Prelude.{◌≡◌, ◌≤◌, ◌⊎◌, [], ◌∷◌, map, length, true, false, IfOk, OnOk, IfSome};
 ghost use Rattle.pks_terms.specs.Views.{literal_of, literals_in};
-ghost use Rattle.pks_search_distance.specs.Gained.{deed_of};
+ghost use Rattle.pks_search_distance.specs.Gained.{ground_action_of};
 ghost use Rattle.pks_search_distance.specs.Landmarks.{asks, is_of_mark, has_plain, some_lacks, is_light, AddsMarks, AddsBehind, AreAsking, IsWider};
 ghost use Rattle.pks_search_distance.specs.Marked.{landmark_of, landmarks_of};
 ghost use Rattle.pks_search_distance.specs.declared.marking.TheConstants.{MOST_LITERALS};
 
-use crate::deeds::Deed;
+use crate::ground_actions::GroundAction;
 use crate::landmarks::{Landmark, is_one_of, may_reach, most_reached, reaches};
 use crate::wanted::is_plain;
 use pks_terms::literal::Literal;
@@ -46,10 +46,10 @@ fn add_once(l: &Literal, to: &mut Vec<Literal>) -> Result<(), AllocError>
 
 /// Adds the precondition at the place, if there is a plain one and room for it; answers whether there is.
 #[tactic(auto, using(crate::proofs::Gathering::wider_itself))]
-fn add_pre(x: &Deed, place: usize, to: &mut Vec<Literal>) -> Result<bool, AllocError>
+fn add_pre(x: &GroundAction, place: usize, to: &mut Vec<Literal>) -> Result<bool, AllocError>
     ensures wider { OnOk result (IsWider (literals_in to.old.items) (literals_in to.new.items)) }
-    ensures asked { IfOk result (λ b. b ≡ true → asks (deed_of x.now) (literals_in to.new.items) ≡ true) }
-    ensures lacking { IfOk result (λ b. b ≡ false → (has_plain (deed_of x.now) place ≡ false) ⊎ (MOST_LITERALS ≤ length to.new.items)) }
+    ensures asked { IfOk result (λ b. b ≡ true → asks (ground_action_of x.now) (literals_in to.new.items) ≡ true) }
+    ensures lacking { IfOk result (λ b. b ≡ false → (has_plain (ground_action_of x.now) place ≡ false) ⊎ (MOST_LITERALS ≤ length to.new.items)) }
 {
     let Some(l) = x.pre.as_slice().get(place) else {
         return Ok(false);
@@ -64,16 +64,16 @@ fn add_pre(x: &Deed, place: usize, to: &mut Vec<Literal>) -> Result<bool, AllocE
 /// Adds the precondition at the place of each ground action that may meet the landmark; answers whether each has one and there is room.
 #[tactic(auto, using(crate::proofs::Gathering::wider_itself, crate::proofs::Gathering::wider_on))]
 fn add_pres(
-    deeds: &[Deed],
+    ground_actions: &[GroundAction],
     literals: &[Literal],
     place: usize,
     to: &mut Vec<Literal>,
 ) -> Result<bool, AllocError>
     ensures wider { OnOk result (IsWider (literals_in to.old.items) (literals_in to.new.items)) }
-    ensures asked { IfOk result (λ b. b ≡ true → AreAsking (map deed_of deeds.now) (literals_in literals.now) (literals_in to.new.items)) }
-    ensures lacking { IfOk result (λ b. b ≡ false → (some_lacks (map deed_of deeds.now) (literals_in literals.now) place ≡ true) ⊎ (MOST_LITERALS ≤ length to.new.items)) }
+    ensures asked { IfOk result (λ b. b ≡ true → AreAsking (map ground_action_of ground_actions.now) (literals_in literals.now) (literals_in to.new.items)) }
+    ensures lacking { IfOk result (λ b. b ≡ false → (some_lacks (map ground_action_of ground_actions.now) (literals_in literals.now) place ≡ true) ⊎ (MOST_LITERALS ≤ length to.new.items)) }
 {
-    let [x, rest @ ..] = deeds else {
+    let [x, rest @ ..] = ground_actions else {
         return Ok(true);
     };
     if may_reach(x, literals) {
@@ -89,16 +89,16 @@ fn add_pres(
 /// The landmark with the precondition at the place of each ground action that may meet it, if each has one.
 fn with_preconditions(
     alloc: Global,
-    deeds: &[Deed],
+    ground_actions: &[GroundAction],
     c: &Landmark,
     place: usize,
 ) -> Result<Option<Landmark>, AllocError>
     ensures wider { IfOk result (λ o. IfSome o (λ d. IsWider (landmark_of c.now) (landmark_of d))) }
-    ensures asked { IfOk result (λ o. IfSome o (λ d. AreAsking (map deed_of deeds.now) (landmark_of c.now) (landmark_of d))) }
+    ensures asked { IfOk result (λ o. IfSome o (λ d. AreAsking (map ground_action_of ground_actions.now) (landmark_of c.now) (landmark_of d))) }
 {
     let old = c.literals.as_slice();
     let mut literals = old.to_vec(alloc)?;
-    let all = add_pres(deeds, old, place, &mut literals)?;
+    let all = add_pres(ground_actions, old, place, &mut literals)?;
     if !all || literals.len() == old.len() {
         return Ok(None);
     }
@@ -106,11 +106,11 @@ fn with_preconditions(
 }
 
 /// Whether some ground action may meet the landmark, and none that may do so may meet so many of the others.
-fn is_light(deeds: &[Deed], marks: &[Landmark], c: &Landmark, most: usize) -> bool
-    ensures { result ≡ is_light (map deed_of deeds.now) (landmarks_of marks.now) (landmark_of c.now) most }
+fn is_light(ground_actions: &[GroundAction], marks: &[Landmark], c: &Landmark, most: usize) -> bool
+    ensures { result ≡ is_light (map ground_action_of ground_actions.now) (landmarks_of marks.now) (landmark_of c.now) most }
 {
     let mut is_reached = false;
-    for x in deeds {
+    for x in ground_actions {
         if may_reach(x, c.literals.as_slice()) {
             if reaches(x, marks) >= most {
                 return false;
@@ -124,18 +124,18 @@ fn is_light(deeds: &[Deed], marks: &[Landmark], c: &Landmark, most: usize) -> bo
 /// The landmark gone back by one precondition, where none of the ground actions may then meet more than `most`.
 fn wider(
     alloc: Global,
-    deeds: &[Deed],
+    ground_actions: &[GroundAction],
     marks: &[Landmark],
     c: &Landmark,
     most: usize,
 ) -> Result<Option<Landmark>, AllocError>
     ensures wider { IfOk result (λ o. IfSome o (λ d. IsWider (landmark_of c.now) (landmark_of d))) }
-    ensures asked { IfOk result (λ o. IfSome o (λ d. AreAsking (map deed_of deeds.now) (landmark_of c.now) (landmark_of d))) }
-    ensures light { IfOk result (λ o. IfSome o (λ d. is_light (map deed_of deeds.now) (landmarks_of marks.now) (landmark_of d) most ≡ true)) }
+    ensures asked { IfOk result (λ o. IfSome o (λ d. AreAsking (map ground_action_of ground_actions.now) (landmark_of c.now) (landmark_of d))) }
+    ensures light { IfOk result (λ o. IfSome o (λ d. is_light (map ground_action_of ground_actions.now) (landmarks_of marks.now) (landmark_of d) most ≡ true)) }
 {
     for place in 0..MOST_TRIES {
-        if let Some(d) = with_preconditions(alloc, deeds, c, place)? {
-            if is_light(deeds, marks, &d, most) {
+        if let Some(d) = with_preconditions(alloc, ground_actions, c, place)? {
+            if is_light(ground_actions, marks, &d, most) {
                 return Ok(Some(d));
             }
         }
@@ -155,7 +155,7 @@ fn copy_landmark(alloc: Global, c: &Landmark) -> Result<Landmark, AllocError>
 #[tactic(auto, using(crate::proofs::Gathering::behind_none))]
 fn add_chain(
     alloc: Global,
-    deeds: &[Deed],
+    ground_actions: &[GroundAction],
     c: &Landmark,
     most: usize,
     steps: usize,
@@ -166,12 +166,12 @@ fn add_chain(
     if steps == 0 {
         return Ok(());
     }
-    let Some(next) = wider(alloc, deeds, to.as_slice(), c, most)? else {
+    let Some(next) = wider(alloc, ground_actions, to.as_slice(), c, most)? else {
         return Ok(());
     };
     let again = copy_landmark(alloc, &next)?;
     to.push(again)?;
-    add_chain(alloc, deeds, &next, most, steps - 1, to)?;
+    add_chain(alloc, ground_actions, &next, most, steps - 1, to)?;
     Ok(())
 }
 
@@ -192,7 +192,7 @@ fn add_alone(alloc: Global, wanted: &[Literal], to: &mut Vec<Landmark>) -> Resul
 #[tactic(auto, using(crate::proofs::Gathering::marks_none))]
 fn add_chains(
     alloc: Global,
-    deeds: &[Deed],
+    ground_actions: &[GroundAction],
     wanted: &[Literal],
     most: usize,
     to: &mut Vec<Landmark>,
@@ -201,8 +201,8 @@ fn add_chains(
 {
     if let [l, rest @ ..] = wanted {
         let one = alone(alloc, l)?;
-        add_chain(alloc, deeds, &one, most, MOST_STEPS, to)?;
-        add_chains(alloc, deeds, rest, most, to)?;
+        add_chain(alloc, ground_actions, &one, most, MOST_STEPS, to)?;
+        add_chains(alloc, ground_actions, rest, most, to)?;
     }
     Ok(())
 }
@@ -210,19 +210,19 @@ fn add_chains(
 /// The landmarks that are counted beside the goal's literals, these among them: none where there are no others.
 pub(crate) fn landmarks_for(
     alloc: Global,
-    deeds: &[Deed],
+    ground_actions: &[GroundAction],
     wanted: &[Literal],
 ) -> Result<Vec<Landmark>, AllocError>
     ensures { IfOk result (λ cs. AddsMarks (literals_in wanted.now) [] (landmarks_of cs.items)) }
 {
     let none = Vec::new(alloc);
-    if deeds.len().saturating_mul(wanted.len()) > MOST_WORK {
+    if ground_actions.len().saturating_mul(wanted.len()) > MOST_WORK {
         return Ok(none);
     }
     let mut marks = Vec::new(alloc);
     add_alone(alloc, wanted, &mut marks)?;
-    let most = most_reached(deeds, marks.as_slice());
-    add_chains(alloc, deeds, wanted, most, &mut marks)?;
+    let most = most_reached(ground_actions, marks.as_slice());
+    add_chains(alloc, ground_actions, wanted, most, &mut marks)?;
     if marks.len() == wanted.len() {
         return Ok(none);
     }

@@ -9,7 +9,7 @@ ghost use Rattle.pks_search_distance.specs.Relaxed.{may_relate, may, aim_may};
 ghost use Rattle.pks_world.specs.Few.{few_of};
 ghost use Rattle.pks_search_distance.specs.Gained.{chances_of};
 
-use crate::gains::Gains;
+use crate::gains::RelaxedFacts;
 use pks_terms::ids::{ObjId, PredId};
 use pks_terms::literal::{Atom, Literal, PredAtom};
 use pks_terms::problem::Aim;
@@ -57,7 +57,7 @@ pub(crate) fn terms_in(args: &[Term; 3], n: u8) -> &[Term]
     front(args, n)
 }
 
-impl Gains {
+impl RelaxedFacts {
     /// Whether the predicate may be true, or false, of one of the lists of objects.
     fn some_may_be(&self, w: &World, positive: bool, pred: PredId, lists: &[Few]) -> bool
         ensures { result ≡ list_any ((chances_of (world_of w.now) self.now).truth positive pred.0) (map few_of lists.now) }

@@ -7,14 +7,14 @@ ghost use Rattle.pks_terms.specs.Views.{problem_of};
 ghost use Rattle.pks_world.specs.Contents.{world_of};
 ghost use Rattle.pks_search_distance.specs.Levels.{Grows, IsBound};
 ghost use Rattle.pks_search_distance.specs.Unmet.{fewest, greater};
-ghost use Rattle.pks_search_distance.specs.Relaxed.{deed_news, IsNewIn};
+ghost use Rattle.pks_search_distance.specs.Relaxed.{ground_action_news, IsNewIn};
 ghost use Rattle.pks_terms.specs.ValidProblems.{ArePlaced};
-ghost use Rattle.pks_search_distance.specs.Gained.{chances_of, some_new, deed_of, AreDeeds};
-ghost use Rattle.pks_search_distance.specs.Remembered.{AreItsDeeds};
+ghost use Rattle.pks_search_distance.specs.Gained.{chances_of, some_new, ground_action_of, AreGroundActions};
+ghost use Rattle.pks_search_distance.specs.Remembered.{AreItsGroundActions};
 
 use crate::counted::Bound;
-use crate::deeds::Deeds;
-use crate::gains::Gains;
+use crate::gains::RelaxedFacts;
+use crate::ground_actions::GroundActions;
 use crate::landmarks::unmet_marks;
 use crate::wanted::count_unmet;
 use pks_terms::problem::Problem;
@@ -64,16 +64,16 @@ fn is_enough(needs: Option<u32>, most: u32) -> bool {
     }
 }
 
-impl Deeds {
+impl GroundActions {
     /// Goes on to the next level; answers whether it has something that this one hasn't.
-    fn go_on(&self, alloc: Global, w: &World, gains: &mut Gains) -> Result<bool, AllocError>
-        requires { Each (λ x. ArePlaced x.effects.items) self.now.deeds.items }
+    fn go_on(&self, alloc: Global, w: &World, gains: &mut RelaxedFacts) -> Result<bool, AllocError>
+        requires { Each (λ x. ArePlaced x.effects.items) self.now.ground_actions.items }
         ensures grows { OnOk result (Grows (chances_of (world_of w.now) gains.old) (chances_of (world_of w.now) gains.new)) }
-        ensures has { OnOk result (Each (IsNewIn (chances_of (world_of w.now) gains.new)) (flat_map (deed_news (chances_of (world_of w.now) gains.old)) (map deed_of self.now.deeds.items))) }
-        ensures told { IfOk result (λ b. b ≡ some_new (world_of w.now) gains.old (flat_map (deed_news (chances_of (world_of w.now) gains.old)) (map deed_of self.now.deeds.items))) }
+        ensures has { OnOk result (Each (IsNewIn (chances_of (world_of w.now) gains.new)) (flat_map (ground_action_news (chances_of (world_of w.now) gains.old)) (map ground_action_of self.now.ground_actions.items))) }
+        ensures told { IfOk result (λ b. b ≡ some_new (world_of w.now) gains.old (flat_map (ground_action_news (chances_of (world_of w.now) gains.old)) (map ground_action_of self.now.ground_actions.items))) }
         ensures same { IfOk result (λ b. b ≡ false → gains.new ≡ gains.old) }
     {
-        let found = gains.news(alloc, w, self.deeds.as_slice())?;
+        let found = gains.news(alloc, w, self.ground_actions.as_slice())?;
         let grew = gains.take_all(w, found.as_slice())?;
         Ok(grew)
     }
@@ -86,12 +86,12 @@ impl Deeds {
         w: &World,
         most: u32,
     ) -> Result<Option<u32>, AllocError>
-        requires { AreDeeds (problem_of p.now) self.now (world_of w.now) }
+        requires { AreGroundActions (problem_of p.now) self.now (world_of w.now) }
         ensures { IfOk result (IsBound (problem_of p.now) (world_of w.now)) }
     {
-        let mut gains = Gains::none(alloc);
+        let mut gains = RelaxedFacts::none(alloc);
         for k in 0..most {
-            if is_too_much(gains.values.len(), self.deeds.len()) {
+            if is_too_much(gains.values.len(), self.ground_actions.len()) {
                 return Ok(Some(k));
             }
             let met = gains.goal_may(alloc, w, p.goal.as_slice())?;
@@ -111,7 +111,7 @@ impl Deeds {
 
     /// How many actions meet the goal's literals, and the landmarks, that are unmet, as far as `most`.
     fn few(&self, w: &World, most: u32) -> Option<u32>
-        ensures { (p : SProblem) → AreItsDeeds p self.now → IsBound p (world_of w.now) result }
+        ensures { (p : SProblem) → AreItsGroundActions p self.now → IsBound p (world_of w.now) result }
     {
         let goals = fewest(self.met, count_unmet(w, self.wanted.as_slice()), most);
         if is_enough(goals, most) {
@@ -136,9 +136,9 @@ impl Deeds {
         w: &Rc<World>,
         most: u32,
     ) -> Result<Option<u32>, AllocError>
-        requires { AreItsDeeds (problem_of p.now) self.old }
+        requires { AreItsGroundActions (problem_of p.now) self.old }
         ensures bound { IfOk result (IsBound (problem_of p.now) (world_of w.now.value)) }
-        ensures deeds { AreItsDeeds (problem_of p.now) self.new }
+        ensures ground_actions { AreItsGroundActions (problem_of p.now) self.new }
     {
         let world: &World = w;
         let counted = self.few(world, most);

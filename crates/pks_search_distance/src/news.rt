@@ -7,12 +7,12 @@ ghost use Rattle.pks_terms.specs.Views.{object_of, term_of, atom_of, target_of, 
 ghost use Rattle.pks_terms.specs.ValidProblems.{IsApplication, AssignsToPlace};
 ghost use Rattle.pks_terms.specs.Sets.{Each};
 ghost use Rattle.pks_world.specs.Contents.{ground, world_of};
-ghost use Rattle.pks_search_distance.specs.Relaxed.{NewTruth, NewValue, atom_news, place_news, news, effect_news, deed_news};
+ghost use Rattle.pks_search_distance.specs.Relaxed.{NewTruth, NewValue, atom_news, place_news, news, effect_news, ground_action_news};
 ghost use Rattle.pks_world.specs.Few.{few_of};
-ghost use Rattle.pks_search_distance.specs.Gained.{pair_of, chances_of, new_of, deed_of};
+ghost use Rattle.pks_search_distance.specs.Gained.{pair_of, chances_of, new_of, ground_action_of};
 
-use crate::deeds::Deed;
-use crate::gains::Gains;
+use crate::gains::RelaxedFacts;
+use crate::ground_actions::GroundAction;
 use crate::may::terms_in;
 use crate::objects::Pair;
 use crate::values::inners_in;
@@ -74,7 +74,7 @@ fn add_placed(
     Ok(())
 }
 
-impl Gains {
+impl RelaxedFacts {
     /// Adds what making the atom true, or false, may make so.
     fn add_atom_news(
         &self,
@@ -183,20 +183,20 @@ impl Gains {
 
     /// Adds what the action may make so, where what it asks for may be so.
     #[tactic(auto, using(crate::proofs::Lists::pushing))]
-    fn add_deed_news(
+    fn add_ground_action_news(
         &self,
         alloc: Global,
         w: &World,
-        deed: &Deed,
+        ground_action: &GroundAction,
         to: &mut Vec<New>,
     ) -> Result<(), AllocError>
-        requires { Each (λ e. AssignsToPlace e.target) deed.now.effects.items }
-        ensures { OnOk result (map new_of to.new.items ≡ map new_of to.old.items ++ deed_news (chances_of (world_of w.now) self.now) (deed_of deed.now)) }
+        requires { Each (λ e. AssignsToPlace e.target) ground_action.now.effects.items }
+        ensures { OnOk result (map new_of to.new.items ≡ map new_of to.old.items ++ ground_action_news (chances_of (world_of w.now) self.now) (ground_action_of ground_action.now)) }
     {
-        if !self.all_may(alloc, w, deed.pre.as_slice())? {
+        if !self.all_may(alloc, w, ground_action.pre.as_slice())? {
             return Ok(());
         }
-        self.add_effects_news(alloc, w, deed.effects.as_slice(), to)?;
+        self.add_effects_news(alloc, w, ground_action.effects.as_slice(), to)?;
         Ok(())
     }
 
@@ -205,14 +205,14 @@ impl Gains {
         &self,
         alloc: Global,
         w: &World,
-        deeds: &[Deed],
+        ground_actions: &[GroundAction],
     ) -> Result<Vec<New>, AllocError>
-        requires { Each (λ x. Each (λ e. AssignsToPlace e.target) x.effects.items) deeds.now }
-        ensures { IfOk result (λ v. map new_of v.items ≡ flat_map (deed_news (chances_of (world_of w.now) self.now)) (map deed_of deeds.now)) }
+        requires { Each (λ x. Each (λ e. AssignsToPlace e.target) x.effects.items) ground_actions.now }
+        ensures { IfOk result (λ v. map new_of v.items ≡ flat_map (ground_action_news (chances_of (world_of w.now) self.now)) (map ground_action_of ground_actions.now)) }
     {
         let mut found = Vec::new(alloc);
-        for deed in deeds {
-            self.add_deed_news(alloc, w, deed, &mut found)?;
+        for ground_action in ground_actions {
+            self.add_ground_action_news(alloc, w, ground_action, &mut found)?;
         }
         Ok(found)
     }

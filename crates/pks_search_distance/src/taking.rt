@@ -9,7 +9,7 @@ ghost use Rattle.pks_search_distance.specs.Levels.{Grows};
 ghost use Rattle.pks_search_distance.specs.Relaxed.{NewTruth, NewValue, NewFalse, IsNewIn};
 ghost use Rattle.pks_search_distance.specs.Gained.{given_of, given_to, chances_of, values_at, has_new, some_new, new_of};
 
-use crate::gains::{Gains, Given};
+use crate::gains::{Given, RelaxedFacts};
 use crate::news::New;
 use pks_terms::ids::{ObjId, PredId};
 use pks_terms::literal::PredAtom;
@@ -45,7 +45,7 @@ fn either(first: bool, second: bool) -> bool
     first || second
 }
 
-impl Gains {
+impl RelaxedFacts {
     /// Whether the place may have the value.
     fn has_value(&self, w: &World, place: &Term, d: ObjId) -> bool
         ensures { result ≡ list_any (λ e. e == d.0) (values_at (world_of w.now) self.now (term_of place.now)) }

@@ -7,7 +7,7 @@ ghost use Rattle.pks_search_distance.specs.Relaxed.{tuples, inner_values, term_v
 ghost use Rattle.pks_world.specs.Few.{few_of};
 ghost use Rattle.pks_search_distance.specs.Gained.{pair_of, chances_of};
 
-use crate::gains::Gains;
+use crate::gains::RelaxedFacts;
 use crate::objects::Pair;
 use pks_terms::ids::{FnId, ObjId};
 use pks_terms::term::{Inner, Term, front};
@@ -22,7 +22,7 @@ pub(crate) fn inners_in(args: &[Inner; 2], n: u8) -> &[Inner]
     front(args, n)
 }
 
-impl Gains {
+impl RelaxedFacts {
     /// The values that the argument may have.
     fn inner_values(&self, alloc: Global, w: &World, t: &Inner) -> Result<Vec<ObjId>, AllocError>
         ensures { IfOk result (λ v. map object_of v.items ≡ inner_values (chances_of (world_of w.now) self.now) (inner_of t.now)) }

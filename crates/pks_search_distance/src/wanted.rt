@@ -6,9 +6,9 @@ ghost use Rattle.pks_terms.specs.Views.{inner_of, term_of, terms_of, atom_of, re
 ghost use Rattle.pks_world.specs.Contents.{world_of};
 ghost use Rattle.pks_search_distance.specs.Unmet.{unmet};
 ghost use Rattle.pks_search_distance.specs.Counted.{are_different, are_apart, is_plain, may_be, may_hit, is_of, may_equate, may_make, may_meet, meets, most_met, AddsWanted};
-ghost use Rattle.pks_search_distance.specs.Gained.{deed_of};
+ghost use Rattle.pks_search_distance.specs.Gained.{ground_action_of};
 
-use crate::deeds::Deed;
+use crate::ground_actions::GroundAction;
 use crate::may::terms_in;
 use pks_terms::ids::PredId;
 use pks_terms::literal::{Atom, Literal, PredAtom};
@@ -148,12 +148,14 @@ pub(crate) fn meets(effects: &[Effect], wanted: &[Literal]) -> usize
 }
 
 /// The most of the literals that one of the ground actions may make true.
-pub(crate) fn most_met(deeds: &[Deed], wanted: &[Literal]) -> usize
-    ensures { result ≡ most_met (map deed_of deeds.now) (literals_in wanted.now) }
+pub(crate) fn most_met(ground_actions: &[GroundAction], wanted: &[Literal]) -> usize
+    ensures { result ≡ most_met (map ground_action_of ground_actions.now) (literals_in wanted.now) }
 {
-    match deeds {
+    match ground_actions {
         [] => 0,
-        [deed, rest @ ..] => meets(deed.effects.as_slice(), wanted).max(most_met(rest, wanted)),
+        [ground_action, rest @ ..] => meets(ground_action.effects.as_slice(), wanted).max(most_met(
+            rest, wanted,
+        )),
     }
 }
 

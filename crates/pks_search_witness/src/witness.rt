@@ -4,11 +4,11 @@ ghost use Rattle.pks_terms.specs.Knowledge.{grounded, after_action};
 ghost use Rattle.pks_terms.specs.Valid.{IsValid};
 ghost use Rattle.pks_terms.specs.Views.{instance_of, problem_of};
 ghost use Rattle.pks_world.specs.Contents.{world_of};
-ghost use Rattle.pks_search_distance.specs.Remembered.{AreItsDeeds};
+ghost use Rattle.pks_search_distance.specs.Remembered.{AreItsGroundActions};
 ghost use Rattle.pks_search_witness.specs.Near.{world_in, is_beyond, IsCounted};
 
 use crate::idling::is_idle;
-use pks_search_distance::Deeds;
+use pks_search_distance::GroundActions;
 use pks_terms::problem::Problem;
 use pks_terms::schema::Instance;
 use pks_world::{World, ground_instance};
@@ -28,17 +28,17 @@ impl Witness {
     pub fn of(
         alloc: Global,
         p: &Problem<'_>,
-        deeds: &mut Deeds,
+        ground_actions: &mut GroundActions,
         world: World,
         most: u32,
     ) -> Result<Witness, AllocError>
-        requires { AreItsDeeds (problem_of p.now) deeds.old }
+        requires { AreItsGroundActions (problem_of p.now) ground_actions.old }
         ensures world { IfOk result (λ x. world_in x ≡ world_of world) }
         ensures counted { IfOk result (IsCounted (problem_of p.now)) }
-        ensures deeds { AreItsDeeds (problem_of p.now) deeds.new }
+        ensures ground_actions { AreItsGroundActions (problem_of p.now) ground_actions.new }
     {
         let world = Rc::new(alloc, world)?;
-        let needs = deeds.bound(alloc, p, &world, most)?;
+        let needs = ground_actions.bound(alloc, p, &world, most)?;
         Ok(Witness { world, needs })
     }
 
@@ -47,18 +47,18 @@ impl Witness {
         &self,
         alloc: Global,
         p: &Problem<'_>,
-        deeds: &mut Deeds,
+        ground_actions: &mut GroundActions,
         step: &Instance,
         most: u32,
     ) -> Result<Witness, AllocError>
         requires valid { IsValid (problem_of p.now) }
-        requires deeds { AreItsDeeds (problem_of p.now) deeds.old }
+        requires ground_actions { AreItsGroundActions (problem_of p.now) ground_actions.old }
         ensures world { IfOk result (λ x. world_in x ≡ after_action (problem_of p.now) (world_in self.now) (grounded (world_in self.now) (instance_of step.now))) }
         ensures counted { IfOk result (IsCounted (problem_of p.now)) }
-        ensures deeds { AreItsDeeds (problem_of p.now) deeds.new }
+        ensures ground_actions { AreItsGroundActions (problem_of p.now) ground_actions.new }
     {
         let next = self.world.apply(p, &ground_instance(&self.world, step))?;
-        Witness::of(alloc, p, deeds, next, most)
+        Witness::of(alloc, p, ground_actions, next, most)
     }
 
     /// Whether the action leaves the world as it is. Where it doesn't say so, it may do so all the same. It takes no memory.

@@ -14,4 +14,4 @@ pub loop-x-preserved : goal.loop-x-preserved
 loop-x-preserved c =
     let R = Becomes (problem_of c.args.p.now) (instance_of c.args.step.now) in
     let next = come_more R c.args.near.now c.loop-x.next.items c.loop-x.x-index c.x-item.result c.in_ok-y.y c.loop-x-test.true c.x-item.is (record { world = c.in_ok-y.ensures.world; counted = c.in_ok-y.ensures.counted }) c.loop-x.invariant.0 in
-    (subst (ComeFrom R c.args.near.now) (sym c.in_ok-push.ensures.items) next, c.in_ok-y.ensures.deeds)
+    (subst (ComeFrom R c.args.near.now) (sym c.in_ok-push.ensures.items) next, c.in_ok-y.ensures.ground_actions)

@@ -30,7 +30,7 @@ best_rising-requires-clause-spot c =
     }
 
 pub best_rising-requires-clause-notes : goal.best_rising-requires-clause-notes
-best_rising-requires-clause-notes c = record { deeds = c.in_ok-first.ensures.deeds; failures = c.in_ok-failures.ensures.right; finds = c.in_ok-finds.ensures (problem_of c.args.p.now); shelf = subst (Each (IsShelved (problem_of c.args.p.now))) (sym c.new-shelf.ensures.items) tt }
+best_rising-requires-clause-notes c = record { own = c.in_ok-own.ensures; shelf = subst (Each (IsShelved (problem_of c.args.p.now))) (sym c.new-shelf.ensures.items) tt }
 
 pub best_rising-requires-clause-limit : goal.best_rising-requires-clause-limit
 best_rising-requires-clause-limit c =

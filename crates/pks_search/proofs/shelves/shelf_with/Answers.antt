@@ -9,7 +9,7 @@ use Rattle.pks_search.proofs.shelves.shelf_with.Goals as goal
 
 pub returns : goal.returns
 returns c = λ p valid aims so.
-    let own : Shelved = record { problem = c.args.problem; deeds = c.args.notes.deeds; failures = c.args.notes.failures; finds = c.args.notes.finds } in
-    let all : Each (IsShelved p) (own ∷ []) = (record { valid = valid; aims = aims; deeds = so.deeds; failures = so.failures; finds = so.finds }, tt) in
+    let own : Shelved = record { problem = c.args.problem; learned = c.args.notes.own } in
+    let all : Each (IsShelved p) (own ∷ []) = (record { valid = valid; aims = aims; learned = so.own }, tt) in
     subst (Each (IsShelved p)) (sym c.in_ok-push.ensures.items)
     (each_append (IsShelved p) c.args.notes.shelf.items (own ∷ []) (shelved_back p (problem_of c.args.problem) aims c.args.notes.shelf.items so.shelf) all)

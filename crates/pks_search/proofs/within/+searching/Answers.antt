@@ -72,7 +72,7 @@ best_after-best_within-requires t c =
     let same = sym c.in_ok-longer-in-Next.ensures in
     let twins = c.requires.twins (pushed h i (five_of c.in-Next.d)) (record { outcome = Next (five_of c.in-Next.d); progress = progress; gives = refl }) in
     let both = subst (Each (AreTwins p c.in_ok-longer-in-Next.longer)) (sym c.as_slice-in-Next.ensures.value) (subst (λ g. Each (AreTwins p g) c.args.worlds.twins.items) same twins) in
-    (less, (record { ready = subst (λ g. IsReady c.args.spot.now.problem.now g (c.args.spot.now.unread + 1) c.args.n) same ready; near = subst (Each (IsNear p c.in_ok-longer-in-Next.longer)) (sym c.as_slice.ensures.value) (subst (λ g. Each (IsNear p g) c.in_ok-after-in-Next.after.items) same near); twins = both }, record { deeds = c.in_ok-others-in-Next.ensures.deeds; failures = c.requires.notes.failures; finds = c.requires.notes.finds; shelf = c.requires.notes.shelf }))
+    (less, (record { ready = subst (λ g. IsReady c.args.spot.now.problem.now g (c.args.spot.now.unread + 1) c.args.n) same ready; near = subst (Each (IsNear p c.in_ok-longer-in-Next.longer)) (sym c.as_slice.ensures.value) (subst (λ g. Each (IsNear p g) c.in_ok-after-in-Next.after.items) same near); twins = both }, record { own = record { ground_actions = c.in_ok-others-in-Next.ensures.ground_actions; failures = c.requires.notes.own.failures; finds = c.requires.notes.own.finds }; shelf = c.requires.notes.shelf }))
 
 pub best_after-near_after-requires-clause-counted : goal.best_after-near_after-requires-clause-counted
 best_after-near_after-requires-clause-counted t c =
@@ -406,7 +406,7 @@ best_by_action-best_after-requires t c =
     let k = each_first (IsNear p h) c.args.spot.now.near.now c.front.result.now c.front.ensures c.requires.spot.near in
     let near = acted_near p r.justified (valid_typed p r.valid.says) h (instance_of c.args.step.now) c.front.result.now c.in_ok-first.first.items c.requires.chosen k c.in_ok-first.ensures.becomes in
     let twins = acted_each p r.justified (valid_typed p r.valid.says) h (instance_of c.args.step.now) c.args.spot.now.twins.now c.in_ok-twins.twins.items c.requires.chosen c.requires.spot.twins c.in_ok-twins.ensures in
-    (less, (c.requires.spot, (c.requires.chosen, (record { deeds = c.in_ok-first.ensures.deeds; failures = c.in_ok-barren.ensures.right; finds = c.requires.notes.finds; shelf = c.requires.notes.shelf }, (near, twins)))))
+    (less, (c.requires.spot, (c.requires.chosen, (record { own = record { ground_actions = c.in_ok-first.ensures.ground_actions; failures = c.in_ok-barren.ensures.right; finds = c.requires.notes.own.finds }; shelf = c.requires.notes.shelf }, (near, twins)))))
 
 pub best_by_action-returns-then-some_met-clause-best : goal.best_by_action-returns-then-some_met-clause-best
 best_by_action-returns-then-some_met-clause-best t c =
@@ -435,7 +435,7 @@ best_of_fewer-best_of_left-requires t c =
     let near = subst (λ x. Each (IsNear x h) c.args.spot.now.near.now) (sym is) (each_near_other (problem_of p) h c.args.spot.now.near.now c.requires.spot.near) in
     let unmet = subst (λ x. met x h ≡ false) (sym is) (still_unmet (problem_of p) r.valid.says.signature.values h c.requires.unmet) in
     let shelf = shelved_on (problem_of p) (problem_of q) own.aims c.in_ok-taken.taken.others.items c.in_ok-taken.ensures.others in
-    (less, (record { ready = ready_without p q h c.args.spot.now.unread c.args.n own.valid is r; near = near; twins = tt }, (unmet, (c.requires.some, record { deeds = own.deeds; failures = own.failures; finds = own.finds; shelf = shelf }))))
+    (less, (record { ready = ready_without p q h c.args.spot.now.unread c.args.n own.valid is r; near = near; twins = tt }, (unmet, (c.requires.some, record { own = own.learned; shelf = shelf }))))
 
 pub best_of_fewer-returns-clause-best : goal.best_of_fewer-returns-clause-best
 best_of_fewer-returns-clause-best t c =
@@ -449,9 +449,7 @@ pub best_of_fewer-returns-clause-notes : goal.best_of_fewer-returns-clause-notes
 best_of_fewer-returns-clause-notes t c =
     let own = c.in_ok-taken.ensures.shelved in
     record {
-      deeds = c.requires.notes.deeds;
-      failures = c.requires.notes.failures;
-      finds = c.requires.notes.finds;
+      own = c.requires.notes.own;
       shelf = c.in_ok-notes.ensures (problem_of c.args.spot.now.problem.now) own.valid own.aims c.in_ok-found.ensures.notes;
     }
 
@@ -478,17 +476,17 @@ best_of_left-returns-clause-best t c =
     c.best_of_rest.ensures.best
 
 pub best_of_rest-returns-then-tells-clause-best : goal.best_of_rest-returns-then-tells-clause-best
-best_of_rest-returns-then-tells-clause-best t c = c.tells.ensures.told c.if-tells.true c.requires.spot.ready.valid.says c.requires.spot.ready.moments c.requires.notes.failures
+best_of_rest-returns-then-tells-clause-best t c = c.tells.ensures.told c.if-tells.true c.requires.spot.ready.valid.says c.requires.spot.ready.moments c.requires.notes.own.failures
 
 pub best_of_rest-returns-then-tells-clause-notes : goal.best_of_rest-returns-then-tells-clause-notes
-best_of_rest-returns-then-tells-clause-notes t c = record { deeds = c.requires.notes.deeds; failures = c.tells.ensures.right (problem_of c.args.spot.now.problem.now) c.requires.notes.failures; finds = c.requires.notes.finds; shelf = c.requires.notes.shelf }
+best_of_rest-returns-then-tells-clause-notes t c = record { own = record { ground_actions = c.requires.notes.own.ground_actions; failures = c.tells.ensures.right (problem_of c.args.spot.now.problem.now) c.requires.notes.own.failures; finds = c.requires.notes.own.finds }; shelf = c.requires.notes.shelf }
 
 pub best_of_rest-best_of_choices-requires : goal.best_of_rest-best_of_choices-requires
 best_of_rest-best_of_choices-requires t c =
     let same : c.args.n ≡ c.args.n - 1 + 1 = omega (arith, c.requires.some) in
     let less : (c.args.n - 1) * 32 + 31 < t = omega (arith, c.decreases, c.requires.some) in
-    let right = c.tells.ensures.right (problem_of c.args.spot.now.problem.now) c.requires.notes.failures in
-    (less, (subst (MayGoOn c.args.spot.now) same c.requires.spot, (c.requires.unmet, record { deeds = c.requires.notes.deeds; failures = right; finds = c.tells-2.ensures.found (problem_of c.args.spot.now.problem.now) c.requires.notes.finds; shelf = c.requires.notes.shelf })))
+    let right = c.tells.ensures.right (problem_of c.args.spot.now.problem.now) c.requires.notes.own.failures in
+    (less, (subst (MayGoOn c.args.spot.now) same c.requires.spot, (c.requires.unmet, record { own = record { ground_actions = c.requires.notes.own.ground_actions; failures = right; finds = c.tells-2.ensures.found (problem_of c.args.spot.now.problem.now) c.requires.notes.own.finds }; shelf = c.requires.notes.shelf })))
 
 pub best_of_rest-returns-in-None-clause-notes : goal.best_of_rest-returns-in-None-clause-notes
 best_of_rest-returns-in-None-clause-notes t c =
@@ -496,19 +494,19 @@ best_of_rest-returns-in-None-clause-notes t c =
     let h = c.args.spot.now.history.now in
     let same : c.args.n - 1 + 1 ≡ c.args.n = omega (arith, c.requires.some) in
     let none : IsBestWithin p (At h) (c.args.n - 1 + 1) c.args.limit None = subst (λ o. IsBestWithin p (At h) (c.args.n - 1 + 1) c.args.limit (option_map tree_of o)) c.in-None.is c.in_ok-t.ensures.best in
-    record { deeds = c.in_ok-t.ensures.notes.deeds; failures = c.note-in-None.ensures.right p c.requires.spot.ready.moments (subst (λ k. HasNoTree p h k c.args.limit) same none) c.in_ok-t.ensures.notes.failures; finds = c.in_ok-t.ensures.notes.finds; shelf = c.in_ok-t.ensures.notes.shelf }
+    record { own = record { ground_actions = c.in_ok-t.ensures.notes.own.ground_actions; failures = c.note-in-None.ensures.right p c.requires.spot.ready.moments (subst (λ k. HasNoTree p h k c.args.limit) same none) c.in_ok-t.ensures.notes.own.failures; finds = c.in_ok-t.ensures.notes.own.finds }; shelf = c.in_ok-t.ensures.notes.shelf }
 
 -- ---- what the table of finds tells, and what is noted there
 
 pub best_of_rest-returns-in-Some-clause-best : goal.best_of_rest-returns-in-Some-clause-best
 best_of_rest-returns-in-Some-clause-best t c =
     let p = problem_of c.args.spot.now.problem.now in
-    subst (λ o. IfSome o (λ told. IsAnswer p c.args.spot.now.history.now c.args.n c.args.limit (option_map tree_of told))) c.in-Some.is (c.tells-2.ensures.told p c.requires.spot.ready.valid.says c.requires.notes.finds)
+    subst (λ o. IfSome o (λ told. IsAnswer p c.args.spot.now.history.now c.args.n c.args.limit (option_map tree_of told))) c.in-Some.is (c.tells-2.ensures.told p c.requires.spot.ready.valid.says c.requires.notes.own.finds)
 
 pub best_of_rest-returns-in-Some-clause-notes : goal.best_of_rest-returns-in-Some-clause-notes
 best_of_rest-returns-in-Some-clause-notes t c =
     let p = problem_of c.args.spot.now.problem.now in
-    record { deeds = c.requires.notes.deeds; failures = c.tells.ensures.right p c.requires.notes.failures; finds = c.tells-2.ensures.found p c.requires.notes.finds; shelf = c.requires.notes.shelf }
+    record { own = record { ground_actions = c.requires.notes.own.ground_actions; failures = c.tells.ensures.right p c.requires.notes.own.failures; finds = c.tells-2.ensures.found p c.requires.notes.own.finds }; shelf = c.requires.notes.shelf }
 
 pub best_of_rest-returns-in-Some-2-clause-notes : goal.best_of_rest-returns-in-Some-2-clause-notes
 best_of_rest-returns-in-Some-2-clause-notes t c =
@@ -518,4 +516,4 @@ best_of_rest-returns-in-Some-2-clause-notes t c =
     let same : c.args.n - 1 + 1 ≡ c.args.n = omega (arith, c.requires.some) in
     let best : IsBestWithin p (At h) (c.args.n - 1 + 1) c.args.limit (Some (tree_of found)) = subst (λ o. IsBestWithin p (At h) (c.args.n - 1 + 1) c.args.limit (option_map tree_of o)) c.in-Some-2.is c.in_ok-t.ensures.best in
     let is : IsFound p h c.args.n c.args.limit (tree_of found) = subst (λ k. IsFound p h k c.args.limit (tree_of found)) same best in
-    record { deeds = c.in_ok-t.ensures.notes.deeds; failures = c.in_ok-t.ensures.notes.failures; finds = c.note.ensures is c.in_ok-t.ensures.notes.finds; shelf = c.in_ok-t.ensures.notes.shelf }
+    record { own = record { ground_actions = c.in_ok-t.ensures.notes.own.ground_actions; failures = c.in_ok-t.ensures.notes.own.failures; finds = c.note.ensures is c.in_ok-t.ensures.notes.own.finds }; shelf = c.in_ok-t.ensures.notes.shelf }
