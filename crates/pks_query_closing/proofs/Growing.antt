@@ -1,5 +1,5 @@
 -- What is put in follows, and where a literal of it is denied closing clashes.
-use Rattle.std.proofs.Common.{◌≡◌, ◌≤◌, ◌<◌, ℕ, zero, suc, Bool, true, false, cond, List, [], ◌∷◌, flat_map, find, length, get_or, nat_lt, ltb-true, is_some, option_map, Option, Some, None, refl, sym, ap, ◌∙◌, subst, inl, inr, ⊎_elim, true≢false, arith}
+use Rattle.std.proofs.Common.{◌≡◌, ◌≤◌, ◌<◌, ℕ, zero, suc, Bool, true, false, cond, List, [], ◌∷◌, flat_map, find, length, get_or, nat_lt, ltb-true, Option, Some, None, refl, sym, ap, ◌∙◌, subst, inl, inr, ⊎_elim, arith}
 use Rattle.std.specs.Option.{option_map_or}
 use Rattle.std.proofs.lemmas.Option.{none-some, same_Some}
 use Rattle.pks_terms.specs.Sets.{IsIn, IsOrdered, insert_in}
@@ -148,10 +148,8 @@ module _ (s : Signature) where
   unfolding first_clash
   first_denied a l h = let r = find_finds (λ l. holds s a (negated l)) a.kf l h in (l, r.0, r.1)
 
-pub some_clashes : (s : Signature) → HasValues s → (d a : Five) (o : Option DLiteral) → IsOrdered literal_cmp d.kf → Follows s d a → option_map literal_of o ≡ first_clash s a → is_some o ≡ true → Clashes s d
-some_clashes s inhabited d a None ordered f same so = absurd (true≢false (sym so))
-some_clashes s inhabited d a (Some l) ordered f same so = denied_clashes s inhabited d a ordered f (first_denied s a (literal_of l) (sym same))
+pub some_clashes : (s : Signature) → HasValues s → (d a : Five) (l : DLiteral) → IsOrdered literal_cmp d.kf → Follows s d a → Some (literal_of l) ≡ first_clash s a → Clashes s d
+some_clashes s inhabited d a l ordered f same = denied_clashes s inhabited d a ordered f (first_denied s a (literal_of l) (sym same))
 
-pub ends_fine : (s : Signature) → HasValues s → (d a e : Five) (o : Option DLiteral) → IsOrdered literal_cmp d.kf → IsOrdered literal_cmp a.kf → Follows s d a → round s a ≡ a → option_map literal_of o ≡ first_clash s a → is_some o ≡ false → e ≡ tidied a → Closes s d (Next e)
-ends_fine s inhabited d a e None ordered put f last same so is = subst (λ x. Closes s d (Next x)) (sym is) (closes_alike s inhabited d a a 0 ordered put f refl last (sym same))
-ends_fine s inhabited d a e (Some l) ordered put f last same so is = absurd (true≢false so)
+pub ends_fine : (s : Signature) → HasValues s → (d a e : Five) → IsOrdered literal_cmp d.kf → IsOrdered literal_cmp a.kf → Follows s d a → round s a ≡ a → None ≡ first_clash s a → e ≡ tidied a → Closes s d (Next e)
+ends_fine s inhabited d a e ordered put f last same is = subst (λ x. Closes s d (Next x)) (sym is) (closes_alike s inhabited d a a 0 ordered put f refl last (sym same))

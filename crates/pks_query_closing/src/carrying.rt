@@ -1,6 +1,7 @@
 //! What follows by values, by groups and by ranges, put in one after another by a work list: where a place comes to have a
 //! value, the literals in which it stands are looked at again. `docs/RULES.md` has the rules.
 ghost use Rattle.std.specs.Prelude.{◌≡◌, ◌≤◌, List, [], ◌∷◌, ◌++◌, map, length, IfOk, OnOk, IfSome};
+ghost use Rattle.pks_terms.specs.Databases.{Five as SFive};
 ghost use Rattle.pks_terms.specs.Sets.{IsIn};
 ghost use Rattle.pks_terms.specs.Saturated.{Within};
 ghost use Rattle.pks_terms.specs.Signatures.{Signature as SSignature, HasValues};
@@ -298,6 +299,16 @@ impl Carrying {
         }
         Ok(())
     }
+
+    /// The databases with what follows by the literals from this number on.
+    fn after_work(&mut self, alloc: Global, s: &Signature, from: usize) -> Result<Five, AllocError>
+        requires { length s.now.objects ≤ 65536 }
+        ensures { IfOk result (λ e. (d : SFive) → HasValues (signature_of s.now) → IsReached (signature_of s.now) d self.old → GrowsTo (signature_of s.now) d (five_of e)) }
+    {
+        self.work(alloc, s, from)?;
+        let five = self.five.share()?;
+        Ok(five)
+    }
 }
 
 /// Whether the old databases have the literal.
@@ -392,7 +403,7 @@ pub(crate) fn carry(
         return Ok(five);
     }
     let (mut carrying, from) = with_list(alloc, old, five)?;
-    carrying.work(alloc, s, from)?;
-    let five = carrying.five.share()?;
-    Ok(five)
+    let next = carrying.after_work(alloc, s, from);
+    drop(carrying);
+    next
 }

@@ -1,7 +1,10 @@
 //! Closing, and clashes. `docs/RULES.md` has the rules.
-ghost use Rattle.std.specs.Prelude.{◌≡◌, ◌≤◌, List, [], ◌∷◌, map, length, IfOk, IfErr};
+ghost use Rattle.std.specs.Prelude.{◌≡◌, ◌≤◌, List, [], ◌∷◌, map, length, Some, IfOk, IfErr};
 ghost use Rattle.std.specs.List.{find};
 ghost use Rattle.std.specs.Option.{option_map};
+ghost use Rattle.pks_terms.specs.Databases.{Five as SFive};
+ghost use Rattle.pks_terms.specs.Orders.{literal_cmp};
+ghost use Rattle.pks_terms.specs.Sets.{IsOrdered};
 ghost use Rattle.pks_terms.specs.Worlds.{World};
 ghost use Rattle.pks_terms.specs.Meaning.{IsTrueOf};
 ghost use Rattle.pks_terms.specs.Signatures.{HasValues};
@@ -11,7 +14,7 @@ ghost use Rattle.pks_terms.specs.Views.{literal_of, signature_of};
 ghost use Rattle.pks_terms.specs.Moments.{AreInOrder, IsMomentOf};
 ghost use Rattle.pks_query_lookup.specs.Fives.{five_of};
 ghost use Rattle.pks_query_closing.specs.Closing.{IfClash};
-ghost use Rattle.pks_query_closing.specs.Working.{EndsWith};
+ghost use Rattle.pks_query_closing.specs.Working.{EndsWith, IsWorked};
 ghost use Rattle.pks_query_closing.specs.declared.closing.CloseEnd.TheVariants.{Memory};
 
 use crate::clashing::least_clash;
@@ -80,6 +83,32 @@ pub fn close(alloc: Global, s: &Signature, five: Five) -> Result<Derived, CloseE
     }
 }
 
+/// The last databases with normal parts, or `None` where one of their known literals is derived false. The error is want of memory.
+fn tidied_unless_clash(
+    alloc: Global,
+    s: &Signature,
+    last: Derived,
+) -> Result<Option<Derived>, AllocError>
+    requires { HasValues (signature_of s.now) }
+    ensures { IfOk result (λ o. (d : SFive) → IsOrdered literal_cmp d.kf → IsWorked (signature_of s.now) d (Some last) → EndsWith (Closes (signature_of s.now) d) o) }
+{
+    let _known = last.five().kf.len();
+    match least_clash(alloc, s, &last) {
+        Ok(None) => {
+            let d = with_normal_parts(alloc, last)?;
+            Ok(Some(d))
+        }
+        Ok(Some(_clash)) => {
+            drop(last);
+            Ok(None)
+        }
+        Err(error) => {
+            drop(last);
+            Err(error)
+        }
+    }
+}
+
 /// The databases closed, or `None` where there is a clash, which isn't named: it is seen where two values of one place, or
 /// a value and its denial, come to be known. It asks for at most 65,536 objects, and for an object of each function's
 /// result type. The error is want of memory.
@@ -93,15 +122,8 @@ pub fn close_unless_clash(
     ensures { IfOk result (λ o. EndsWith (Closes (signature_of s.now) (five_of five)) o) }
 {
     let _start = five.kf.len();
-    let Some(last) = work_out(alloc, s, five)? else {
-        return Ok(None);
-    };
-    let _known = last.five().kf.len();
-    let clash = least_clash(alloc, s, &last)?;
-    if clash.is_some() {
-        drop(last);
-        return Ok(None);
+    match work_out(alloc, s, five)? {
+        None => Ok(None),
+        Some(last) => tidied_unless_clash(alloc, s, last),
     }
-    let d = with_normal_parts(alloc, last)?;
-    Ok(Some(d))
 }
