@@ -1,4 +1,5 @@
 //! Numbers that are found by places and by atoms.
+ghost use Rattle.std.specs.Prelude.{◌≤◌, length, IfSome};
 
 use pks_terms::literal::Literal;
 use pks_terms::term::Inner;
@@ -25,14 +26,34 @@ fn or_none(alloc: Global, found: Option<Vec<usize>>) -> Vec<usize> {
     }
 }
 
-/// Puts the number after the others, unless it is the last of them.
-fn put(numbers: &mut Vec<usize>, k: usize) -> Result<(), AllocError> {
-    if let Some(last) = numbers.as_slice().last() {
-        if *last == k {
-            return Ok(());
+/// Where the number is to be put so that the others stay in order, or `None` where it is one of them.
+fn place_of(numbers: &[usize], k: usize) -> Option<usize>
+    ensures { IfSome result (λ i. i ≤ length numbers.now) }
+{
+    match numbers.last() {
+        None => return Some(0),
+        Some(last) => {
+            if *last < k {
+                return Some(numbers.len());
+            }
         }
     }
-    numbers.push(k)?;
+    for i in 0..numbers.len() {
+        if numbers[i] == k {
+            return None;
+        }
+        if k < numbers[i] {
+            return Some(i);
+        }
+    }
+    Some(numbers.len())
+}
+
+/// Puts the number among the others, in order and once.
+fn put(numbers: &mut Vec<usize>, k: usize) -> Result<(), AllocError> {
+    if let Some(i) = place_of(numbers.as_slice(), k) {
+        numbers.insert(i, k)?;
+    }
     Ok(())
 }
 

@@ -260,6 +260,33 @@ const OF_MANY_VALUES: Chain = Chain {
     end: ") (h (g) (g))))",
 };
 
+/// Two groups over the same places, which come to have values one after another.
+const OVER_THE_SAME_PLACES: &str =
+    "(pks 1) (domain (types t) (objects (t a b c)) (predicates (p t t t) (q) (r))
+  (functions (x0 t) (x1 t) (x2 t) (x3 t) (x4 t) (x5 t) (x6 t) (x7 t) (x8 t)
+    (x9 t) (x10 t) (x11 t) (x12 t) (x13 t) (x14 t) (x15 t) (x16 t) (x17 t)
+    (x18 t) (x19 t) (x20 t) (x21 t) (x22 t) (x23 t) (x24 t) (x25 t) (x26 t)))
+(problem (init (kf (= (x0) a))
+  (kx (not (= (x0) a)) (= (x1) a)) (kx (not (= (x1) a)) (= (x2) a)) (kx (not (= (x2) a)) (= (x3) a))
+  (kx (not (= (x3) a)) (= (x4) a)) (kx (not (= (x4) a)) (= (x5) a)) (kx (not (= (x5) a)) (= (x6) a))
+  (kx (not (= (x6) a)) (= (x7) a)) (kx (not (= (x7) a)) (= (x8) a)) (kx (not (= (x8) a)) (= (x9) a))
+  (kx (not (= (x9) a)) (= (x10) a)) (kx (not (= (x10) a)) (= (x11) a)) (kx (not (= (x11) a)) (= (x12) a))
+  (kx (not (= (x12) a)) (= (x13) a)) (kx (not (= (x13) a)) (= (x14) a)) (kx (not (= (x14) a)) (= (x15) a))
+  (kx (not (= (x15) a)) (= (x16) a)) (kx (not (= (x16) a)) (= (x17) a)) (kx (not (= (x17) a)) (= (x18) a))
+  (kx (not (= (x18) a)) (= (x19) a)) (kx (not (= (x19) a)) (= (x20) a)) (kx (not (= (x20) a)) (= (x21) a))
+  (kx (not (= (x21) a)) (= (x22) a)) (kx (not (= (x22) a)) (= (x23) a)) (kx (not (= (x23) a)) (= (x24) a))
+  (kx (not (= (x24) a)) (= (x25) a)) (kx (not (= (x25) a)) (= (x26) a))
+  (kx (p (x0) (x1) (x2)) (p (x0) (x3) (x4)) (p (x0) (x5) (x6)) (p (x0) (x7) (x8))
+    (p (x0) (x9) (x10)) (p (x0) (x11) (x12)) (p (x0) (x13) (x14)) (p (x0) (x15) (x16))
+    (p (x0) (x17) (x18)) (p (x0) (x19) (x20)) (p (x0) (x21) (x22)) (p (x0) (x23) (x24))
+    (p (x0) (x25) (x26)) (q))
+  (kx (p (x0) (x1) (x2)) (p (x0) (x3) (x4)) (p (x0) (x5) (x6)) (p (x0) (x7) (x8))
+    (p (x0) (x9) (x10)) (p (x0) (x11) (x12)) (p (x0) (x13) (x14)) (p (x0) (x15) (x16))
+    (p (x0) (x17) (x18)) (p (x0) (x19) (x20)) (p (x0) (x21) (x22)) (p (x0) (x23) (x24))
+    (p (x0) (x25) (x26)) (r)))
+  (goal (k (q))))
+";
+
 #[test]
 fn chains_are_closed_from_what_is_new(rt: HostRuntime) -> Result<(), Fail> {
     all_so(rt.alloc(), CHAINS)
@@ -310,6 +337,13 @@ fn chains_by_forms_in_groups_are_closed_from_what_is_new(rt: HostRuntime) -> Res
 fn a_place_of_two_values_ends_closing_at_once(rt: HostRuntime) -> Result<(), Fail> {
     let text = text_of(rt.alloc(), &OF_MANY_VALUES)?;
     assert!(rt; is_said(rt.alloc(), &text, "refused 1:388 270\n")?);
+    Ok(())
+}
+
+/// A few hundredths of a second; where a group is listed again at each place with each value, hours.
+#[test]
+fn groups_are_listed_once_at_their_places(rt: HostRuntime) -> Result<(), Fail> {
+    assert!(rt; is_said(rt.alloc(), OVER_THE_SAME_PLACES, "accepted\n")?);
     Ok(())
 }
 
