@@ -1,6 +1,7 @@
 """Finds a world that fits the start of a file: all known facts are so, of each group one, of each region no others."""
 
-from typing import Dict, Iterator, List, NamedTuple, Optional, Sequence, Set, Tuple, Union
+import difflib
+from typing import Dict, Iterable, Iterator, List, NamedTuple, Optional, Sequence, Set, Tuple, Union
 
 from .files import File
 from .forms import Expression, written
@@ -35,29 +36,41 @@ Need = Union[Known, Group, Region]
 """Something that a world must be like."""
 
 
-def _need_term(file: File, term: Expression) -> None:
-    """NoWorld, with a sentence, where a term without parameters isn't one of the file."""
+def _need_term(file: File, term: Expression) -> str:
+    """The type of a term without parameters; NoWorld, with a sentence, where it isn't one of the file."""
     if isinstance(term, str):
         if term not in file.objects:
-            raise NoWorld(f'`{term}` is no object of the file')
-        return
+            raise NoWorld(f'`{term}` is no object of the file{_meant(term, file.objects)}')
+        return file.objects[term]
     function = file.functions.get(str(term[0])) if term else None
     if function is None or len(function.arguments) != len(term) - 1:
-        raise NoWorld(f'`{written(term)}` is no term of the file')
-    for part in term[1:]:
-        _need_term(file, part)
+        raise NoWorld(f'`{written(term)}` is no term of the file{_meant(str(term[0]), file.functions) if term else ""}')
+    _need_arguments(file, term, function.arguments, 'term')
+    return function.result
+
+
+def _need_arguments(file: File, list_: Expression, kinds: Sequence[str], what: str) -> None:
+    """NoWorld, with a sentence, where the arguments of a list aren't terms of the file or aren't of these types."""
+    for term, kind in zip(list_[1:], kinds):
+        own = _need_term(file, term)
+        if not file.fits(own, kind):
+            raise NoWorld(f'`{written(list_)}` is no {what} of the file: `{written(term)}` is a `{own}`, and `{list_[0]}` is '
+                          f'declared as `{written((list_[0], *kinds))}`')
 
 
 def need_literal(file: File, literal: Expression) -> None:
     """NoWorld, with a sentence, where a literal without parameters isn't one of the file."""
-    head = literal[0] if not isinstance(literal, str) and literal else ''
+    head = str(literal[0]) if not isinstance(literal, str) and literal else ''
     if head == 'not' and len(literal) == 2:
         need_literal(file, literal[1])
         return
-    terms = 2 if head == '=' else len(file.predicates.get(str(head), ())) if head in file.predicates else -1
+    kinds = file.predicates.get(head)
+    terms = 2 if head == '=' else len(kinds) if kinds is not None else -1
     if isinstance(literal, str) or len(literal) - 1 != terms:
         raise NoWorld(f'`{written(literal)}` is no literal of the file{_instead(file, literal)}')
-    for term in literal[1:]:
+    if kinds is not None:
+        _need_arguments(file, literal, kinds, 'literal')
+    for term in literal[1:] if kinds is None else ():
         _need_term(file, term)
 
 
@@ -70,10 +83,18 @@ def _instead(file: File, literal: Expression) -> str:
         count = len(file.functions[head].arguments)
         value = written(literal[1 + count]) if len(literal) == 2 + count else 'VALUE'
         return f': a value is said by `(= {written(literal[:1 + count])} {value})`'
+    if head in ('k', 'kf') and len(literal) == 2 and not isinstance(literal[1], str):
+        return f': what is so stands by itself, as `{written(literal[1])}`'
     if head not in file.predicates:
-        return ''
+        return _meant(head, (*file.predicates, *file.functions))
     declared = written((head, *file.predicates[head]))
     return f': `{head}` is declared as `{declared}`'
+
+
+def _meant(word: str, names: Iterable[str]) -> str:
+    """What is said, behind a colon, of a word that isn't declared where one of these names looks like it."""
+    close = difflib.get_close_matches(word, list(names), 1)
+    return f': is `{close[0]}` meant?' if close else ''
 
 
 def _need_pattern(file: File, pattern: Expression) -> None:
