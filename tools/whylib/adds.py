@@ -177,12 +177,9 @@ def fact_cures(names: Names, action: Form, add: Form, given: Sequence[Form],
     literal = item.rest()[0]
     if stays(literal, given, found) and add.parent is not None and len(add.parent.rest()) > 1:
         yield Change(add, '')
-    plain = literal.rest()[0] if literal.head() == 'not' else literal
-    for sense in names.section(action, 'senses'):
-        if sense.head() == 'sense' and len(sense.rest()) == 1 and sense.rest()[0].text() in (literal.text(), plain.text()):
-            yield Change(item, f'(kw {sense.rest()[0].text()})')
-        if sense.head() == 'sense-all' and sense.rest()[0].head() == plain.head():
-            yield Change(item, f'(kw {plain.text()})')
+    senses = list(names.section(action, 'senses'))
+    yield from (Change(item, text) for sense in senses if not is_told(names, action, sense)
+                for text in as_sensed(sense, literal))
     for i, effect in [(i, e) for i, e in enumerate(found) if makes(e, literal)]:
         asked = [f'(k {c.text()})' for c in effect.conditions if not is_given(c, given)]
         if asked:
@@ -191,6 +188,17 @@ def fact_cures(names: Names, action: Form, add: Form, given: Sequence[Form],
             query = difference(effect, late) if may_undo(names, effect, late, given) else None
             if query:
                 yield Change(add, query, 'pre')
+    yield from (Change(item, text) for sense in senses if is_told(names, action, sense)
+                for text in as_sensed(sense, literal))
+
+
+def as_sensed(sense: Form, literal: Form) -> Iterator[str]:
+    """An item that tells whether a literal is so, as a sense finds it out."""
+    plain = literal.rest()[0] if literal.head() == 'not' else literal
+    if sense.head() == 'sense' and len(sense.rest()) == 1 and sense.rest()[0].text() in (literal.text(), plain.text()):
+        yield f'(kw {sense.rest()[0].text()})'
+    if sense.head() == 'sense-all' and sense.rest()[0].head() == plain.head():
+        yield f'(kw {plain.text()})'
 
 
 def whether_cures(names: Names, action: Form, add: Form, given: Sequence[Form],
