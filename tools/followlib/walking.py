@@ -197,6 +197,9 @@ class Walk:
         objects = {word for atom in atoms for word in words_of(atom)} & set(self.file.kinds)
         known = [text for text in state.known if heads & set(words_in(text))]
         near = [text for text in known if objects & set(words_in(text))] or known
+        sides = {written(place) for _, place in places}
+        values = [text for text in known if any(text.startswith(f'(= {side} ') for side in sides)]
+        near = list(dict.fromkeys((*values, *near)))
         return lines + [f'known there: {" ".join(near[:SHOWN])}' if near
                         else f'nothing is known there of {", ".join(sorted(heads))}']
 
