@@ -54,8 +54,9 @@ def _need_arguments(file: File, list_: Expression, kinds: Sequence[str], what: s
     for term, kind in zip(list_[1:], kinds):
         own = _need_term(file, term)
         if not file.fits(own, kind):
-            raise NoWorld(f'`{written(list_)}` is no {what} of the file: `{written(term)}` is a `{own}`, and `{list_[0]}` is '
-                          f'declared as `{written((list_[0], *kinds))}`')
+            declared = written((list_[0], *kinds))
+            raise NoWorld(f'`{written(list_)}` is no {what} of the file: `{written(term)}` is a `{own}`, and '
+                          f'`{list_[0]}` is declared as `{declared}`')
 
 
 def need_literal(file: File, literal: Expression) -> None:
