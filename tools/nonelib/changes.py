@@ -16,35 +16,40 @@ class Rank(enum.IntEnum):
     ADD_NEVER_COUNTS = 10
     ALWAYS_AT_START = 11
     NOT_SO_AT_START = 12
-    LOOK_WITHOUT_BRANCH = 13
-    LAST_OF_GROUP = 14
-    WHETHER_FOR_KNOWN = 15
-    TYPE_TOO_NARROW = 16
-    CASES_APART = 17
-    NESTED = 18
-    SPOILED = 19
-    DEPTH = 20
-    TOLD = 21
-    TOLD_TOGETHER = 22
-    TOLD_APART = 23
-    GUARD = 24
-    SENSED_APART = 25
-    FEWER_VALUES = 26
-    SIGN = 27
-    OTHER_WAY = 28
-    OTHER_WAYS = 29
-    VALUE_BEFORE = 30
-    OUTSIDE_GROUP = 31
-    FIND_OUT = 32
-    CASE = 33
-    START = 34
-    START_MORE = 35
-    CONTRARY = 36
-    SIDES = 37
-    SIGN_SENSED = 38
-    QUERY_GUARD = 39
-    QUERY = 40
-    START_LATE = 41
+    UNKNOWN_AT_START = 13
+    LOOK_WITHOUT_BRANCH = 14
+    LAST_OF_GROUP = 15
+    WHETHER_FOR_KNOWN = 16
+    TYPE_TOO_NARROW = 17
+    CASES_APART = 18
+    NESTED = 19
+    SPOILED = 20
+    DEPTH = 21
+    TOLD = 22
+    TOLD_TOGETHER = 23
+    TOLD_APART = 24
+    GUARD = 25
+    SENSED_APART = 26
+    FEWER_VALUES = 27
+    SIGN = 28
+    SWAPPED = 29
+    OTHER_WAY = 30
+    OTHER_WAYS = 31
+    VALUE_BEFORE = 32
+    OUTSIDE_GROUP = 33
+    FIND_OUT = 34
+    CASE = 35
+    MAKE = 36
+    ALWAYS_KEPT = 37
+    START = 38
+    START_MORE = 39
+    CONTRARY = 40
+    SIDES = 41
+    SIGN_SENSED = 42
+    MAKE_LATE = 43
+    QUERY_GUARD = 44
+    QUERY = 45
+    START_LATE = 46
     GOAL = 50
 
 
@@ -63,7 +68,7 @@ class Change:
     always: bool = False
     """Whether the cause is so whether or not there is a plan with the change."""
     cases: Tuple[File, ...] = ()
-    """The cases that the change rules out, each known to be so: `why` is said only where none of them has a plan."""
+    """Files, as the cases that the change rules out, each known to be so: `why` is said only where none has a plan."""
     otherwise: str = ''
     """What is said in place of it where one of them has a plan, or where that isn't known."""
 
@@ -248,7 +253,7 @@ def queries_of(file: File) -> Iterator[Tuple[Action, Expression, List_]]:
 
 
 def signs(file: File) -> Iterator[Change]:
-    """Each `k` of a precondition with the other sign."""
+    """Each `k` of a precondition with the other sign; as a cause only where no plan leads to what it asks for."""
     for action, query, others in queries_of(file):
         if query[0] == 'k' and atom_of(query[1])[0] != '=':
             other = ('k', negated(query[1]))
@@ -256,7 +261,19 @@ def signs(file: File) -> Iterator[Change]:
             yield Change(rank, file.with_action(action.name, pre=others + (other,)),
                          f'in `pre` of `{action.name}` write, in place of {written(query)},', (written(other),),
                          f'`{action.name}` asks for {written(query)}, which isn\'t known when it is needed; its '
-                         'contrary is.')
+                         'contrary is.', cases=tuple(asked_alone(file, located(query[1], action.parameters))),
+                         otherwise=f'With the contrary of what it asks for, `{action.name}` can be done where it would '
+                                   'help.')
+
+
+MOST_ALONE = 4
+"""For so many choices of objects a query is asked alone."""
+
+
+def asked_alone(file: File, literal: Expression) -> Iterator[File]:
+    """The file with nothing but a literal for its goal, for some choices of objects."""
+    for atom in itertools.islice(instances(file, atom_of(literal)), MOST_ALONE):
+        yield replace(file, goal=(('k', ('not', atom) if literal[0] == 'not' else atom),))
 
 
 def queries_out(file: File) -> Iterator[Change]:
@@ -311,13 +328,25 @@ def replaced(expression: Expression, words: Dict[str, Expression]) -> Expression
 # Senses
 
 def found_out(file: File) -> Iterator[Change]:
-    """Of each fact and value that is asked for, that no action changes and that none finds out: an action that does."""
+    """Of each fact and value that is asked for, that none makes so and none finds out: an action that finds it out."""
     for head in dict.fromkeys(asked_heads(file)):
-        if head not in found_heads(file) | sensed_heads(file) | changed_heads(file) and not is_settled(file, head):
+        is_changed = head in changed_heads(file)
+        if head not in found_heads(file) | sensed_heads(file) and not (is_changed and is_made(file, head)) \
+                and not is_settled(file, head):
             look, what = finder(file, head), 'its value' if head in file.results else 'whether it is so'
             yield Change(Rank.FIND_OUT, replace(file, actions=(*file.actions, look)),
                          'add an action that finds it out, such as', (written(look.expression()),),
-                         f'`{head}` is asked for, no action changes it, and none finds out {what}.')
+                         f'`{head}` is asked for, no action {"makes it so" if is_changed else "changes it"}, and none '
+                         f'finds out {what}.')
+
+
+def is_made(file: File, head: str) -> bool:
+    """Whether some action makes a fact of this predicate be as a precondition asks for it, or assigns a value."""
+    effects = [target(effect) for action in file.actions for effect in action.effects]
+    made = {effect[0] == 'set' for effect in effects if effect[1][0] == head}
+    asked = {query[1][0] != 'not' for action in file.actions for query in action.pre
+             if query[0] == 'k' and atom_of(query[1])[0] == head}
+    return head in file.results or not asked or bool(made & asked)
 
 
 def found_heads(file: File) -> Set[str]:
@@ -400,8 +429,10 @@ def contraries(file: File) -> Iterator[Change]:
         contrary = ('kf', negated(item[1]))
         if contrary[1] not in goal:
             changed = replace(file, init=tuple(contrary if own == item else own for own in file.init))
-            yield Change(Rank.CONTRARY, changed, f'in `init` write, in place of {written(item)},', (written(contrary),),
-                         '`init` says what keeps the goal from being had; it may be that it isn\'t so.')
+            second = second_place(file, contrary)
+            yield Change(Rank.START_LATE if second else Rank.CONTRARY, changed,
+                         f'in `init` write, in place of {written(item)},', (written(contrary),),
+                         second or '`init` says what keeps the goal from being had; it may be that it isn\'t so.')
 
 
 def starts(file: File) -> Iterator[Change]:
@@ -652,8 +683,10 @@ def items_for(file: File, literal: Expression) -> Iterator[Tuple[int, Expression
         yield 1, ('kw', each)
     for each in grounded:
         yield (0 if is_negative or len(grounded) < 9 else 2), ('kf', ('not', each) if is_negative else each)
-    if limits.GROUP_LEAST <= len(grounded) <= limits.GROUP:
-        yield 3, ('kx', *grounded)
+    known = {item[1] for item in file.init if item[0] == 'kf'}
+    left = [each for each in grounded if not {each, negated(each)} & known]
+    if limits.GROUP_LEAST <= len(left) <= limits.GROUP and not known & set(grounded):
+        yield 3, ('kx', *left)
 
 
 def values_for(file: File, term: List_) -> Iterator[Tuple[int, Expression]]:

@@ -187,6 +187,8 @@ class Tree:
         self.lines += [f'{indent}{line}' for line in start]
         if not found and not start:
             self.lines.append(f'{indent}No add, no sense, no effect and no item of `init` is about it.')
+        elif not found:
+            self.lines.append(f'{indent}No add, no sense and no effect is about it.')
         for maker in found:
             self.put_maker(maker, query, level)
 
@@ -233,16 +235,24 @@ class Tree:
 
     def put_lacking(self, maker: Maker, level: int) -> None:
         """Adds which queries of an action aren't answered, each by asking without it, and what would make it so."""
+        lacking = []
         for query in maker.action.pre:
             others = tuple(other for other in maker.action.pre if other != query)
             if self.asking.left() < 1:
                 return
-            if self.can_be_done(maker, others).depth is None:
-                continue
-            lacking = put_in(query, dict(maker.given))
-            self.lines.append(f'{"    " * level}  It lacks {written(lacking)}: without that it could.')
-            if level + 1 < LEVELS and lacking[0] in ('k', 'kw', 'kv'):
-                self.put(lacking, level + 1)
+            if self.can_be_done(maker, others).depth is not None:
+                lacking.append(query)
+                self.put_query(maker, query, level, 'It lacks {}: without that it could.')
+        for query in maker.action.pre if not lacking and len(maker.action.pre) > 1 else ():
+            if self.asking.left() > 1 and self.can_be_done(maker, (query,)).is_none:
+                self.put_query(maker, query, level, f'No plan to depth {self.depth - 1} leads to {{}} by itself.')
+
+    def put_query(self, maker: Maker, query: Expression, level: int, said: str) -> None:
+        """Adds a sentence on a query of an action, and what would make it answered."""
+        asked = put_in(query, dict(maker.given))
+        self.lines.append(f'{"    " * level}  {said.format(written(asked))}')
+        if level + 1 < LEVELS and asked[0] in ('k', 'kw', 'kv'):
+            self.put(asked, level + 1)
 
     def can_be_done(self, maker: Maker, pre: List_) -> Outcome:
         """Whether an action can be done, with these terms and this precondition; the depth counts it too."""

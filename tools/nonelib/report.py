@@ -74,8 +74,8 @@ def deeper(found: Found) -> str:
 MOST_SHOWN, MOST_ALIKE = 6, 2
 """The most entries, and the most of one cause."""
 
-SINGLE = {Rank.TOLD_TOGETHER: Rank.TOLD, Rank.TOLD_APART: Rank.TOLD, Rank.OTHER_WAYS: Rank.OTHER_WAY,
-          Rank.SIDES: Rank.START}
+SINGLE = {Rank.TOLD_TOGETHER: {Rank.TOLD}, Rank.TOLD_APART: {Rank.TOLD}, Rank.SIDES: {Rank.START},
+          Rank.OTHER_WAYS: {Rank.SWAPPED, Rank.OTHER_WAY}, Rank.MAKE_LATE: {Rank.FIND_OUT}}
 """Of some changes those that say less: where one of these does, the others aren't said."""
 
 
@@ -86,7 +86,7 @@ def told(found: Found, depth: int) -> List[List[str]]:
     cured = {change.rank for change in found.cures()}
     parts = {} if found.cures() else found.parts
     for change, outcome in sorted(found.outcomes.items(), key=lambda pair: (pair[0] not in parts, place(*pair))):
-        if SINGLE.get(change.rank) in cured:
+        if SINGLE.get(change.rank, set()) & cured:
             continue
         if said.count(change.why) == MOST_ALIKE or len(entries) == MOST_SHOWN:
             continue

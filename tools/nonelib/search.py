@@ -7,7 +7,7 @@ from typing import Dict, Iterator, List, Optional, Sequence, Set, Tuple
 from asklib.files import File
 from pkslib import limits, written
 
-from . import cases, changes, makers, traps
+from . import cases, changes, made, makers, swapped, traps
 from .changes import Change, Rank
 from .goals import Goals, alone, look_at
 from .parts import Helped, Part, helped, parts
@@ -31,6 +31,9 @@ LONGER = 8
 
 ASKED_DEEPER = (Rank.TOLD_TOGETHER, Rank.OTHER_WAY, Rank.FIND_OUT)
 """What a file lacks, and with what a plan may take more steps than were asked for."""
+
+LATER = {Rank.CASE: Rank.START_LATE, Rank.SIGN: Rank.SIGN_SENSED}
+"""Where a cause isn't the one that was taken for it, how late it is said."""
 
 MOST_FOUND = 8
 """So many changes with a plan are enough."""
@@ -79,10 +82,12 @@ class Search:
         yield from changes.guards(self.file)
         yield from changes.signs(self.file)
         yield from changes.values_before(self.file)
+        yield from swapped.swapped(self.file)
         yield from changes.ways_back(self.file)
         yield from cases.outside_groups(self.file)
         yield from changes.found_out(self.file)
         yield from cases.without_action(self.file)
+        yield from made.unmade(self.file)
         yield from changes.starts(self.file)
         yield from changes.contraries(self.file)
         yield from cases.without_sides(self.file)
@@ -174,14 +179,13 @@ class Search:
             self.collect(found, *task)
 
     def ask_cases(self, found: Found) -> None:
-        """Asks whether the cases that a change with a plan rules out have none; else its other cause is named."""
+        """Asks whether the cases of a change that has a plan have none; else its other cause is named."""
         seconds = seconds_for(Rank.SIGN, 0, self.asking.seconds)
         judged: Dict[Change, Outcome] = {}
         for change, outcome in found.outcomes.items():
             if change.cases and outcome.depth is not None \
                     and not all(self.asking.ask(case, self.depth, seconds).is_none for case in change.cases):
-                rank = Rank.START_LATE if change.rank == Rank.CASE else change.rank
-                change = replace(change, rank=rank, why=change.otherwise)
+                change = replace(change, rank=LATER.get(change.rank, change.rank), why=change.otherwise)
             judged[change] = outcome
         found.outcomes = judged
 

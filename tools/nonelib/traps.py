@@ -8,14 +8,15 @@ from asklib.files import OVER_TIME, Action, File, List_, atom_of, negated, words
 from pkslib import Expression, limits, written
 from whylib import uncounted
 
-from . import cases, makers
+from . import cases, made, makers
 from .changes import Change, Rank, changed_heads, item_of, needed, target, texts
 
 
 def traps(file: File) -> Iterator[Change]:
     """All traps that stand in a file."""
-    for trap in (add_never_counts, always_at_start, not_so_at_start, look_without_branch, last_of_group,
-                 whether_for_known, type_too_narrow, cases_apart, fewer_values, nested_value, may_be_spoiled):
+    for trap in (add_never_counts, always_at_start, always_kept, not_so_at_start, unknown_at_start, look_without_branch,
+                 last_of_group, whether_for_known, type_too_narrow, cases_apart, fewer_values, nested_value,
+                 may_be_spoiled):
         yield from trap(file)
 
 
@@ -52,6 +53,27 @@ def always_at_start(file: File) -> Iterator[Change]:
             item = ('kf', query[1])
             yield Change(Rank.ALWAYS_AT_START, file.with_init(item), 'in `init` add', (written(item),),
                          f'{written(aim)} asks for every moment, and at the first one it isn\'t known.')
+
+
+def always_kept(file: File) -> Iterator[Change]:
+    """An `always` that an action makes otherwise: the same asked of the end."""
+    for at, aim, query in aims(file, 'always'):
+        if query[0] != 'k':
+            continue
+        against = made.makes(file, negated(query[1]))
+        if against:
+            yield Change(Rank.ALWAYS_KEPT, with_aim(file, at, query), 'for its being so at the end, ask for',
+                         (written(query),),
+                         f'{written(aim)} asks for every moment, and `{against[0]}` makes it otherwise.')
+
+
+def unknown_at_start(file: File) -> Iterator[Change]:
+    """`at-start` of what the start says nothing of: a fact more there."""
+    for _, aim, query in aims(file, 'at-start'):
+        if query[0] == 'k' and not {('kf', query[1]), ('kf', negated(query[1]))} & set(file.init):
+            item = ('kf', query[1])
+            yield Change(Rank.UNKNOWN_AT_START, file.with_init(item), 'in `init` add', (written(item),),
+                         f'{written(aim)} asks what was so at the start, and `init` doesn\'t say it.')
 
 
 def not_so_at_start(file: File) -> Iterator[Change]:
