@@ -300,7 +300,10 @@ class Patient:
 
     def near_form(self, form: Form) -> Iterator[Cure]:
         """A form that is near to the wrong one."""
-        role = grammar.role_of_list(form)
+        role, whole = grammar.role_of_list(form), form if form.is_list() else form.parent
+        literal = self.names.bare(whole) if whole is not None else None
+        if whole is not None and literal:
+            yield self.instead(whole, f'({whole.head()} {literal})')
         if role in ('literals', 'queries'):
             yield self.instead(form, f'({form.text()})')
         if role == 'value' and form.parts and form.parts[0].word:

@@ -7,6 +7,10 @@ from typing import Dict, Iterable, Iterator, List, Optional, Tuple
 from pkslib import Form, Text
 
 
+OF_LITERALS = ('k', 'kf', 'kw', 'sense', 'set', 'unset', 'not')
+"""The heads of lists in which a literal stands."""
+
+
 class Names:
     """The declarations of a domain, as far as they can be read."""
 
@@ -41,6 +45,18 @@ class Names:
                 self.predicates.setdefault(words[0], words[1:])
             elif head == 'functions':
                 self.functions.setdefault(words[0], (words[1:-1], words[-1]))
+
+    def bare(self, form: Form) -> Optional[str]:
+        """The literal whose parts stand in a list without parentheses of their own, or None."""
+        head, words = form.head(), [part.word or '' for part in form.rest()]
+        if head not in OF_LITERALS or len(words) < 2 or not all(words):
+            return None
+        name, terms = words[0], words[1:]
+        if len(self.predicates.get(name, [])) == len(terms):
+            return f'({" ".join(words)})'
+        if name in self.functions and len(self.functions[name][0]) == len(terms) - 1 and head not in ('set', 'unset'):
+            return f'(= ({" ".join(words[:-1])}) {words[-1]})'
+        return None
 
     def section(self, form: Optional[Form], head: str) -> List[Form]:
         """The parts of a section of a domain, an action, a problem or a world."""

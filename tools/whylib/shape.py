@@ -80,7 +80,8 @@ def shape(text: Text, form: Optional[Form], names: Names) -> List[str]:
     hint = grammar.version_hint(form, names.version)
     if hint:
         return [hint]
-    parts = wrong_number(form)
+    parts = bare_hint(form, names) if form.is_list() else None
+    parts = parts or wrong_number(form)
     if parts:
         return parts
     said = specific(form, names) or []
@@ -166,7 +167,7 @@ def specific(form: Form, names: Names) -> Optional[List[str]]:
     heads = grammar.allowed(kind)
     if heads and head:
         return swapped(form, kind) or belongs(head, heads, kind) or looks_like(form, kind, heads, names)
-    return literal_hint(form, kind, names) or word_hint(form, kind) or list_hint(form, kind)
+    return bare_hint(form, names) or literal_hint(form, kind, names) or word_hint(form, kind) or list_hint(form, kind)
 
 
 def foreign(form: Form) -> List[str]:
@@ -247,6 +248,13 @@ def swapped(form: Form, kind: str) -> Optional[List[str]]:
     why = ('`k` asks whether something is known, `kf` tells that it is.'
            if kind != 'sense' else 'a sense finds out, and `knows` tells of it.')
     return [f'Here it is `({own} {inner})`: {why}']
+
+
+def bare_hint(form: Form, names: Names) -> Optional[List[str]]:
+    """Where a literal lacks its parentheses within the list in which it stands."""
+    around = form if form.is_list() else form.parent
+    literal = names.bare(around) if around is not None else None
+    return [f'The literal needs parentheses of its own: `({around.head()} {literal})`.'] if literal else None
 
 
 def literal_hint(form: Form, kind: Optional[str], names: Names) -> Optional[List[str]]:
