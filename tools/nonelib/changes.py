@@ -511,7 +511,7 @@ def others(file: File, fact: Expression) -> List_:
 def is_side(file: File, atom: List_) -> bool:
     """Whether it will be found out whether a fact is so, and no group and no action says more of it."""
     grouped = {atom_of(member) for item in file.init if item[0] == 'kx' for member in item[1:]}
-    is_found = atom[0] != '=' and (atom[0] in found_heads(file) or ('kw', atom) in file.init)
+    is_found = atom[0] != '=' and (atom[0] in found_heads(file) & sensed_heads(file) or ('kw', atom) in file.init)
     return is_found and atom not in grouped and (len(atom) == 1 or atom[0] not in changed_heads(file))
 
 

@@ -1,0 +1,10 @@
+; Whether the dish is bad is known after frying only where it was known before; at the start it isn't.
+(pks 1)
+(domain (types food) (objects (food egg ham)) (predicates (spoiled food) (fried food) (dish-bad) (served))
+  (action smell (params (?f food)) (pre (not-derived (kw (spoiled ?f))))
+    (senses (sense (spoiled ?f))) (knows (kw (spoiled ?f))))
+  (action fry (params (?f food)) (effects (when ((spoiled ?f)) (set (dish-bad))) (set (fried ?f)))
+    (knows (kf (fried ?f)) (if ((k (spoiled ?f))) (kf (dish-bad)))
+      (if ((kw (spoiled ?f)) (kw (dish-bad))) (kw (dish-bad)))))
+  (action serve (params (?f food)) (pre (k (fried ?f)) (k (not (dish-bad)))) (effects (set (served))) (knows (kf (served)))))
+(problem (init (kf (not (spoiled ham)))) (goal (k (served))))
