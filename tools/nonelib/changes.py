@@ -341,12 +341,11 @@ def found_out(file: File) -> Iterator[Change]:
 
 
 def is_made(file: File, head: str) -> bool:
-    """Whether some action makes a fact of this predicate be as a precondition asks for it, or assigns a value."""
-    effects = [target(effect) for action in file.actions for effect in action.effects]
-    made = {effect[0] == 'set' for effect in effects if effect[1][0] == head}
-    asked = {query[1][0] != 'not' for action in file.actions for query in action.pre
-             if query[0] == 'k' and atom_of(query[1])[0] == head}
-    return head in file.results or not asked or bool(made & asked)
+    """Whether some action makes a fact of this predicate so, or no precondition asks for one; of a function, always."""
+    is_set = any(effect[0] == 'set' and effect[1][0] == head
+                 for action in file.actions for effect in map(target, action.effects))
+    is_asked = any(query[0] == 'k' and query[1][0] == head for action in file.actions for query in action.pre)
+    return head in file.results or is_set or not is_asked
 
 
 def found_heads(file: File) -> Set[str]:
