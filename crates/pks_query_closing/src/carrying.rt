@@ -12,7 +12,7 @@ ghost use Rattle.pks_query_lookup.specs.Fives.{five_of};
 ghost use Rattle.pks_query_closing.specs.Working.{GrowsTo};
 ghost use Rattle.pks_query_closing.specs.Carrying.{Lists, Puts, Carries, GoesOn, IsReached, Starts};
 
-use crate::standing::{Standing, denied_place, valued_place};
+use crate::standing::{Standing, different_terms, valued_place};
 use crate::steps::put_by_value;
 use crate::touched::Touched;
 use pks_kf::Kf;
@@ -76,6 +76,7 @@ impl Carrying {
         self.touched.find(
             alloc,
             &self.standing,
+            self.listed.as_slice(),
             self.groups.as_slice(),
             &self.five.lcw,
         )?;
@@ -232,15 +233,12 @@ impl Carrying {
         Ok(())
     }
 
-    /// Lets the groups wait that the literal touches.
-    fn touch(&mut self, alloc: Global, l: &Literal) -> Result<(), AllocError>
+    /// Lets the groups wait that the literal of this number touches.
+    fn touch(&mut self, alloc: Global, l: &Literal, k: usize) -> Result<(), AllocError>
         ensures { OnOk result (Lists [] self.old self.new) }
     {
-        self.touched.touch(alloc, l)?;
-        if let Some(place) = valued_place(l) {
-            self.touched
-                .touch_place(alloc, &self.standing, self.groups.as_slice(), &place)?;
-        }
+        self.touched
+            .touch(alloc, &self.standing, self.groups.as_slice(), l, k)?;
         Ok(())
     }
 
@@ -255,7 +253,7 @@ impl Carrying {
         self.put_own_forms_in(alloc, &l)?;
         self.put_forms_by(alloc, &l)?;
         self.put_range_in(alloc, s, &l)?;
-        self.touch(alloc, &l)?;
+        self.touch(alloc, &l, k)?;
         Ok(())
     }
 
@@ -318,7 +316,7 @@ fn is_old(old: &Derived, l: &Literal) -> bool {
 
 /// Whether the literal gives or denies a value, or has other forms by the values of the old databases.
 fn may_bring_more(old: &Derived, l: &Literal) -> bool {
-    gives_value(l) || denied_place(l).is_some() || old.normals().normal_literal(l) != *l
+    gives_value(l) || different_terms(l).is_some() || old.normals().normal_literal(l) != *l
 }
 
 /// Whether some of the literals may bring more by values, and the old databases don't have it.

@@ -1,21 +1,13 @@
-//! Numbers that are found by places and by atoms.
+//! Numbers that are found by keys.
 ghost use Rattle.std.specs.Prelude.{◌≤◌, length, IfSome};
 
-use pks_terms::literal::Literal;
-use pks_terms::term::Inner;
 use std::alloc::{AllocError, Global};
 use std::collections::BTreeMap;
 
-/// For each place numbers that were put there.
+/// For each key the numbers that were put there, in order and each once.
 #[derive(Drop)]
-pub(crate) struct AtPlaces {
-    at: BTreeMap<Inner, Vec<usize>>,
-}
-
-/// For each atom numbers that were put there.
-#[derive(Drop)]
-pub(crate) struct AtAtoms {
-    at: BTreeMap<Literal, Vec<usize>>,
+pub(crate) struct Numbers<K: Ord> {
+    at: BTreeMap<K, Vec<usize>>,
 }
 
 /// The numbers that were found, or none.
@@ -27,7 +19,7 @@ fn or_none(alloc: Global, found: Option<Vec<usize>>) -> Vec<usize> {
 }
 
 /// Where the number is to be put so that the others stay in order, or `None` where it is one of them.
-fn place_of(numbers: &[usize], k: usize) -> Option<usize>
+fn insertion_point(numbers: &[usize], k: usize) -> Option<usize>
     ensures { IfSome result (λ i. i ≤ length numbers.now) }
 {
     match numbers.last() {
@@ -50,53 +42,45 @@ fn place_of(numbers: &[usize], k: usize) -> Option<usize>
 }
 
 /// Puts the number among the others, in order and once.
-fn put(numbers: &mut Vec<usize>, k: usize) -> Result<(), AllocError> {
-    if let Some(i) = place_of(numbers.as_slice(), k) {
+fn put_in_order(numbers: &mut Vec<usize>, k: usize) -> Result<(), AllocError> {
+    if let Some(i) = insertion_point(numbers.as_slice(), k) {
         numbers.insert(i, k)?;
     }
     Ok(())
 }
 
-/// The literal affirmed.
-fn atom(l: &Literal) -> Literal {
-    Literal {
-        atom: l.atom,
-        positive: true,
-    }
-}
-
-impl AtPlaces {
+impl<K: Ord + Copy + Drop> Numbers<K> {
     /// None. It takes no memory.
-    pub(crate) fn new(alloc: Global) -> AtPlaces {
-        AtPlaces {
+    pub(crate) fn new(alloc: Global) -> Numbers<K> {
+        Numbers {
             at: BTreeMap::new(alloc),
         }
     }
 
-    /// Puts the number at the place. The error is want of memory.
-    pub(crate) fn put(&mut self, alloc: Global, place: &Inner, k: usize) -> Result<(), AllocError> {
-        let mut numbers = or_none(alloc, self.at.remove(place));
-        put(&mut numbers, k)?;
-        self.at.insert(*place, numbers)?;
+    /// Puts the number at the key. The error is want of memory.
+    pub(crate) fn put(&mut self, alloc: Global, key: &K, k: usize) -> Result<(), AllocError> {
+        let mut numbers = or_none(alloc, self.at.remove(key));
+        put_in_order(&mut numbers, k)?;
+        self.at.insert(*key, numbers)?;
         Ok(())
     }
 
-    /// Puts the number at each of the places. The error is want of memory.
+    /// Puts the number at each of the keys. The error is want of memory.
     pub(crate) fn put_at_all(
         &mut self,
         alloc: Global,
-        places: &[Inner],
+        keys: &[K],
         k: usize,
     ) -> Result<(), AllocError> {
-        for place in places {
-            self.put(alloc, place, k)?;
+        for key in keys {
+            self.put(alloc, key, k)?;
         }
         Ok(())
     }
 
-    /// The numbers at the place. The error is want of memory.
-    pub(crate) fn at(&self, alloc: Global, place: &Inner) -> Result<Vec<usize>, AllocError> {
-        match self.at.get(place) {
+    /// The numbers at the key. The error is want of memory.
+    pub(crate) fn at(&self, alloc: Global, key: &K) -> Result<Vec<usize>, AllocError> {
+        match self.at.get(key) {
             None => Ok(Vec::new(alloc)),
             Some(numbers) => {
                 let same = Vec::from_slice(alloc, numbers.as_slice())?;
@@ -105,40 +89,11 @@ impl AtPlaces {
         }
     }
 
-    /// How many numbers are at the place. It takes no memory.
-    pub(crate) fn count(&self, place: &Inner) -> usize {
-        match self.at.get(place) {
+    /// How many numbers are at the key. It takes no memory.
+    pub(crate) fn count(&self, key: &K) -> usize {
+        match self.at.get(key) {
             None => 0,
             Some(numbers) => numbers.len(),
-        }
-    }
-}
-
-impl AtAtoms {
-    /// None. It takes no memory.
-    pub(crate) fn new(alloc: Global) -> AtAtoms {
-        AtAtoms {
-            at: BTreeMap::new(alloc),
-        }
-    }
-
-    /// Puts the number at the literal's atom. The error is want of memory.
-    pub(crate) fn put(&mut self, alloc: Global, l: &Literal, k: usize) -> Result<(), AllocError> {
-        let key = atom(l);
-        let mut numbers = or_none(alloc, self.at.remove(&key));
-        put(&mut numbers, k)?;
-        self.at.insert(key, numbers)?;
-        Ok(())
-    }
-
-    /// The numbers at the literal's atom. The error is want of memory.
-    pub(crate) fn at(&self, alloc: Global, l: &Literal) -> Result<Vec<usize>, AllocError> {
-        match self.at.get(&atom(l)) {
-            None => Ok(Vec::new(alloc)),
-            Some(numbers) => {
-                let same = Vec::from_slice(alloc, numbers.as_slice())?;
-                Ok(same)
-            }
         }
     }
 }

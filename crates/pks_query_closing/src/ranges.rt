@@ -194,7 +194,7 @@ fn put_of_term(to: &mut Vec<Term>, t: &Term) -> Result<(), AllocError>
 }
 
 #[tactic(auto, using(crate::proofs::Lists::read))]
-fn put_of_terms(to: &mut Vec<Term>, terms: &[Term]) -> Result<(), AllocError>
+pub(crate) fn put_of_terms(to: &mut Vec<Term>, terms: &[Term]) -> Result<(), AllocError>
     ensures { OnOk result (terms_of to.new.items ≡ terms_of to.old.items ++ flat_map applications_in (terms_of terms.now)) }
 {
     for t in terms {

@@ -3,44 +3,22 @@ ghost use Rattle.std.specs.Prelude.{◌≡◌, ◌≤◌, List, [], ◌∷◌, �
 ghost use Rattle.pks_terms.specs.Sets.{IsIn, added};
 ghost use Rattle.pks_terms.specs.Saturated.{Within};
 ghost use Rattle.pks_terms.specs.Orders.{literal_cmp};
-ghost use Rattle.pks_terms.specs.Views.{literal_of, term_of, signature_of};
+ghost use Rattle.pks_terms.specs.Views.{literal_of, term_of, terms_of, signature_of};
 ghost use Rattle.pks_kf.specs.Known.{literals_of};
 ghost use Rattle.pks_query_lookup.specs.Fives.{five_of};
 ghost use Rattle.pks_query_closing.specs.Carrying.{GoesOn, GivesBy, IsAmong};
 
 use crate::carrying::Carrying;
 use crate::groups::put_by_group;
-use crate::ranges::put_by_range;
-use crate::standing::denied_place;
+use crate::ranges::{put_by_range, put_of_terms};
 use pks_kf::Kf;
 use pks_query_lookup::derived::Derived;
 use pks_query_lookup::ranges::range_of;
-use pks_terms::literal::{Atom, Literal};
+use pks_terms::literal::Literal;
 use pks_terms::problem::Signature;
-use pks_terms::term::{Inner, Term};
+use pks_terms::term::Term;
 use std::alloc::{AllocError, Global};
 use std::mem::drop;
-
-/// The place of which the literal denies a value, and the application that it is.
-fn denied_application(l: &Literal) -> Option<(Inner, Term)>
-    ensures { IfSome result (λ p. IsAmong (term_of p.1) (literal_of l.now)) }
-{
-    let place = denied_place(l)?;
-    match &l.atom {
-        Atom::Eq {
-            left: Term::App { fun, n, args },
-            ..
-        } => Some((
-            place,
-            Term::App {
-                fun: *fun,
-                n: *n,
-                args: *args,
-            },
-        )),
-        _ => None,
-    }
-}
 
 impl Carrying {
     /// The databases with these literals alone as the known ones.
@@ -134,21 +112,15 @@ impl Carrying {
         Ok(())
     }
 
-    /// Whether the place, which is this term, has no value and all that it may have, but one at most, are denied.
-    fn may_be_last(
-        &self,
-        alloc: Global,
-        s: &Signature,
-        place: &Inner,
-        t: &Term,
-    ) -> Result<bool, AllocError>
+    /// Whether the application has no value, and all that it may be but one at most are denied.
+    fn may_be_last(&self, alloc: Global, s: &Signature, t: &Term) -> Result<bool, AllocError>
         requires { length s.now.objects ≤ 65536 }
     {
-        if self.standing.has_value(place) {
+        if self.standing.has_value(t) {
             return Ok(false);
         }
         let range = range_of(alloc, s, t)?;
-        Ok(self.standing.count_denials(place).saturating_add(1) >= range.len())
+        Ok(self.standing.count_denials(t).saturating_add(1) >= range.len())
     }
 
     /// What the range of the term gives, by the known literals of these numbers, and this one.
@@ -174,7 +146,44 @@ impl Carrying {
         Ok(more)
     }
 
-    /// Where the literal denies a place a value, puts in what the place's range gives.
+    /// The first of these applications that may be last, if there is one.
+    fn first_last(
+        &self,
+        alloc: Global,
+        s: &Signature,
+        terms: &[Term],
+    ) -> Result<Option<Term>, AllocError>
+        requires { length s.now.objects ≤ 65536 }
+        ensures { IfOk result (λ o. IfSome o (λ t. IsIn (term_of t) (terms_of terms.now))) }
+    {
+        for k in 0..terms.len() {
+            let Some(t) = terms.get(k) else {
+                return Ok(None);
+            };
+            if self.may_be_last(alloc, s, t)? {
+                return Ok(Some(*t));
+            }
+        }
+        Ok(None)
+    }
+
+    /// The first application in the literal that may be last, if there is one.
+    fn last_within(
+        &self,
+        alloc: Global,
+        s: &Signature,
+        l: &Literal,
+    ) -> Result<Option<Term>, AllocError>
+        requires { length s.now.objects ≤ 65536 }
+        ensures { IfOk result (λ o. IfSome o (λ t. IsAmong (term_of t) (literal_of l.now))) }
+    {
+        let mut applications = Vec::new(alloc);
+        put_of_terms(&mut applications, l.atom.arguments().terms())?;
+        let first = self.first_last(alloc, s, applications.as_slice())?;
+        Ok(first)
+    }
+
+    /// Where an application in the literal has no value and one object at most is left for it, puts in what its range gives.
     pub(crate) fn put_range_in(
         &mut self,
         alloc: Global,
@@ -184,13 +193,10 @@ impl Carrying {
         requires { length s.now.objects ≤ 65536 }
         ensures { OnOk result (IsIn (literal_of l.now) (literals_of self.old.listed.items) → GoesOn (signature_of s.now) self.old self.new) }
     {
-        let Some((place, t)) = denied_application(l) else {
+        let Some(t) = self.last_within(alloc, s, l)? else {
             return Ok(());
         };
-        if !self.may_be_last(alloc, s, &place, &t)? {
-            return Ok(());
-        }
-        let numbers = self.standing.denials(alloc, &place)?;
+        let numbers = self.standing.denials(alloc, &t)?;
         let more = self.given_by_range(alloc, s, numbers.as_slice(), l, &t)?;
         self.put_all_in(alloc, more.as_slice())?;
         Ok(())

@@ -1,41 +1,45 @@
 //! Where among listed literals places stand, and which of these give their values.
 
-use crate::numbers::AtPlaces;
+use crate::numbers::Numbers;
 use pks_query_lookup::normals::objects;
-use pks_terms::ids::{FnId, ObjId};
+use pks_terms::ids::ObjId;
 use pks_terms::literal::{Arguments, Atom, Literal};
 use pks_terms::term::{Inner, Term, front};
 use std::alloc::{AllocError, Global};
 use std::collections::BTreeMap;
 
-/// For each place the numbers of the literals in which it stands, of those that deny it a value, and of one that gives its
-/// value.
+/// For each place the numbers of the literals in which it stands, and of one that gives its value; and for each application
+/// the numbers of those that deny it a value.
 #[derive(Drop)]
 pub(crate) struct Standing {
-    numbers: AtPlaces,
-    denials: AtPlaces,
+    numbers: Numbers<Inner>,
+    denials: Numbers<Term>,
     values: BTreeMap<Inner, (usize, ObjId)>,
     clashes: bool,
 }
 
-/// The place of a function at objects.
-fn place(fun: FnId, n: u8, args: &[ObjId; 2]) -> Inner {
-    Inner::App {
-        fun,
-        n,
-        args: *args,
-    }
+/// The place that the term is, or `None` where it is no function at objects. It takes no memory.
+fn as_place(t: &Term) -> Option<Inner> {
+    let Term::App { fun, n, args } = t else {
+        return None;
+    };
+    let args = objects(*n, args)?;
+    Some(Inner::App {
+        fun: *fun,
+        n: *n,
+        args,
+    })
 }
 
-/// The place that an equation or its negation puts beside an object. It takes no memory.
-pub(crate) fn equated_place(l: &Literal) -> Option<(Inner, ObjId)> {
+/// The place of which the literal gives the value, and that value. It takes no memory.
+fn told_value(l: &Literal) -> Option<(Inner, ObjId)> {
     match &l.atom {
         Atom::Eq {
-            left: Term::App { fun, n, args },
+            left,
             right: Term::Obj(d),
-        } => {
-            let own = objects(*n, args)?;
-            Some((place(*fun, *n, &own), *d))
+        } if l.positive => {
+            let place = as_place(left)?;
+            Some((place, *d))
         }
         _ => None,
     }
@@ -43,20 +47,16 @@ pub(crate) fn equated_place(l: &Literal) -> Option<(Inner, ObjId)> {
 
 /// The place of which the literal gives the value. It takes no memory.
 pub(crate) fn valued_place(l: &Literal) -> Option<Inner> {
-    if !l.positive {
-        return None;
-    }
-    let (place, _) = equated_place(l)?;
+    let (place, _) = told_value(l)?;
     Some(place)
 }
 
-/// The place to which the literal denies a value. It takes no memory.
-pub(crate) fn denied_place(l: &Literal) -> Option<Inner> {
-    if l.positive {
-        return None;
+/// The terms that the literal says to be different. It takes no memory.
+pub(crate) fn different_terms(l: &Literal) -> Option<(Term, Term)> {
+    match &l.atom {
+        Atom::Eq { left, right } if !l.positive => Some((*left, *right)),
+        _ => None,
     }
-    let (place, _) = equated_place(l)?;
-    Some(place)
 }
 
 /// Puts the places among the arguments after the others.
@@ -69,20 +69,20 @@ fn put_places_among(to: &mut Vec<Inner>, args: &[Inner]) -> Result<(), AllocErro
     Ok(())
 }
 
-/// Puts the places in the term after the others. The error is want of memory.
-pub(crate) fn put_places_in(to: &mut Vec<Inner>, t: &Term) -> Result<(), AllocError> {
-    let Term::App { fun, n, args } = t else {
+/// Puts the places in the term after the others.
+fn put_places_in(to: &mut Vec<Inner>, t: &Term) -> Result<(), AllocError> {
+    let Term::App { n, args, .. } = t else {
         return Ok(());
     };
     put_places_among(to, front(args, *n))?;
-    if let Some(own) = objects(*n, args) {
-        to.push(place(*fun, *n, &own))?;
+    if let Some(place) = as_place(t) {
+        to.push(place)?;
     }
     Ok(())
 }
 
-/// The places in the literal. The error is want of memory.
-pub(crate) fn places_in(alloc: Global, l: &Literal) -> Result<Vec<Inner>, AllocError> {
+/// The places in the literal.
+fn places_in(alloc: Global, l: &Literal) -> Result<Vec<Inner>, AllocError> {
     let mut places = Vec::new(alloc);
     for t in l.atom.arguments().terms() {
         put_places_in(&mut places, t)?;
@@ -94,8 +94,8 @@ impl Standing {
     /// Of no literals. It takes no memory.
     pub(crate) fn new(alloc: Global) -> Standing {
         Standing {
-            numbers: AtPlaces::new(alloc),
-            denials: AtPlaces::new(alloc),
+            numbers: Numbers::new(alloc),
+            denials: Numbers::new(alloc),
             values: BTreeMap::new(alloc),
             clashes: false,
         }
@@ -110,12 +110,12 @@ impl Standing {
     pub(crate) fn put(&mut self, alloc: Global, l: &Literal, k: usize) -> Result<(), AllocError> {
         let places = places_in(alloc, l)?;
         self.numbers.put_at_all(alloc, places.as_slice(), k)?;
-        let Some((place, d)) = equated_place(l) else {
+        if let Some((t, Term::Obj(_))) = different_terms(l) {
+            return self.denials.put(alloc, &t, k);
+        }
+        let Some((place, d)) = told_value(l) else {
             return Ok(());
         };
-        if !l.positive {
-            return self.denials.put(alloc, &place, k);
-        }
         if self.values.insert(place, (k, d))?.is_some() {
             self.clashes = true;
         }
@@ -127,19 +127,22 @@ impl Standing {
         self.numbers.at(alloc, place)
     }
 
-    /// The numbers of the literals that deny the place a value. The error is want of memory.
-    pub(crate) fn denials(&self, alloc: Global, place: &Inner) -> Result<Vec<usize>, AllocError> {
-        self.denials.at(alloc, place)
+    /// The numbers of the literals that deny the application a value. The error is want of memory.
+    pub(crate) fn denials(&self, alloc: Global, t: &Term) -> Result<Vec<usize>, AllocError> {
+        self.denials.at(alloc, t)
     }
 
     /// How many these are. It takes no memory.
-    pub(crate) fn count_denials(&self, place: &Inner) -> usize {
-        self.denials.count(place)
+    pub(crate) fn count_denials(&self, t: &Term) -> usize {
+        self.denials.count(t)
     }
 
-    /// Whether the place has a value. It takes no memory.
-    pub(crate) fn has_value(&self, place: &Inner) -> bool {
-        self.values.get(place).is_some()
+    /// Whether the term is a place that has a value. It takes no memory.
+    pub(crate) fn has_value(&self, t: &Term) -> bool {
+        match as_place(t) {
+            Some(place) => self.values.get(&place).is_some(),
+            None => false,
+        }
     }
 
     /// The value of the place, the number of the literal that gives it being put after the others.
@@ -184,12 +187,13 @@ impl Standing {
             self.inner_form(&args[0], to)?,
             self.inner_form(&args[1], to)?,
         ];
-        if let Some(own) = objects(n, &args) {
-            if let Some(d) = self.value(&place(fun, n, &own), to)? {
+        let form = Term::App { fun, n, args };
+        if let Some(place) = as_place(&form) {
+            if let Some(d) = self.value(&place, to)? {
                 return Ok(Term::Obj(d));
             }
         }
-        Ok(Term::App { fun, n, args })
+        Ok(form)
     }
 
     /// The literal with each place replaced by its value, and the numbers of the literals that give these after the others.

@@ -94,12 +94,12 @@ fn triples_text(alloc: Global) -> Result<String, AllocError> {
 fn text_of(alloc: Global, chain: &Chain) -> Result<String, AllocError> {
     let mut text = String::from_str(
         alloc,
-        "(pks 2) (domain (types t v w) (objects (v y z) (w l m n) (t",
+        "(pks 2) (domain (types t u v w) (objects (u o) (v y z) (w l m n) (t",
     )?;
     for k in 0..64_u16 {
         text.push_str(&format!(in alloc; " c{k}")?)?;
     }
-    text.push_str(")) (predicates (p t t) (q t t v)) ")?;
+    text.push_str(")) (predicates (p t t) (q t t v) (r u t t) (s t t t)) ")?;
     text.push_str(chain.declared)?;
     text.push_str(") (problem (init ")?;
     text.push_str(chain.first)?;
@@ -247,6 +247,52 @@ const BY_FORMS_IN_GROUPS: &[Chain] = &[
     },
 ];
 
+/// Chains by applications for which one object is left: that of their type, or that of two which isn't denied.
+const BY_LAST_LEFT: &[Chain] = &[
+    Chain {
+        declared: "(functions (f t t u))",
+        first: "(kf (r (f c0 c0) c0 c0))",
+        links: 4_000,
+        link: &[(" (kx (not (r o ", 0), (")) (r (f ", 1), (") ", 1)],
+        end: "))",
+    },
+    Chain {
+        declared: "(functions (f t v) (g t t t))",
+        first: "(kf (not (= (f (g c0 c0)) y)))",
+        links: 4_000,
+        link: &[(" (kx (not (= (f (g ", 0), (")) z)) (not (= (f (g ", 1)],
+        end: ")) y)))",
+    },
+];
+
+/// Chains by atoms that a region shuts out, since a place in the one that it lists has another value, or not that one.
+const UNDER_A_REGION: &[Chain] = &[
+    Chain {
+        declared: "(functions (f t t t))",
+        first: "(lcw (s c1 _ _)) (kf (= (f c0 c0) c0))",
+        links: 3_800,
+        link: &[
+            (" (kf (s (f ", 0),
+            (") ", 0),
+            (")) (kx (s c1 ", 0),
+            (") (= (f ", 1),
+        ],
+        end: ") c0))",
+    },
+    Chain {
+        declared: "(functions (f t t t))",
+        first: "(lcw (s c1 _ _)) (kf (not (= (f c0 c0) c1)))",
+        links: 3_500,
+        link: &[
+            (" (kf (s (f ", 0),
+            (") ", 0),
+            (")) (kx (s c1 ", 0),
+            (") (not (= (f ", 1),
+        ],
+        end: ") c1)))",
+    },
+];
+
 // A place comes to have twelve values at once, and stands four times in each of the other literals.
 const OF_MANY_VALUES: Chain = Chain {
     declared: "(functions (g t) (f t t t) (h t t v))",
@@ -334,9 +380,19 @@ fn chains_by_forms_in_groups_are_closed_from_what_is_new(rt: HostRuntime) -> Res
 }
 
 #[test]
+fn chains_by_the_last_object_left_are_closed_from_what_is_new(rt: HostRuntime) -> Result<(), Fail> {
+    all_so(rt.alloc(), BY_LAST_LEFT)
+}
+
+#[test]
+fn chains_under_a_region_are_closed_from_what_is_new(rt: HostRuntime) -> Result<(), Fail> {
+    all_so(rt.alloc(), UNDER_A_REGION)
+}
+
+#[test]
 fn a_place_of_two_values_ends_closing_at_once(rt: HostRuntime) -> Result<(), Fail> {
     let text = text_of(rt.alloc(), &OF_MANY_VALUES)?;
-    assert!(rt; is_said(rt.alloc(), &text, "refused 1:388 270\n")?);
+    assert!(rt; is_said(rt.alloc(), &text, "refused 1:416 270\n")?);
     Ok(())
 }
 
