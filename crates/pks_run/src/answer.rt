@@ -17,6 +17,7 @@ use pks_run_answer::line::refusal_line;
 use pks_run_answer::reply::{Verdict, reply_about};
 use pks_run_words::Job;
 use std::alloc::{AllocError, Global};
+use std::mem::drop;
 
 // The status that says what a reply says of the job.
 fn status_for(verdict: Verdict) -> Status
@@ -95,6 +96,35 @@ fn about_file(
     Ok((status_for(verdict), text))
 }
 
+// An equal line.
+fn same_line(alloc: Global, line: &[u8]) -> Result<Vec<u8>, AllocError>
+    ensures { IfOk result (λ copy. copy.items ≡ line.now) }
+{
+    let copy = Vec::from_slice(alloc, line)?;
+    Ok(copy)
+}
+
+// The answer about a text of which it is known what it is as an input.
+fn about_input(
+    alloc: Global,
+    job: Job,
+    input: &[u8],
+    opened: &Opened<'_>,
+) -> Result<(Status, Vec<u8>), AllocError>
+    requires bounds { IsInBounds (job_of job) }
+    requires about { IsAbout (job_of job) input.now }
+    requires opens { OpensAs input.now opened.now }
+    ensures { IfOk result (λ a. (given : Text) → text_for (job_of job) given ≡ input.now → IsReplyTo (job_of job) given a.0 a.1.items) }
+{
+    match opened {
+        Opened::File(file) => about_file(alloc, job, input, file),
+        Opened::Refused(line) => {
+            let text = same_line(alloc, line.as_slice())?;
+            Ok((Status::Refused, text))
+        }
+    }
+}
+
 // The answer to a job about a text.
 pub fn answer(alloc: Global, job: Job, input: &[u8]) -> Result<(Status, Vec<u8>), AllocError>
     requires short { length input.now ≤ 262144 }
@@ -103,11 +133,7 @@ pub fn answer(alloc: Global, job: Job, input: &[u8]) -> Result<(Status, Vec<u8>)
     ensures { IfOk result (λ a. (given : Text) → text_for (job_of job) given ≡ input.now → IsReplyTo (job_of job) given a.0 a.1.items) }
 {
     let opened = open(alloc, input)?;
-    match opened {
-        Opened::File(file) => {
-            let answer = about_file(alloc, job, input, &file)?;
-            Ok(answer)
-        }
-        Opened::Refused(line) => Ok((Status::Refused, line)),
-    }
+    let answer = about_input(alloc, job, input, &opened);
+    drop(opened);
+    answer
 }

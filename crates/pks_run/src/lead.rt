@@ -14,6 +14,7 @@ ghost use Rattle.pks_reader.specs.Inputs.{Reads, IsRead};
 ghost use Rattle.pks_reader.specs.Views.{file_of, IsWhole};
 ghost use Rattle.pks_run.specs.Answer.{LeadsFront};
 ghost use Rattle.pks_run.specs.Leads.{HasCauses, line_refused, WritesRefusal, Concludes, Converses, Leads};
+ghost use Rattle.pks_run.specs.Opening.{OpensAs};
 ghost use Rattle.pks_run.specs.declared.status.Status.{Status};
 
 use crate::answer::{Opened, open, too_long};
@@ -138,6 +139,28 @@ fn lead_file<S: Source, K: Sink>(
     }
 }
 
+// Leads the caller through the best plan of a text of which it is known what it is as an input.
+fn lead_input<S: Source, K: Sink>(
+    alloc: Global,
+    opening: Opening<'_>,
+    opened: &Opened<'_>,
+    source: &mut S,
+    sink: &mut K,
+) -> Status
+    requires short { length opening.text.now ≤ 262144 }
+    requires depth { opening.depth ≤ 16 }
+    requires opens { OpensAs opening.text.now opened.now }
+    ensures told { (input : Text) → HasFile input (coming opening.entry.ahead (S.left source.old)) opening.entry.text.now → Converses opening.entry.depth input (K.written sink.old) (K.written sink.new) (S.left source.new) result }
+    ensures causes { HasCauses (S.faults source.old) (S.faults source.new) (K.faults sink.old) (K.faults sink.new) result }
+    ensures kind { result ≡ Status.Words → ⊥ }
+    ensures memory { result ≡ Status.Memory → sink.new ≡ sink.old }
+{
+    match opened {
+        Opened::File(f) => lead_file(alloc, opening, f, source, sink),
+        Opened::Refused(line) => send(sink, line.as_slice(), Status::Refused),
+    }
+}
+
 // Leads the caller through the best plan of the text.
 fn lead_text<S: Source, K: Sink>(
     alloc: Global,
@@ -155,11 +178,10 @@ fn lead_text<S: Source, K: Sink>(
     ensures memory { result ≡ Status.Memory → sink.new ≡ sink.old }
 {
     match open(alloc, text) {
-        Ok(Opened::File(f)) => {
+        Ok(opened) => {
             let opening = Opening { depth, text, ahead };
-            lead_file(alloc, opening, &f, source, sink)
+            lead_input(alloc, opening, &opened, source, sink)
         }
-        Ok(Opened::Refused(line)) => send(sink, &line, Status::Refused),
         Err(_) => Status::Memory,
     }
 }

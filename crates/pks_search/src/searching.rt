@@ -81,12 +81,29 @@ fn best_of_unmet(
     ensures { IfOk result (λ o. IsBest (problem_of p.now) depth (option_map tree_of o)) }
 {
     let h = History::start(alloc, start)?;
-    if !some_is_met(&p.signature, &h, p.goal.as_slice()) {
-        return best_of_all(alloc, p, &h, depth);
+    best_at_start(alloc, p, &h, depth)
+}
+
+/// The same from the history of the start alone.
+fn best_at_start(
+    alloc: Global,
+    p: &Problem<'_>,
+    h: &History,
+    depth: u8,
+) -> Result<Option<Tree>, AllocError>
+    requires valid { IsValidProblem p.now }
+    requires depth { depth ≤ 16 }
+    requires justified { unjustified (problem_of p.now) ≡ [] }
+    requires start { Closes (problem_of p.now).signature (initial (problem_of p.now)) (Next h.now.start) }
+    requires alone { h.now.steps ≡ [] }
+    ensures { IfOk result (λ o. IsBest (problem_of p.now) depth (option_map tree_of o)) }
+{
+    if !some_is_met(&p.signature, h, p.goal.as_slice()) {
+        return best_of_all(alloc, p, h, depth);
     }
-    let goal = unmet_aims(alloc, &p.signature, &h, p.goal.as_slice())?;
+    let goal = unmet_aims(alloc, &p.signature, h, p.goal.as_slice())?;
     let fewer = with_goal(alloc, p, goal)?;
-    best_of_all(alloc, &fewer, &h, depth)
+    best_of_all(alloc, &fewer, h, depth)
 }
 
 /// The same from the history of the start alone, with each aim of the problem.
