@@ -40,7 +40,7 @@ impl Learned {
     }
 
     /// Nothing but the ground actions, where they aren't too many. The error is want of memory.
-    pub(crate) fn nothing(alloc: Global, p: &Problem<'_>) -> Result<Learned, AllocError>
+    pub(crate) fn new(alloc: Global, p: &Problem<'_>) -> Result<Learned, AllocError>
         requires { IsValidProblem p.now }
         ensures { IfOk result (IsLearned (problem_of p.now)) }
     {

@@ -43,7 +43,7 @@ fn new_shelved<'s>(alloc: Global, problem: Problem<'s>) -> Result<Shelved<'s>, A
     ensures own { IfOk result (λ y. y.problem ≡ problem.entry) }
     ensures shelved { IfOk result (IsShelved (problem_of problem.entry)) }
 {
-    match Learned::nothing(alloc, &problem) {
+    match Learned::new(alloc, &problem) {
         Ok(learned) => Ok(Shelved { problem, learned }),
         Err(error) => {
             drop(problem);
@@ -52,8 +52,8 @@ fn new_shelved<'s>(alloc: Global, problem: Problem<'s>) -> Result<Shelved<'s>, A
     }
 }
 
-/// The place of the first one of these aims.
-fn place_of(shelf: &[Shelved<'_>], goal: &[Aim]) -> Option<usize>
+/// The position of the first one of these aims.
+fn position_with_aims(shelf: &[Shelved<'_>], goal: &[Aim]) -> Option<usize>
     ensures { IfSome result (HasAims (map aim_of goal.now) shelf.now) }
 {
     for n in 0..shelf.len() {
@@ -71,7 +71,7 @@ fn part<'s>(shelf: Vec<Shelved<'s>>, goal: &[Aim]) -> Parted<'s>
     ensures goal { IfSome result.found (λ y. map aim_of y.problem.goal ≡ map aim_of goal.now) }
 {
     let mut others = shelf;
-    match place_of(others.as_slice(), goal) {
+    match position_with_aims(others.as_slice(), goal) {
         Some(n) => {
             let own = others.remove(n);
             Parted {
@@ -87,7 +87,11 @@ fn part<'s>(shelf: Vec<Shelved<'s>>, goal: &[Aim]) -> Parted<'s>
 }
 
 /// One for the problem with these aims.
-fn make<'s>(alloc: Global, p: &Problem<'s>, goal: AimList) -> Result<Shelved<'s>, AllocError>
+fn new_with_goal<'s>(
+    alloc: Global,
+    p: &Problem<'s>,
+    goal: AimList,
+) -> Result<Shelved<'s>, AllocError>
     requires valid { IsValidProblem (with_goal p.now goal) }
     ensures own { IfOk result (λ y. problem_of y.problem ≡ problem_of (with_goal p.now goal)) }
     ensures shelved { IfOk result (IsShelved (problem_of p.now)) }
@@ -113,7 +117,7 @@ pub(crate) fn take<'s>(
     let Parted { found, others } = part(shelf, goal.as_slice());
     match found {
         Some(own) => Ok(Taken { own, others }),
-        None => match make(alloc, p, goal) {
+        None => match new_with_goal(alloc, p, goal) {
             Ok(own) => Ok(Taken { own, others }),
             Err(error) => {
                 drop(others);
