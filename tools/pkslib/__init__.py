@@ -5,6 +5,9 @@
     if tree is not None:
         print(tree.depth, tree.cost, len(tree.leaves))
 
+A text is what the file has, as bytes or `str`, and not its path. The folder `tools`, or `PREFIX/lib/pks/tools` where
+it is installed, has to be on `sys.path`.
+
 The program is found by the environment variable PKS, beside the tools, or on the PATH; nothing here builds or
 proves it. Every public function has types, and raises the exceptions that its sentence names; all that come of
 the program are a PksError.

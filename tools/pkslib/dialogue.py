@@ -139,8 +139,9 @@ class Dialogue:
             raise
 
     def close(self) -> None:
-        """Ends the program, where it still runs."""
+        """Ends the program, where it still runs, and the dialogue: what was told and not asked for isn't given any more."""
         child, self._child = self._child, None
+        self._unread, self._waiting = b'', None
         if child is not None:
             child.kill()
             child.wait()
