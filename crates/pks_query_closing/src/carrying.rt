@@ -76,7 +76,6 @@ impl Carrying {
         self.touched.find(
             alloc,
             &self.standing,
-            self.listed.as_slice(),
             self.groups.as_slice(),
             &self.five.lcw,
         )?;
@@ -233,12 +232,12 @@ impl Carrying {
         Ok(())
     }
 
-    /// Lets the groups wait that the literal of this number touches.
-    fn touch(&mut self, alloc: Global, l: &Literal, k: usize) -> Result<(), AllocError>
+    /// Lets the groups wait that the literal touches.
+    fn touch(&mut self, alloc: Global, l: &Literal) -> Result<(), AllocError>
         ensures { OnOk result (Lists [] self.old self.new) }
     {
         self.touched
-            .touch(alloc, &self.standing, self.groups.as_slice(), l, k)?;
+            .touch(alloc, &self.standing, self.groups.as_slice(), l)?;
         Ok(())
     }
 
@@ -253,7 +252,7 @@ impl Carrying {
         self.put_own_forms_in(alloc, &l)?;
         self.put_forms_by(alloc, &l)?;
         self.put_range_in(alloc, s, &l)?;
-        self.touch(alloc, &l, k)?;
+        self.touch(alloc, &l)?;
         Ok(())
     }
 

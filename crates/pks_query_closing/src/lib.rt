@@ -11,6 +11,7 @@ mod numbers;
 mod own;
 pub mod ranges;
 pub mod rounds;
+mod shutting;
 mod spreading;
 mod standing;
 pub mod steps;

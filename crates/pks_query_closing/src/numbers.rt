@@ -89,11 +89,8 @@ impl<K: Ord + Copy + Drop> Numbers<K> {
         }
     }
 
-    /// How many numbers are at the key. It takes no memory.
-    pub(crate) fn count(&self, key: &K) -> usize {
-        match self.at.get(key) {
-            None => 0,
-            Some(numbers) => numbers.len(),
-        }
+    /// Whether there are none. It takes no memory.
+    pub(crate) fn is_empty(&self) -> bool {
+        self.at.len() == 0
     }
 }

@@ -14,7 +14,7 @@ use crate::ranges::{put_by_range, put_of_terms};
 use pks_kf::Kf;
 use pks_query_lookup::derived::Derived;
 use pks_query_lookup::ranges::range_of;
-use pks_terms::literal::Literal;
+use pks_terms::literal::{Atom, Literal, PredAtom, equation};
 use pks_terms::problem::Signature;
 use pks_terms::term::Term;
 use std::alloc::{AllocError, Global};
@@ -57,19 +57,74 @@ impl Carrying {
         Ok(())
     }
 
-    /// The known literals that settle these, and the listed ones of these numbers.
+    /// Puts after the others that the terms are different, with places replaced by their values, if that is known.
+    fn put_different(
+        &self,
+        to: &mut Vec<Literal>,
+        t: &Term,
+        u: &Term,
+        numbers: &mut Vec<usize>,
+    ) -> Result<(), AllocError>
+        ensures { OnOk result (Within (literals_of to.old.items) (literals_of self.now.five.kf) → Within (literals_of to.new.items) (literals_of self.now.five.kf)) }
+    {
+        let t = self.standing.term_form(t, numbers)?;
+        let u = self.standing.term_form(u, numbers)?;
+        self.put_known(to, &equation(&t, &u, false))?;
+        Ok(())
+    }
+
+    /// Puts after the others what is known to tell the atoms apart.
+    fn put_apart(
+        &self,
+        to: &mut Vec<Literal>,
+        a: &PredAtom,
+        b: &PredAtom,
+        numbers: &mut Vec<usize>,
+    ) -> Result<(), AllocError>
+        ensures { OnOk result (Within (literals_of to.old.items) (literals_of self.now.five.kf) → Within (literals_of to.new.items) (literals_of self.now.five.kf)) }
+    {
+        if a.pred.0 != b.pred.0 {
+            return Ok(());
+        }
+        for i in 0..3_usize {
+            self.put_different(to, &a.args[i], &b.args[i], numbers)?;
+        }
+        Ok(())
+    }
+
+    /// Puts after the others what is known to tell the literal's atom from these.
+    fn put_all_apart(
+        &self,
+        to: &mut Vec<Literal>,
+        l: &Literal,
+        atoms: &[PredAtom],
+        numbers: &mut Vec<usize>,
+    ) -> Result<(), AllocError>
+        ensures { OnOk result (Within (literals_of to.old.items) (literals_of self.now.five.kf) → Within (literals_of to.new.items) (literals_of self.now.five.kf)) }
+    {
+        let Atom::Pred(a) = &l.atom else {
+            return Ok(());
+        };
+        for b in atoms {
+            self.put_apart(to, a, b, numbers)?;
+        }
+        Ok(())
+    }
+
+    /// The known literals that settle these, and tell their atoms from the others.
     fn settling(
         &self,
         alloc: Global,
         members: &[Literal],
-        numbers: Vec<usize>,
+        atoms: &[PredAtom],
     ) -> Result<Vec<Literal>, AllocError>
         ensures { IfOk result (λ v. Within (literals_of self.now.listed.items) (literals_of self.now.five.kf) → Within (literals_of v.items) (literals_of self.now.five.kf)) }
     {
-        let mut numbers = numbers;
+        let mut numbers = Vec::new(alloc);
         let mut forms = Vec::new(alloc);
         for l in members {
             self.put_settling(&mut forms, l, &mut numbers)?;
+            self.put_all_apart(&mut forms, l, atoms, &mut numbers)?;
         }
         let mut all = self.literals(alloc, numbers.as_slice())?;
         all.extend_from_slice(forms.as_slice())?;
@@ -89,8 +144,8 @@ impl Carrying {
         let Some(group) = self.groups.as_slice().get(k) else {
             return Ok(more);
         };
-        let numbers = self.touched.beside(alloc, k)?;
-        let known = self.settling(alloc, group.as_slice(), numbers)?;
+        let atoms = self.touched.beside(alloc, k)?;
+        let known = self.settling(alloc, group.as_slice(), atoms.as_slice())?;
         let d = self.with_alone(alloc, known)?;
         let put = put_by_group(&mut more, s, &d, group.as_slice());
         drop(d);
@@ -119,8 +174,16 @@ impl Carrying {
         if self.standing.has_value(t) {
             return Ok(false);
         }
-        let range = range_of(alloc, s, t)?;
-        Ok(self.standing.count_denials(t).saturating_add(1) >= range.len())
+        let mut one_is_left = false;
+        for o in range_of(alloc, s, t)?.as_slice() {
+            if !self.five.kf.has(&equation(t, &Term::Obj(*o), false)) {
+                if one_is_left {
+                    return Ok(false);
+                }
+                one_is_left = true;
+            }
+        }
+        Ok(true)
     }
 
     /// What the range of the term gives, by the known literals of these numbers, and this one.

@@ -132,11 +132,6 @@ impl Standing {
         self.denials.at(alloc, t)
     }
 
-    /// How many these are. It takes no memory.
-    pub(crate) fn count_denials(&self, t: &Term) -> usize {
-        self.denials.count(t)
-    }
-
     /// Whether the term is a place that has a value. It takes no memory.
     pub(crate) fn has_value(&self, t: &Term) -> bool {
         match as_place(t) {

@@ -15,4 +15,4 @@ returns c =
     let d = five_of c.in_ok-d.d in
     let got = found_in c.as_slice.result.now groups c.args.k g c.as_slice.ensures.value c.in-Some.ensures.lookup.0 c.in-Some.ensures.lookup.1 in
     group_gives s c.args.self.now g (literals_of c.in_ok-known.known.items) (map literal_of c.put_by_group-put.new.to.items) d got c.in_ok-known.ensures c.in_ok-d.ensures
-    (c.in_ok-put.ensures ∙ ap (λ xs. map literal_of xs ++ by_group s d (map literal_of c.as_slice-3.result.now)) c.new-more.ensures.items ∙ ap (λ ls. by_group s d (map literal_of ls)) c.as_slice-3.ensures)
+    (c.in_ok-put.ensures ∙ ap (λ xs. map literal_of xs ++ by_group s d (map literal_of c.as_slice-4.result.now)) c.new-more.ensures.items ∙ ap (λ ls. by_group s d (map literal_of ls)) c.as_slice-4.ensures)

@@ -8,7 +8,7 @@ pub loop-l-init : goal.loop-l-init
 loop-l-init c = subst (λ xs. Within (literals_of xs) (literals_of c.args.self.now.five.kf)) (sym c.new-forms.ensures.items) (λ m i. absurd i)
 
 pub loop-l-preserved : goal.loop-l-preserved
-loop-l-preserved c = c.in_ok-put_settling.ensures c.loop-l.invariant
+loop-l-preserved c = c.in_ok-put_all_apart.ensures (c.in_ok-put_settling.ensures c.loop-l.invariant)
 
 pub returns : goal.returns
 returns c = λ listed.
