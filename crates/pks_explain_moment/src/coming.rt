@@ -1,9 +1,10 @@
 //! Literals that come to be known at a moment, and what the known values make of them.
 
 use crate::moment::{MomentLines, Valued, forget, put};
-use crate::placing::{SPOTS_OF_LITERAL, applications_in, place_of, value_told, with_value_at};
+use crate::placing::{SPOTS_OF_LITERAL, applications_in, with_value_at};
 use crate::pushing::push;
 use pks_pmap::map::PMap;
+use pks_query_lookup::table::{place_and_value, place_of};
 use pks_terms::literal::Literal;
 use pks_terms::term::{Inner, Term};
 use std::alloc::{AllocError, Global};
@@ -125,7 +126,7 @@ impl MomentLines {
         x: &Lined,
         to: &mut Vec<Swap>,
     ) -> Result<(), AllocError> {
-        let Some((place, value)) = value_told(&x.literal) else {
+        let Some((place, value)) = place_and_value(&x.literal) else {
             return Ok(());
         };
         let line = x.line;

@@ -1,8 +1,8 @@
 //! What closing has to look at again at a moment.
 
 use crate::moment::{MomentLines, forget, put};
-use crate::placing::without_sign;
 use crate::pushing::{push, put_behind, put_in};
+use pks_query_lookup::literals::affirmed;
 use pks_terms::group::Group;
 use pks_terms::literal::{Atom, Literal};
 use pks_terms::term::Term;
@@ -81,14 +81,14 @@ impl LineIndex {
         normal: &Literal,
         place: usize,
     ) -> Result<(), AllocError> {
-        put_behind(alloc, &mut self.groups, without_sign(normal), place)
+        put_behind(alloc, &mut self.groups, affirmed(normal), place)
     }
 
     /// What a literal of this normal form may matter to is open.
     fn open_by(&mut self, normal: &Literal, regions: bool) -> Result<(), AllocError> {
         open_each(
             &mut self.open_groups,
-            kept_at(&self.groups, &without_sign(normal)),
+            kept_at(&self.groups, &affirmed(normal)),
         )?;
         if normal.positive {
             return Ok(());

@@ -1,7 +1,7 @@
 //! Applications in terms and literals, and replacing them. `docs/RULES.md` has the rules on terms and literals.
 
 use crate::pushing::push;
-use pks_query_lookup::normals::objects;
+use pks_query_lookup::table::place_of;
 use pks_terms::ids::ObjId;
 use pks_terms::literal::{Arguments, Atom, Literal, PredAtom, equation};
 use pks_terms::term::{Inner, Term};
@@ -21,43 +21,6 @@ pub fn equal(t: &Term, u: &Term) -> Literal {
 /// The negated equation of two terms. `docs/RULES.md` has the rule on literals.
 pub fn unequal(t: &Term, u: &Term) -> Literal {
     equation(t, u, false)
-}
-
-/// The literal without its sign.
-pub(crate) fn without_sign(l: &Literal) -> Literal {
-    Literal {
-        atom: l.atom,
-        positive: true,
-    }
-}
-
-/// The application to objects that the term is, as a place that may have a value.
-pub(crate) fn place_of(t: &Term) -> Option<Inner> {
-    match t {
-        Term::Obj(_) | Term::Param(_) => None,
-        Term::App { fun, n, args } => {
-            let args = objects(*n, args)?;
-            Some(Inner::App {
-                fun: *fun,
-                n: *n,
-                args,
-            })
-        }
-    }
-}
-
-/// The place and the value of an equation that gives one.
-pub(crate) fn value_told(l: &Literal) -> Option<(Inner, ObjId)> {
-    if !l.positive {
-        return None;
-    }
-    match &l.atom {
-        Atom::Eq {
-            left,
-            right: Term::Obj(d),
-        } => Some((place_of(left)?, *d)),
-        _ => None,
-    }
 }
 
 /// The application with another argument at this position.

@@ -12,7 +12,7 @@ use std::alloc::{AllocError, Global};
 /// The patterns of regions and the atoms that they list, beside the groups that have an atom that may be one of them. All go by
 /// their numbers. A group is found by its atoms with any term, or some application, at positions.
 #[derive(Drop)]
-pub(crate) struct Shutting {
+pub(crate) struct BesideGroups {
     atoms: Vec<PredAtom>,
     within: Numbers<Term>,
     groups: Vec<Vec<usize>>,
@@ -114,10 +114,10 @@ fn choices(
     Ok(all)
 }
 
-impl Shutting {
+impl BesideGroups {
     /// None. It takes no memory.
-    pub(crate) fn new(alloc: Global) -> Shutting {
-        Shutting {
+    pub(crate) fn new(alloc: Global) -> BesideGroups {
+        BesideGroups {
             atoms: Vec::new(alloc),
             within: Numbers::new(alloc),
             groups: Vec::new(alloc),

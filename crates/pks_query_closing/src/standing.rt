@@ -1,7 +1,7 @@
 //! Where among listed literals places stand, and which of these give their values.
 
 use crate::numbers::Numbers;
-use pks_query_lookup::normals::objects;
+use pks_query_lookup::table::{place_and_value, place_of};
 use pks_terms::ids::ObjId;
 use pks_terms::literal::{Arguments, Atom, Literal};
 use pks_terms::term::{Inner, Term, front};
@@ -18,36 +18,9 @@ pub(crate) struct Standing {
     clashes: bool,
 }
 
-/// The place that the term is, or `None` where it is no function at objects. It takes no memory.
-fn as_place(t: &Term) -> Option<Inner> {
-    let Term::App { fun, n, args } = t else {
-        return None;
-    };
-    let args = objects(*n, args)?;
-    Some(Inner::App {
-        fun: *fun,
-        n: *n,
-        args,
-    })
-}
-
-/// The place of which the literal gives the value, and that value. It takes no memory.
-fn told_value(l: &Literal) -> Option<(Inner, ObjId)> {
-    match &l.atom {
-        Atom::Eq {
-            left,
-            right: Term::Obj(d),
-        } if l.positive => {
-            let place = as_place(left)?;
-            Some((place, *d))
-        }
-        _ => None,
-    }
-}
-
 /// The place of which the literal gives the value. It takes no memory.
 pub(crate) fn valued_place(l: &Literal) -> Option<Inner> {
-    let (place, _) = told_value(l)?;
+    let (place, _) = place_and_value(l)?;
     Some(place)
 }
 
@@ -75,7 +48,7 @@ fn put_places_in(to: &mut Vec<Inner>, t: &Term) -> Result<(), AllocError> {
         return Ok(());
     };
     put_places_among(to, front(args, *n))?;
-    if let Some(place) = as_place(t) {
+    if let Some(place) = place_of(t) {
         to.push(place)?;
     }
     Ok(())
@@ -113,7 +86,7 @@ impl Standing {
         if let Some((t, Term::Obj(_))) = different_terms(l) {
             return self.denials.put(alloc, &t, k);
         }
-        let Some((place, d)) = told_value(l) else {
+        let Some((place, d)) = place_and_value(l) else {
             return Ok(());
         };
         if self.values.insert(place, (k, d))?.is_some() {
@@ -134,7 +107,7 @@ impl Standing {
 
     /// Whether the term is a place that has a value. It takes no memory.
     pub(crate) fn has_value(&self, t: &Term) -> bool {
-        match as_place(t) {
+        match place_of(t) {
             Some(place) => self.values.get(&place).is_some(),
             None => false,
         }
@@ -183,7 +156,7 @@ impl Standing {
             self.inner_form(&args[1], to)?,
         ];
         let form = Term::App { fun, n, args };
-        if let Some(place) = as_place(&form) {
+        if let Some(place) = place_of(&form) {
             if let Some(d) = self.value(&place, to)? {
                 return Ok(Term::Obj(d));
             }

@@ -1,9 +1,10 @@
 //! The groups that known literals touch.
 
 use crate::numbers::Numbers;
-use crate::shutting::{Shutting, applications_in};
+use crate::shutting::{BesideGroups, applications_in};
 use crate::standing::{Standing, valued_place};
 use pks_lcw::Lcw;
+use pks_query_lookup::literals::affirmed;
 use pks_terms::group::Group;
 use pks_terms::literal::{Literal, PredAtom};
 use pks_terms::term::Term;
@@ -15,7 +16,7 @@ use std::alloc::{AllocError, Global};
 pub(crate) struct Touched {
     atoms: Numbers<Literal>,
     applications: Numbers<Term>,
-    shutting: Shutting,
+    shutting: BesideGroups,
     is_waiting: Vec<bool>,
     waiting: Vec<usize>,
 }
@@ -31,21 +32,13 @@ fn members(alloc: Global, groups: &[Group], k: usize) -> Result<Vec<Literal>, Al
     }
 }
 
-/// The literal affirmed.
-fn affirmed(l: &Literal) -> Literal {
-    Literal {
-        atom: l.atom,
-        positive: true,
-    }
-}
-
 impl Touched {
     /// None. It takes no memory.
     pub(crate) fn new(alloc: Global) -> Touched {
         Touched {
             atoms: Numbers::new(alloc),
             applications: Numbers::new(alloc),
-            shutting: Shutting::new(alloc),
+            shutting: BesideGroups::new(alloc),
             is_waiting: Vec::new(alloc),
             waiting: Vec::new(alloc),
         }

@@ -8,4 +8,4 @@ mod forms;
 pub mod literals;
 pub mod normals;
 pub mod ranges;
-mod table;
+pub mod table;

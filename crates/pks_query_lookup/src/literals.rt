@@ -1,5 +1,5 @@
 //! Normal forms of literals, and those that give values. `docs/RULES.md` has the rule.
-ghost use Rattle.std.specs.Prelude.{◌≡◌, is_some};
+ghost use Rattle.std.specs.Prelude.{◌≡◌, true, is_some};
 ghost use Rattle.pks_terms.specs.Databases.{told, normal_literal};
 ghost use Rattle.pks_terms.specs.Views.{literal_of};
 ghost use Rattle.pks_kf.specs.Known.{literals_of};
@@ -16,6 +16,16 @@ pub fn gives_value(l: &Literal) -> bool
     match place_and_value(l) {
         Some(_) => true,
         None => false,
+    }
+}
+
+/// The literal without its negation, which is affirmed. It takes no memory. `docs/RULES.md`, section 1.
+pub fn affirmed(l: &Literal) -> Literal
+    ensures { literal_of result ≡ record { relation = (literal_of l.now).relation; arguments = (literal_of l.now).arguments; positive = true } }
+{
+    Literal {
+        atom: l.atom,
+        positive: true,
     }
 }
 

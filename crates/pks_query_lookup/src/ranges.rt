@@ -1,5 +1,6 @@
 //! The objects that a term may have as its value.
 ghost use Rattle.std.specs.Prelude.{◌≡◌, ◌≤◌, [], ◌∷◌, map, length, IfOk};
+ghost use Rattle.pks_terms.specs.declared.limits.TheConstants.{MOST_OBJECTS};
 ghost use Rattle.pks_terms.specs.Signatures.{range_of};
 ghost use Rattle.pks_terms.specs.Views.{object_of, term_of, signature_of};
 
@@ -11,7 +12,7 @@ use std::alloc::{AllocError, Global};
 /// The objects that may be the value of the term, in order: itself, or those of the function's result type.
 /// It asks for at most 65,536 objects.
 pub fn range_of(alloc: Global, s: &Signature, t: &Term) -> Result<Vec<ObjId>, AllocError>
-    requires { length s.now.objects ≤ 65536 }
+    requires { length s.now.objects ≤ MOST_OBJECTS }
     ensures { IfOk result (λ v. map object_of v.items ≡ range_of (signature_of s.now) (term_of t.now)) }
 {
     match t {

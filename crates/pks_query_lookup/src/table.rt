@@ -31,9 +31,22 @@ fn key(fun: FnId, n: u8, args: &[ObjId; 2]) -> Inner
     }
 }
 
-/// The place and the value of a literal that gives one.
+/// The place that a term is: a function at objects. `None` for any other term. It takes no memory. `docs/RULES.md`, section 1.
+pub fn place_of(t: &Term) -> Option<Inner>
+    ensures key { IfSome result IsKey }
+{
+    match t {
+        Term::App { fun, n, args } => {
+            let own = objects(*n, args)?;
+            Some(key(*fun, *n, &own))
+        }
+        _ => None,
+    }
+}
+
+/// The place and the value of a literal that gives one (`docs/RULES.md`, section 1). It takes no memory.
 #[tactic(auto, unfolding(pks_terms::specs::Databases::told))]
-pub(crate) fn place_and_value(l: &Literal) -> Option<(Inner, ObjId)>
+pub fn place_and_value(l: &Literal) -> Option<(Inner, ObjId)>
     ensures told { option_map told_of result ≡ told (literal_of l.now).relation (literal_of l.now).arguments (literal_of l.now).positive }
     ensures key { IfSome result (λ p. IsKey p.0) }
 {
