@@ -265,7 +265,8 @@ const BY_LAST_LEFT: &[Chain] = &[
     },
 ];
 
-/// Chains by atoms that a region shuts out, since a place in the one that it lists has another value, or not that one.
+/// Chains by atoms that a region shuts out: a place in the one that it lists has another value, or not that one; or the region
+/// is at a place itself, and lists none.
 const UNDER_A_REGION: &[Chain] = &[
     Chain {
         declared: "(functions (f t t t))",
@@ -290,6 +291,25 @@ const UNDER_A_REGION: &[Chain] = &[
             (") (not (= (f ", 1),
         ],
         end: ") c1)))",
+    },
+    Chain {
+        declared: "(functions (f t t t) (h t))",
+        first: "(lcw (s (h) _ _)) (kf (= (h) c1)) (kf (= (f c0 c0) c1))",
+        links: 3_500,
+        link: &[(" (kx (s (f ", 0), (") ", 0), (") (= (f ", 1)],
+        end: ") c1))",
+    },
+    Chain {
+        declared: "(functions (f t t) (g t t t))",
+        first: "(lcw (s c1 _ _)) (kf (not (= (f c2) c1))) (kf (= (g c0 c0) c2))",
+        links: 3_000,
+        link: &[
+            (" (kf (s (f (g ", 0),
+            (")) ", 0),
+            (")) (kx (s c1 ", 0),
+            (") (= (g ", 1),
+        ],
+        end: ") c2))",
     },
 ];
 
