@@ -110,11 +110,14 @@ class Dialogue:
     def answer(self, said: Union[str, bool]) -> None:
         """Answers the last question: an object's name to AskValue, True or False to AskTest.
 
-        ValueError where nothing was asked, or the answer isn't one line. Whether it is fit the next step tells.
+        ValueError where nothing was asked, or the answer isn't one line; TypeError where it is nothing of these. Whether
+        it is fit the next step tells.
         """
         text = ('true' if said else 'false') if isinstance(said, bool) else said
         if self._asked is None or self._waiting is not None:
             raise ValueError('an answer, and no question was asked')
+        if not isinstance(text, str):
+            raise TypeError(f'an answer is a text, True or False, and not {said!r}')
         if '\n' in text:
             raise ValueError(f'an answer is one line: {text!r}')
         self._answered, self._asked = self._asked, None
@@ -126,7 +129,8 @@ class Dialogue:
 
         Without `answers` they are those of this dialogue. The same file has the same plan each time, so the same
         answers lead to the same place. Gives all actions that were told on the way, from the first on: those that
-        were done before must not be done again. Raises what a step does.
+        were done before must not be done again. Raises what a step does, and ValueError where the dialogue ends before
+        all answers are asked for.
         """
         given = list(self.answers if answers is None else answers)
         self._begin()
@@ -179,6 +183,8 @@ class Dialogue:
                 told.append(step)
             elif isinstance(step, End) or not left:
                 self._waiting = step
+                if left:
+                    raise ValueError(f'the dialogue ends before the answer {left[-1]!r} is asked for')
                 return told
             else:
                 self.answer(left.pop())

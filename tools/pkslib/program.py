@@ -74,7 +74,9 @@ Stream = Union[None, int, IO[bytes]]
 
 def begin(words: Sequence[str], program: Optional[str] = None, stdin: Stream = None, stdout: Stream = None,
           stderr: Stream = None, bufsize: int = -1) -> 'subprocess.Popen[bytes]':
-    """The program begun with these words; NoProgram where it doesn't run."""
+    """The program begun with these words; NoProgram where it doesn't run, TypeError where they are one text."""
+    if isinstance(words, str):
+        raise TypeError(f'the words are a list, {words.split()!r} and not {words!r}')
     path = find(program)
     try:
         return subprocess.Popen([path, *words], bufsize=bufsize, stdin=stdin, stdout=stdout, stderr=stderr)
