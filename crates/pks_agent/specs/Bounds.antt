@@ -1,5 +1,6 @@
 -- How much a dialogue asks, how many lines it has, and how long they are.
 use Rattle.std.specs.Prelude.{ℕ, true, ◌≡◌, ◌≤◌, ◌+◌, List, [], ◌∷◌, ◌++◌, length}
+use Rattle.pks_terms.specs.declared.limits.TheConstants.{LONGEST_LINE}
 use Rattle.pks_terms.specs.Sets.{Each}
 use Rattle.pks_terms.specs.Actions.{Item, ItemKf, ItemKw, ItemKv, ItemLcw}
 use Rattle.pks_terms.specs.Problems.{Start, StartKf, StartKw, StartKv, StartKx, StartLcw, Problem}
@@ -21,7 +22,7 @@ pub record IsWithin (P : Text → Type 0) (most_questions most_lines : ℕ) (tal
 
 -- a line of at most 8,192 bytes
 abbrev pub IsShortLine : Text → Type 0
-IsShortLine text = length text ≤ 8192
+IsShortLine text = length text ≤ LONGEST_LINE
 
 -- at most 64 questions and 81 lines, each of at most 8,192 bytes
 abbrev pub IsShortTalk : Talked → Type 0

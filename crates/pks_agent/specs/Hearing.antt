@@ -1,5 +1,6 @@
 -- What a peer says and hears.
 use Rattle.std.specs.Prelude.{ℕ, ◌≡◌, ◌≤◌, ◌<◌, ◌+◌, ◌⊎◌, List, [], ◌∷◌, ◌++◌, length, Option, Some, None, Result, Ok, Err, IfErr, OnOk, OnErr}
+use Rattle.pks_terms.specs.declared.limits.TheConstants.{LONGEST_LINE}
 use Rattle.pks_io.specs.Causes.{Rose}
 use Rattle.pks_terms.specs.Printed.{Text}
 use Rattle.pks_agent.specs.declared.peers.Heard.{Heard}
@@ -75,4 +76,4 @@ pub record HasPeerCause {X : Type 0} (sends sends' receipts receipts' : ℕ) (re
 -- of the calls that surely don't fail this one was taken; where it failed its line has more than 8,192 bytes, or there was none
 pub record IsServed {X : Type 0} (sure sure' : ℕ) (text : Text) (result : Result X PeerFault) : Type 0 where
   pub well : OnOk result (sure ≤ sure' + 1)
-  pub failed : OnErr result (length text ≤ 8192 → sure ≡ 0)
+  pub failed : OnErr result (length text ≤ LONGEST_LINE → sure ≡ 0)

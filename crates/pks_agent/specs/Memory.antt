@@ -1,6 +1,7 @@
 -- What a peer in memory shows.
 use Rattle.std.specs.Prelude.{ℕ, ◌+◌, ◌<◌, ◌-◌, ◌^◌, ◌⊎◌, min, List, [], ◌∷◌, drop, length, Contains}
 use Rattle.std.specs.Borrow.{GName}
+use Rattle.pks_terms.specs.declared.limits.TheConstants.{LONGEST_LINE}
 use Rattle.pks_terms.specs.Printed.{Text}
 use Rattle.pks_agent.specs.Rooms.{texts_in}
 use Rattle.pks_agent.specs.declared.memory.MemPeer.{MemPeer}
@@ -39,7 +40,7 @@ next_call calls = min (calls + 1) (2 ^ 32 - 1)
 
 -- a call fails where it is listed, where its line has more than 8,192 bytes, and from call 97 on
 abbrev pub Fails : List ℕ → ℕ → Text → Type 0
-Fails failing call line = Contains failing call ⊎ ((8192 < length line) ⊎ (96 < call))
+Fails failing call line = Contains failing call ⊎ ((LONGEST_LINE < length line) ⊎ (96 < call))
 
 -- a count that rises, up to its end
 abbrev pub raised : ℕ → ℕ

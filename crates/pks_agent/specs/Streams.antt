@@ -2,6 +2,7 @@
 use Rattle.std.specs.Prelude.{ℕ, ◌≡◌, ◌≤◌, ◌<◌, ◌+◌, ◌-◌, ◌&&◌, nat_eq, Bool, true, false, List, [], ◌∷◌, ◌++◌, length, take, drop, Option, Some, None, option_map, Result, Ok, Err, Vec, if◌then◌else◌}
 use Rattle.std.specs.declared.alloc.Global.{Global}
 use Rattle.std.specs.Io.KnownBytes.{Consumes, IsAtEnd}
+use Rattle.pks_terms.specs.declared.limits.TheConstants.{MOST_BYTES}
 use Rattle.pks_io.specs.declared.traits.Failed.{Failed}
 use Rattle.pks_io.specs.declared.read.ReadEnd.{ReadEnd}
 use Rattle.pks_io.specs.declared.read.ReadEnd.TheVariants as read_end
@@ -72,8 +73,8 @@ Appended old new (Byte b) (Ok None) = ⊥
 Appended old new (Dot b) (Ok None) = ⊥
 Appended old new Stop (Ok None) = new ≡ old
 Appended old new End (Ok None) = new ≡ old
-Appended old new (Byte b) (Err read_end.TooLong) = 262144 ≤ length old
-Appended old new (Dot b) (Err read_end.TooLong) = 262144 < length old + 2
+Appended old new (Byte b) (Err read_end.TooLong) = MOST_BYTES ≤ length old
+Appended old new (Dot b) (Err read_end.TooLong) = MOST_BYTES < length old + 2
 Appended old new Stop (Err read_end.TooLong) = ⊥
 Appended old new End (Err read_end.TooLong) = ⊥
 Appended old new found (Err read_end.Fault) = ⊥

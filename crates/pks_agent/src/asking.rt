@@ -1,5 +1,6 @@
 //! Questions, and what is told as an answer.
 ghost use Rattle.std.specs.Prelude.{◌≡◌, ◌≤◌, ◌+◌, ◌^◌, ◌<◌, ◌++◌, ◌∷◌, [], map, length, vec_len, vec_capacity, IfSome, IfOk, OnOk};
+ghost use Rattle.pks_terms.specs.declared.limits.TheConstants.{MOST_OBJECTS};
 ghost use Rattle.pks_terms.specs.Sets.{Each};
 ghost use Rattle.pks_terms.specs.Syntax.{Inner};
 ghost use Rattle.pks_terms.specs.Signatures.{range_of};
@@ -51,7 +52,7 @@ pub(crate) fn ask_value<P: Peer>(
     question: &[u8],
     k: u32,
 ) -> Result<ObjId, TalkEnd>
-    requires { length p.now.signature.objects ≤ 65536 }
+    requires { length p.now.signature.objects ≤ MOST_OBJECTS }
     ensures { Leads object_of (asking (object_named (names_of p.now) (range_of (signature_of p.now.signature) (term_of t.now))) question.now) k (k + 1) result (moment P.answers P.said P.sends P.receipts P.kept P.sure peer.old) (moment P.answers P.said P.sends P.receipts P.kept P.sure peer.new) }
 {
     let mut answer = Answer::empty();
@@ -71,7 +72,7 @@ fn ask_argument<P: Peer>(
     peer: &mut P,
     k: u32,
 ) -> Result<u32, TalkEnd>
-    requires objects { length p.now.signature.objects ≤ 65536 }
+    requires objects { length p.now.signature.objects ≤ MOST_OBJECTS }
     requires questions { Opens (texts_in questions.now) (argument_questions (names_of p.now) (inner_of t.now ∷ [])) }
     requires room { vec_len told.old < vec_capacity told.old }
     requires spoken { Each IsSpoken (map inner_of told.old.items) }
@@ -108,7 +109,7 @@ pub(crate) fn ask_each<P: Peer>(
     peer: &mut P,
     k: u32,
 ) -> Result<u32, TalkEnd>
-    requires objects { length p.now.signature.objects ≤ 65536 }
+    requires objects { length p.now.signature.objects ≤ MOST_OBJECTS }
     requires questions { Opens (texts_in questions.now) (argument_questions (names_of p.now) (map inner_of arguments.now)) }
     requires room { vec_len told.old + length arguments.now ≤ vec_capacity told.old }
     requires spoken { Each IsSpoken (map inner_of told.old.items) }

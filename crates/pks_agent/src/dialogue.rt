@@ -1,5 +1,6 @@
 //! The dialogue of a plan.
 ghost use Rattle.std.specs.Prelude.{◌≡◌, ◌≤◌, ◌<◌, ◌+◌, ◌*◌, ◌^◌, ℕ, IfSome, IfOk, OnOk, length};
+ghost use Rattle.pks_terms.specs.declared.limits.TheConstants.{MOST_OBJECTS};
 ghost use Rattle.pks_terms.specs.Trees.{depth, chain_depth};
 ghost use Rattle.pks_terms.specs.Talk.{ending, talk, talk_from, talk_case};
 ghost use Rattle.pks_terms.specs.Views.{instance_of, signature_of, names_of};
@@ -50,7 +51,7 @@ fn act<P: Peer>(
     peer: &mut P,
     k: u32,
 ) -> Result<u32, TalkEnd>
-    requires objects { length p.now.signature.objects ≤ 65536 }
+    requires objects { length p.now.signature.objects ≤ MOST_OBJECTS }
     requires questions { Opens (texts_in questions.now) (argument_questions (names_of p.now) (instance_of step.now).arguments) }
     requires desk { IsDesk (names_of p.now) desk.old }
     requires numbers { k + 4 < 2 ^ 32 }
@@ -97,7 +98,7 @@ fn walk<P: Peer>(
     peer: &mut P,
     k: u32,
 ) -> Result<End, TalkEnd>
-    requires objects { length p.now.signature.objects ≤ 65536 }
+    requires objects { length p.now.signature.objects ≤ MOST_OBJECTS }
     requires questions { Opens (texts_in questions.now) (questions_of (names_of p.now) (tree_of t.now)) }
     requires desk { IsDesk (names_of p.now) desk.old }
     requires numbers { k + 4 * depth (tree_of t.now) < 2 ^ 32 }
@@ -148,7 +149,7 @@ fn walk_case<P: Peer>(
     peer: &mut P,
     k: u32,
 ) -> Result<End, TalkEnd>
-    requires objects { length p.now.signature.objects ≤ 65536 }
+    requires objects { length p.now.signature.objects ≤ MOST_OBJECTS }
     requires questions { Opens (texts_in questions.now) (case_questions (names_of p.now) (chain_of sought.cases.now)) }
     requires desk { IsDesk (names_of p.now) desk.old }
     requires numbers { k + 4 * chain_depth (chain_of sought.cases.now) < 2 ^ 32 }
@@ -187,7 +188,7 @@ pub fn converse<P: Peer>(
     peer: &mut P,
     room: &mut Room,
 ) -> Result<End, TalkEnd>
-    requires objects { length p.now.signature.objects ≤ 65536 }
+    requires objects { length p.now.signature.objects ≤ MOST_OBJECTS }
     requires room { IsRoomOf (names_of p.now) (tree_of t.now) room.old }
     ensures led { IfSome (P.answers peer.old) (λ answers. Led (P.said peer.old) (P.said peer.new) answers (P.answers peer.new) result (talk (signature_of p.now.signature) (names_of p.now) (tree_of t.now) answers)) }
     ensures safe { IfSome (P.answers peer.old) (λ answers. IsSafe (P.sure peer.old) result (talk (signature_of p.now.signature) (names_of p.now) (tree_of t.now) answers)) }

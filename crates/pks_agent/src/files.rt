@@ -1,10 +1,12 @@
 //! The file that stands before the answers.
 ghost use Rattle.std.specs.Prelude.{◌≡◌, ◌≤◌, ◌<◌, ◌∷◌, ◌++◌, [], IfSome, IfOk, OnOk, IsErrOf, length, vec_len};
+ghost use Rattle.pks_terms.specs.declared.limits.TheConstants.{MOST_BYTES};
 ghost use Rattle.pks_io.specs.Causes.{Rose, HasCause};
 ghost use Rattle.pks_agent.specs.Streams.{ahead_of, coming, Finds, FindsStop, Appended, ReadsFile, ReadsFront};
 
 use crate::ahead::ReadAhead;
 use pks_io::{Failed, ReadEnd, Source};
+use pks_terms::limits::MOST_BYTES;
 use std::alloc::Global;
 
 /// What stands next in an input.
@@ -61,11 +63,11 @@ fn find<S: Source>(begins: bool, ahead: &mut ReadAhead, source: &mut S) -> Resul
 /// Appends a byte of the file, which has at most 262,144.
 fn push_byte(text: &mut Vec<u8>, byte: u8) -> Result<(), ReadEnd>
     ensures ok { OnOk result (text.new.items ≡ text.old.items ++ byte ∷ []) }
-    ensures bound { OnOk result (vec_len text.new ≤ 262144) }
-    ensures long { IsErrOf result ReadEnd.TooLong → 262144 ≤ vec_len text.old }
+    ensures bound { OnOk result (vec_len text.new ≤ MOST_BYTES) }
+    ensures long { IsErrOf result ReadEnd.TooLong → MOST_BYTES ≤ vec_len text.old }
     ensures other { IsErrOf result ReadEnd.Fault → ⊥ }
 {
-    if text.len() >= 262144 {
+    if text.len() >= MOST_BYTES {
         return Err(ReadEnd::TooLong);
     }
     if text.push(byte).is_err() {
@@ -76,9 +78,9 @@ fn push_byte(text: &mut Vec<u8>, byte: u8) -> Result<(), ReadEnd>
 
 /// Appends what was found, and says whether a line begins behind it, or that the file ends.
 fn append(text: &mut Vec<u8>, found: Scanned) -> Result<Option<bool>, ReadEnd>
-    requires { vec_len text.old ≤ 262144 }
+    requires { vec_len text.old ≤ MOST_BYTES }
     ensures appended { Appended text.old.items text.new.items found result }
-    ensures bound { OnOk result (vec_len text.new ≤ 262144) }
+    ensures bound { OnOk result (vec_len text.new ≤ MOST_BYTES) }
     ensures more { IfOk result (λ next. IfSome next (λ begins. vec_len text.old < vec_len text.new)) }
 {
     match found {
@@ -103,8 +105,8 @@ fn read_on<S: Source>(
     ahead: &mut ReadAhead,
     source: &mut S,
 ) -> Result<Vec<u8>, ReadEnd>
-    ensures told { IfSome (coming ahead.old (S.left source.old)) (ReadsFile 262144 (coming ahead.new (S.left source.new)) result) }
-    ensures bound { IfOk result (λ text. vec_len text ≤ 262144) }
+    ensures told { IfSome (coming ahead.old (S.left source.old)) (ReadsFile MOST_BYTES (coming ahead.new (S.left source.new)) result) }
+    ensures bound { IfOk result (λ text. vec_len text ≤ MOST_BYTES) }
     ensures later { S.faults source.old ≤ S.faults source.new }
     ensures quiet { OnOk result (S.faults source.new ≡ S.faults source.old) }
     ensures quiet_long { IsErrOf result ReadEnd.TooLong → S.faults source.new ≡ S.faults source.old }
@@ -137,8 +139,8 @@ pub fn read_file_text<S: Source>(
     alloc: Global,
     source: &mut S,
 ) -> Result<(Vec<u8>, ReadAhead), ReadEnd>
-    ensures told { IfSome (S.left source.old) (ReadsFront 262144 (S.left source.new) result) }
-    ensures bound { IfOk result (λ r. vec_len r.0 ≤ 262144) }
+    ensures told { IfSome (S.left source.old) (ReadsFront MOST_BYTES (S.left source.new) result) }
+    ensures bound { IfOk result (λ r. vec_len r.0 ≤ MOST_BYTES) }
     ensures few { IfOk result (λ r. length (ahead_of r.1) ≤ 512) }
     ensures later { S.faults source.old ≤ S.faults source.new }
     ensures quiet { OnOk result (S.faults source.new ≡ S.faults source.old) }

@@ -1,5 +1,6 @@
 //! Which answers are fit.
 ghost use Rattle.std.specs.Prelude.{◌≡◌, ◌≤◌, ◌+◌, List, length, option_map};
+ghost use Rattle.pks_terms.specs.declared.limits.TheConstants.{MOST_OBJECTS};
 ghost use Rattle.pks_terms.specs.Syntax.{Apply, Inner as InnerTerm};
 ghost use Rattle.pks_terms.specs.Signatures.{fits_type, objects_from, objects_of, range_of};
 ghost use Rattle.pks_terms.specs.Printed.{name_in};
@@ -47,7 +48,7 @@ fn named_from(
     owns: &[TypeId],
     answer: &[u8],
 ) -> Option<ObjId>
-    requires { n + length owns.now ≤ 65536 }
+    requires { n + length owns.now ≤ MOST_OBJECTS }
     ensures { option_map object_of result ≡ object_named (names_of p.now) (objects_from (λ own. fits_type (signature_of p.now.signature) own of.0) n (types_of owns.now)) answer.now }
 {
     match owns {
@@ -66,7 +67,7 @@ fn named_from(
 /// The object of the function's result type that the answer names.
 #[tactic(auto, unfolding(pks_terms::specs::Signatures::objects_of))]
 fn named_value(p: &Problem<'_>, fun: FnId, answer: &[u8]) -> Option<ObjId>
-    requires { length p.now.signature.objects ≤ 65536 }
+    requires { length p.now.signature.objects ≤ MOST_OBJECTS }
     ensures { (ts : List InnerTerm) → option_map object_of result ≡ object_named (names_of p.now) (range_of {A = InnerTerm} (signature_of p.now.signature) (Apply fun.0 ts)) answer.now }
 {
     match p.signature.functions.as_slice().get(usize::from(fun.0)) {
@@ -77,7 +78,7 @@ fn named_value(p: &Problem<'_>, fun: FnId, answer: &[u8]) -> Option<ObjId>
 
 /// The object that the answer names, where it may be the value of the term.
 pub(crate) fn value(p: &Problem<'_>, t: &Term, answer: &[u8]) -> Option<ObjId>
-    requires { length p.now.signature.objects ≤ 65536 }
+    requires { length p.now.signature.objects ≤ MOST_OBJECTS }
     ensures { option_map object_of result ≡ object_named (names_of p.now) (range_of (signature_of p.now.signature) (term_of t.now)) answer.now }
 {
     match t {

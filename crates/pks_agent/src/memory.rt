@@ -9,6 +9,7 @@ ghost use Rattle.pks_agent.specs.Rooms.{texts_in};
 
 use crate::answers::Answer;
 use crate::peers::{Heard, Peer, PeerFault};
+use pks_terms::limits::LONGEST_LINE;
 use pks_terms::sequence::Sequence;
 use std::alloc::{AllocError, Global};
 
@@ -81,7 +82,7 @@ impl MemPeer {
         ensures receipts { peer_receipts self.new ≡ peer_receipts self.old }
     {
         self.calls = self.calls.saturating_add(1);
-        if is_listed(&self.failing, self.calls) || text.len() > 8192 || self.calls > 96 {
+        if is_listed(&self.failing, self.calls) || text.len() > LONGEST_LINE || self.calls > 96 {
             return false;
         }
         self.text.extend_from_slice(text).unwrap();

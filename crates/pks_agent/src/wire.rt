@@ -1,6 +1,7 @@
 //! A source and a sink as a peer.
 ghost use Rattle.std.specs.Prelude.{◌≡◌, ◌≤◌, [], ◌∷◌, IfSome, OnOk, OnErr, length};
 ghost use Rattle.std.specs.Io.KnownBytes.{Appends};
+ghost use Rattle.pks_terms.specs.declared.limits.TheConstants.{MOST_OBJECTS};
 ghost use Rattle.pks_io.specs.Causes.{HasCause};
 ghost use Rattle.pks_io.specs.Writing.{AppendsFront};
 ghost use Rattle.pks_terms.specs.Printed.{line};
@@ -98,7 +99,7 @@ fn converse_on<S: Source, K: Sink>(
     wire: &mut Wire<'_, '_, S, K>,
     room: &mut Room,
 ) -> Result<End, TalkEnd>
-    requires objects { length p.now.signature.objects ≤ 65536 }
+    requires objects { length p.now.signature.objects ≤ MOST_OBJECTS }
     requires room { IsRoomOf (names_of p.now) (tree_of t.now) room.old }
     ensures led { IfSome (answers_coming (coming wire.old.ahead (S.left wire.old.source.now))) (λ answers. Led (K.written wire.old.sink.now) (K.written wire.new.sink.now)
         answers (answers_coming (coming wire.new.ahead (S.left wire.new.source.now))) result (talk (signature_of p.now.signature) (names_of p.now) (tree_of t.now) answers)) }
@@ -127,7 +128,7 @@ pub fn converse_over<S: Source, K: Sink>(
     sink: &mut K,
     room: &mut Room,
 ) -> Result<End, TalkEnd>
-    requires objects { length p.now.signature.objects ≤ 65536 }
+    requires objects { length p.now.signature.objects ≤ MOST_OBJECTS }
     requires room { IsRoomOf (names_of p.now) (tree_of t.now) room.old }
     ensures led { IfSome (answers_coming (coming ahead (S.left source.old))) (λ answers. (kept : ReadAhead) × (length (ahead_of kept) ≤ 512) × Led (K.written sink.old) (K.written sink.new)
         answers (answers_coming (coming kept (S.left source.new))) result (talk (signature_of p.now.signature) (names_of p.now) (tree_of t.now) answers)) }

@@ -1,6 +1,7 @@
 //! What may stand for a parameter. `docs/RULES.md` has the rule on choices.
 ghost use Rattle.std.specs.Prelude.{◌≡◌, ◌++◌, ◌≤◌, map, length, IfOk, OnOk, None, option_map, if◌then◌else◌};
 ghost use Rattle.std.specs.List.{filter_map};
+ghost use Rattle.pks_terms.specs.declared.limits.TheConstants.{MOST_OBJECTS};
 ghost use Rattle.pks_terms.specs.Syntax.{Object};
 ghost use Rattle.pks_terms.specs.Signatures.{has_type};
 ghost use Rattle.pks_terms.specs.Branching.{as_inner, candidates};
@@ -94,7 +95,7 @@ pub(crate) fn candidates(
     five: &Five,
     of: TypeId,
 ) -> Result<InnerList, AllocError>
-    requires { length s.now.objects ≤ 65536 }
+    requires { length s.now.objects ≤ MOST_OBJECTS }
     ensures { IfOk result (λ list. map inner_of list ≡ candidates (signature_of s.now) (five_of five.now) of.0) }
 {
     let objects = s.objects_of(alloc, of)?;

@@ -1,6 +1,7 @@
 //! Choices: instances of actions, branches and cases. `docs/RULES.md` has the rules.
 ghost use Rattle.std.specs.Prelude.{◌≡◌, ◌≤◌, ◌++◌, ◌&&◌, map, length, not, IfOk, OnOk};
 ghost use Rattle.std.specs.List.{list_all, filter};
+ghost use Rattle.pks_terms.specs.declared.limits.TheConstants.{MOST_OBJECTS};
 ghost use Rattle.pks_terms.specs.Sets.{Each, IsOrdered};
 ghost use Rattle.pks_terms.specs.Orders.{term_cmp, conj_cmp};
 ghost use Rattle.pks_terms.specs.Databases.{holds};
@@ -74,7 +75,7 @@ pub(crate) fn push_cases(
     kv: &Kv,
     to: &mut Vec<Choice>,
 ) -> Result<(), AllocError>
-    requires { length s.now.objects ≤ 65536 }
+    requires { length s.now.objects ≤ MOST_OBJECTS }
     ensures all { OnOk result (choices_of to.new.items ≡ choices_of to.old.items ++ map CasesOn (filter (may_split (signature_of s.now) (five_of d.now)) (terms_of kv.now))) }
     ensures ordered { IsOrdered term_cmp (terms_of kv.now) }
 {

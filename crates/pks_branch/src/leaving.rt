@@ -1,6 +1,7 @@
 //! The objects left as the value of a term. `docs/RULES.md` has the rule.
 ghost use Rattle.std.specs.Prelude.{◌≡◌, ◌≤◌, ◌++◌, map, length, not, IfOk, OnOk};
 ghost use Rattle.std.specs.List.{filter};
+ghost use Rattle.pks_terms.specs.declared.limits.TheConstants.{MOST_OBJECTS};
 ghost use Rattle.pks_terms.specs.Syntax.{object};
 ghost use Rattle.pks_terms.specs.Orders.{inequation};
 ghost use Rattle.pks_terms.specs.Databases.{holds};
@@ -48,7 +49,7 @@ fn not_shut_out(
 /// The objects that are left, of a signature with at most 65,536 objects.
 #[tactic(auto, unfolding(pks_terms::specs::Branching::left))]
 pub(crate) fn left_of(alloc: Global, s: &Signature, d: &Db, t: &Term) -> Result<ObjList, AllocError>
-    requires { length s.now.objects ≤ 65536 }
+    requires { length s.now.objects ≤ MOST_OBJECTS }
     ensures { IfOk result (λ objects. map object_of objects ≡ left (signature_of s.now) (five_of d.now) (term_of t.now)) }
 {
     let range = range_of(alloc, s, t)?;
@@ -58,7 +59,7 @@ pub(crate) fn left_of(alloc: Global, s: &Signature, d: &Db, t: &Term) -> Result<
 
 /// Whether from 1 to 16 objects are left.
 pub(crate) fn may_split(alloc: Global, s: &Signature, d: &Db, t: &Term) -> Result<bool, AllocError>
-    requires { length s.now.objects ≤ 65536 }
+    requires { length s.now.objects ≤ MOST_OBJECTS }
     ensures { IfOk result (λ b. b ≡ may_split (signature_of s.now) (five_of d.now) (term_of t.now)) }
 {
     let count = left_of(alloc, s, d, t)?.len();

@@ -2,6 +2,7 @@
 ghost use Rattle.std.specs.Prelude.{◌≡◌, ◌<◌, ◌≤◌, ◌+◌, ◌++◌, [], ◌∷◌, map, take, length, option_map, slice_get, IfOk, IsSome, OnOk};
 ghost use Rattle.std.specs.List.{list_all, flat_map};
 ghost use Rattle.std.specs.Option.{option_to_list};
+ghost use Rattle.pks_terms.specs.declared.limits.TheConstants.{MOST_OBJECTS};
 ghost use Rattle.pks_terms.specs.Actions.{query_at};
 ghost use Rattle.pks_terms.specs.Queries.{answers};
 ghost use Rattle.pks_terms.specs.Branching.{candidates, numbered};
@@ -95,7 +96,7 @@ fn push_candidates(
     given: &Instance,
     to: &mut Vec<Instance>,
 ) -> Result<(), AllocError>
-    requires objects { length s.now.objects ≤ 65536 }
+    requires objects { length s.now.objects ≤ MOST_OBJECTS }
     requires more { given.now.n < 4 }
     ensures { OnOk result (beginnings_of to.new.items ≡ map (longer (instance_of given.now)) (candidates (signature_of s.now) (five_of d.now) of.0) ++ beginnings_of to.old.items) }
 {

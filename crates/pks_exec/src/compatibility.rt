@@ -1,6 +1,7 @@
 //! Whether a world is one in which a problem may begin.
 ghost use Rattle.std.specs.Prelude.{◌≡◌, ◌≤◌, ◌<◌, ◌+◌, ◌^◌, ◌↔◌, ℕ, [], ◌∷◌, ◌++◌, map, length, option_map, Some, None, IsTrue, IsNone, IfSome};
 ghost use Rattle.std.specs.List.{list_any};
+ghost use Rattle.pks_terms.specs.declared.limits.TheConstants.{MOST_OBJECTS};
 ghost use Rattle.pks_terms.specs.Sets.{Each, exactly_one};
 ghost use Rattle.pks_terms.specs.Syntax.{affirmed};
 ghost use Rattle.pks_terms.specs.Worlds.{value_of, true_in};
@@ -85,7 +86,7 @@ fn tells_all(
     slots: &[Option<Term>],
     objects: &Few,
 ) -> bool
-    requires objects { length p.now.signature.objects ≤ 65536 }
+    requires objects { length p.now.signature.objects ≤ MOST_OBJECTS }
     requires few { objects.now.n + length slots.now ≤ 3 }
     ensures { result ≡ all_instances (world_of w.now) (length p.now.signature.objects) (is_told (problem_of p.now) (world_of w.now) pred.0) (few_of objects.now) (map (option_map term_of) slots.now) }
 {
@@ -107,7 +108,7 @@ fn tells_each(
     slots: &[Option<Term>],
     objects: &Few,
 ) -> bool
-    requires objects { length p.now.signature.objects ≤ 65536 }
+    requires objects { length p.now.signature.objects ≤ MOST_OBJECTS }
     requires few { objects.now.n + 1 + length slots.now ≤ 3 }
     ensures { result ≡ all_instances (world_of w.now) (length p.now.signature.objects) (is_told (problem_of p.now) (world_of w.now) pred.0) (few_of objects.now) (None ∷ map (option_map term_of) slots.now) }
 {
@@ -129,7 +130,7 @@ fn slots_in(x: &Pattern) -> &[Option<Term>]
 
 /// Whether each true instance of the pattern is the value of an atom that the start says to be true.
 fn meets(p: &Problem<'_>, w: &World, x: &Pattern) -> bool
-    requires { length p.now.signature.objects ≤ 65536 }
+    requires { length p.now.signature.objects ≤ MOST_OBJECTS }
     ensures { IsWorld (signature_of p.now.signature) (world_of w.now) → IsTrue result ↔ Meets (world_of w.now) (initial_entry (initial (problem_of p.now)).kf (pattern_of x.now)) }
 {
     tells_all(p, w, x.pred, slots_in(x), &Few::none())
@@ -161,7 +162,7 @@ fn one_holds(w: &World, literals: &[Literal]) -> bool
 
 /// Whether the world keeps the initial item.
 fn keeps(p: &Problem<'_>, w: &World, start: &Init) -> bool
-    requires { length p.now.signature.objects ≤ 65536 }
+    requires { length p.now.signature.objects ≤ MOST_OBJECTS }
     ensures { IsWorld (signature_of p.now.signature) (world_of w.now) → IsTrue result ↔ Keeps (problem_of p.now) (world_of w.now) (start_of start.now) }
 {
     match start {
@@ -197,7 +198,7 @@ fn has_region(x: &Pattern, items: &[InitItem]) -> bool
 /// Whether the world keeps the initial item, where it keeps those before it. A region that stands there already isn't looked at
 /// again.
 fn keeps_next(p: &Problem<'_>, w: &World, before: &[InitItem], start: &Init) -> bool
-    requires { length p.now.signature.objects ≤ 65536 }
+    requires { length p.now.signature.objects ≤ MOST_OBJECTS }
     ensures { IsWorld (signature_of p.now.signature) (world_of w.now) → Each (Keeps (problem_of p.now) (world_of w.now)) (map (λ i. start_of i.start) before.now) → IsTrue result ↔ Keeps (problem_of p.now) (world_of w.now) (start_of start.now) }
 {
     match start {
@@ -210,7 +211,7 @@ fn keeps_next(p: &Problem<'_>, w: &World, before: &[InitItem], start: &Init) -> 
 /// one literal is true, a region that the world doesn't meet. There is none exactly where the world is compatible. It asks that objects and
 /// items can be numbered, and says this of worlds of the signature. It takes no memory. `docs/RULES.md`, databases.
 pub fn compatible(p: &Problem<'_>, w: &World) -> Option<ItemNo>
-    requires objects { length p.now.signature.objects ≤ 65536 }
+    requires objects { length p.now.signature.objects ≤ MOST_OBJECTS }
     requires numbered { length p.now.init < 2 ^ 32 }
     ensures first { IsWorld (signature_of p.now.signature) (world_of w.now) → IfSome result (λ n. IsFirstBroken (problem_of p.now) (world_of w.now) (problem_of p.now).init 1 n.0) }
     ensures only { IsWorld (signature_of p.now.signature) (world_of w.now) → (n : ℕ) → IsFirstBroken (problem_of p.now) (world_of w.now) (problem_of p.now).init 1 n → option_map (λ i. i.0) result ≡ Some n }

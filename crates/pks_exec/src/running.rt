@@ -1,5 +1,6 @@
 //! The run of a plan in a world.
 ghost use Rattle.std.specs.Prelude.{◌≡◌, ◌≤◌, [], ◌∷◌, ◌++◌, map, length, IfOk, OnOk};
+ghost use Rattle.pks_terms.specs.declared.limits.TheConstants.{MOST_OBJECTS};
 ghost use Rattle.pks_terms.specs.Knowledge.{Did, Saw, AtGoal, grounded, observations, run_of, run_cases};
 ghost use Rattle.pks_terms.specs.Problems.{IsCompatible};
 ghost use Rattle.pks_terms.specs.Trees.{IsPlan};
@@ -40,7 +41,7 @@ fn add_action(
     i: &Instance,
     to: &mut Vec<Event>,
 ) -> Result<(), AllocError>
-    requires { length p.now.signature.objects ≤ 65536 }
+    requires { length p.now.signature.objects ≤ MOST_OBJECTS }
     ensures { let g = grounded (world_of w.now) (instance_of i.now) in
         OnOk result (map event_of to.new.items ≡ map event_of to.old.items ++ Did g ∷ map Saw (observations (problem_of p.now) (world_of after.now) g)) }
 {
@@ -62,7 +63,7 @@ fn run_tree(
     w: &World,
     to: &mut Vec<Event>,
 ) -> Result<(), AllocError>
-    requires { length p.now.signature.objects ≤ 65536 }
+    requires { length p.now.signature.objects ≤ MOST_OBJECTS }
     ensures { IsValid (problem_of p.now) → OnOk result (map event_of to.new.items ≡ map event_of to.old.items ++ run_of (problem_of p.now) (tree_of t.now) (world_of w.now)) }
 {
     match t {
@@ -101,7 +102,7 @@ fn run_cases(
     w: &World,
     to: &mut Vec<Event>,
 ) -> Result<(), AllocError>
-    requires { length p.now.signature.objects ≤ 65536 }
+    requires { length p.now.signature.objects ≤ MOST_OBJECTS }
     ensures { IsValid (problem_of p.now) → OnOk result (map event_of to.new.items ≡ map event_of to.old.items ++ run_cases (problem_of p.now) (chain_of k.now) value.0 (world_of w.now)) }
 {
     match k {
@@ -123,7 +124,7 @@ fn run_cases(
 /// of the problem is without a case. It asks that objects can be numbered, and says this of valid problems. `AllocError` comes for want of
 /// memory alone. `docs/RULES.md`, runs.
 pub fn exec(alloc: Global, p: &Problem<'_>, t: &Tree, w: &World) -> Result<Run, AllocError>
-    requires { length p.now.signature.objects ≤ 65536 }
+    requires { length p.now.signature.objects ≤ MOST_OBJECTS }
     ensures run { IsValid (problem_of p.now) → IfOk result (λ r. map event_of r ≡ run_of (problem_of p.now) (tree_of t.now) (world_of w.now)) }
     ensures goal { IsValid (problem_of p.now) → unjustified (problem_of p.now) ≡ [] → IsPlan (problem_of p.now) (tree_of t.now) → IsCompatible (problem_of p.now) (world_of w.now) → IfOk result (λ r. EndsWith AtGoal (map event_of r)) }
 {

@@ -1,5 +1,6 @@
 //! Explanations of trees. `docs/REASONS.md` says which proofs are accepted, `docs/FORMAT.md` has the text.
 ghost use Rattle.std.specs.Prelude.{◌≡◌, ◌≤◌, [], map, length, IfOk};
+ghost use Rattle.pks_terms.specs.declared.limits.TheConstants.{MOST_OBJECTS};
 ghost use Rattle.pks_terms.specs.Answers.{unjustified};
 ghost use Rattle.pks_terms.specs.Explained.{owed, IsExplained};
 ghost use Rattle.pks_terms.specs.Trees.{IsPlan, depth};
@@ -22,7 +23,7 @@ use std::alloc::{AllocError, Global};
 
 /// The literal with its proof, which must be accepted for it.
 fn accepted_literal(p: &Problem<'_>, one: Owed, proof: Proof) -> Result<ProvedLiteral, AllocError>
-    requires { length p.now.signature.objects ≤ 65536 }
+    requires { length p.now.signature.objects ≤ MOST_OBJECTS }
     ensures { IfOk result (λ e. IsProved (problem_of p.now) (owed_of one) (entry_of e)) }
 {
     if !accepts(p, &one.path, &proof, &one.literal) {
@@ -42,7 +43,7 @@ fn all_tested(
     all: Vec<Owed>,
     proofs: Vec<Proof>,
 ) -> Result<Vec<ProvedLiteral>, AllocError>
-    requires { length p.now.signature.objects ≤ 65536 }
+    requires { length p.now.signature.objects ≤ MOST_OBJECTS }
     ensures { IfOk result (λ es. AreProved (problem_of p.now) (map owed_of all.items) (entries_of es.items)) }
 {
     let mut entries = Vec::new(alloc);
@@ -61,7 +62,7 @@ fn tested_owed(
     t: &Tree,
     proofs: Vec<Proof>,
 ) -> Result<Vec<ProvedLiteral>, AllocError>
-    requires { length p.now.signature.objects ≤ 65536 }
+    requires { length p.now.signature.objects ≤ MOST_OBJECTS }
     ensures { IfOk result (λ es. AreProved (problem_of p.now) (owed (problem_of p.now) [] (tree_of t.now)) (entries_of es.items)) }
 {
     let all = owed_literals(alloc, p, t)?;

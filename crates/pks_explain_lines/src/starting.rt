@@ -7,12 +7,10 @@ use pks_lcw::{AtomSet, Entry, Lcw};
 use pks_proof_lines::{Fact, Reason};
 use pks_terms::group::Group;
 use pks_terms::ids::{ItemNo, ObjId};
+use pks_terms::limits::MOST_OBJECTS;
 use pks_terms::literal::{Literal, Pattern};
 use pks_terms::problem::{Init, InitItem, Signature};
 use std::alloc::{AllocError, Global};
-
-/// The most objects that a problem has.
-const MOST_OBJECTS: usize = 65_536;
 
 /// The objects of the result type of each function.
 fn ranges_of(alloc: Global, s: &Signature) -> Result<Vec<Vec<ObjId>>, AllocError> {

@@ -2,6 +2,7 @@
 
 ghost use Rattle.std.specs.Prelude.{◌≡◌, true, false, [], ◌∷◌, ◌++◌, codes};
 ghost use Rattle.std.specs.declared.cmp.Ordering.TheVariants.{Less};
+ghost use Rattle.pks_terms.specs.declared.codes.TheConstants.{ANSWER_MISSING, ANSWER_UNFIT};
 ghost use Rattle.pks_terms.specs.Sets.{IsIn};
 ghost use Rattle.pks_terms.specs.Syntax.{Object, Apply, negated};
 ghost use Rattle.pks_terms.specs.Databases.{holds};
@@ -164,13 +165,13 @@ pub fn lawn_is_talked_about()
 /// An answer that is neither of the two isn't fit, and where the file has six lines it stands on line 8.
 pub fn unfit_answer_ends_the_dialogue()
     ensures { (talked_text (talk lawn.signature lawn_names lawn_plan (codes "maybe" ∷ [])) ≡ codes "do (pour)\ndo (look)\ntest (alive)\n") × ((talk lawn.signature lawn_names lawn_plan (codes "maybe" ∷ [])).end ≡ Unfit 1)
-        × (refusal_text (answer_refusal (six_lines ++ codes ".\nmaybe\n") 1 320) ≡ codes "refused 8:1 320\n") }
+        × (refusal_text (answer_refusal (six_lines ++ codes ".\nmaybe\n") 1 ANSWER_UNFIT) ≡ codes "refused 8:1 320\n") }
 {}
 
 /// So does a missing one, which would stand there.
 pub fn missing_answer_ends_the_dialogue()
     ensures { (talked_text (talk lawn.signature lawn_names lawn_plan []) ≡ codes "do (pour)\ndo (look)\ntest (alive)\n") × ((talk lawn.signature lawn_names lawn_plan []).end ≡ Missing 1)
-        × (refusal_text (answer_refusal (six_lines ++ codes ".\n") 1 321) ≡ codes "refused 8:1 321\n") }
+        × (refusal_text (answer_refusal (six_lines ++ codes ".\n") 1 ANSWER_MISSING) ≡ codes "refused 8:1 321\n") }
 {}
 
 /// The dialogue about the safe, whose combination is asked for before it is dialled.

@@ -1,5 +1,6 @@
 -- Answers about files by the rules of the first version. What a proof in an explanation may have isn't a rule of a version.
 use Rattle.std.specs.Prelude.{ℕ, ◌≡◌, ◌⊎◌, List, [], ◌∷◌, ◌++◌, Some, None}
+use Rattle.pks_terms.specs.declared.codes.TheConstants.{INITIAL_CLASH}
 use Rattle.pks_terms.specs.Syntax.{Term, Literal}
 use Rattle.pks_terms.specs.Closure.{Outcome, Clash}
 use Rattle.pks_terms.specs.Problems.{Problem, initial}
@@ -43,7 +44,7 @@ pub record IsRecalled (p : Problem) (t : Tree) (xs : List State) : Type 0 where
 
 -- the initial databases clash
 abbrev pub RefusesStart : File → Refusal → Type 0
-RefusesStart f r = (l : Literal) × Closes f.problem.signature (initial f.problem) (Clash l) × (r ≡ refusal f.init_at 270 [])
+RefusesStart f r = (l : Literal) × Closes f.problem.signature (initial f.problem) (Clash l) × (r ≡ refusal f.init_at INITIAL_CLASH [])
 
 -- the first that applies
 abbrev pub RefusesFile : Job → File → Refusal → Type 0

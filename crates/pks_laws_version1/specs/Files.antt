@@ -1,5 +1,7 @@
 -- How a text reads by the rules of the first version. A type is a name alone, and there are at most 64 objects. Codes with one text in both versions are those of the reader over what is so declared: there no type has a parent, so a type fits itself alone.
 use Rattle.std.specs.Prelude.{◌≡◌, ◌≤◌, ◌<◌, ℕ, List, [], ◌∷◌, ◌++◌, length, Option, Some, None, slice_get, codes}
+use Rattle.pks_terms.specs.declared.codes.TheConstants.{NOT_ASCII, TOO_MANY_BYTES, WORLD_MISSING}
+use Rattle.pks_terms.specs.declared.limits.TheConstants.{MOST_BYTES}
 use Rattle.pks_terms.specs.Sets.{Each}
 use Rattle.pks_terms.specs.Worlds.{World}
 use Rattle.pks_terms.specs.Printed.{Text}
@@ -98,7 +100,7 @@ declared_by fs = scope_of (parts_at fs 1)
 
 -- the first fault of a file's world: that there is none, its shape, its facts
 abbrev pub world_fault : List Form → Option Fault
-world_fault fs = elim (slice_get fs 3) [ None ↦ Some (place_at fs 2, 310) | Some w ↦ or_else (world_shape_fault fs) (contents_fault (declared_by fs) w) ]
+world_fault fs = elim (slice_get fs 3) [ None ↦ Some (place_at fs 2, WORLD_MISSING) | Some w ↦ or_else (world_shape_fault fs) (contents_fault (declared_by fs) w) ]
 
 -- the world of the file
 abbrev pub world_by : List Form → World
@@ -119,9 +121,9 @@ pub data IsRefused (text : Text) (fault : Fault) : Type 0 where
 
 -- the first fault, at a byte: too many bytes, a byte above 127, or one of text, shape or meaning
 pub data IsFaulty (text : Text) : Fault → Type 0 where
-  too_long : 262144 < length text → IsFaulty text (0, 100)
-  too_high : length text ≤ 262144 → (at : ℕ) → first_high text ≡ Some at → IsFaulty text (at, 101)
-  refused : length text ≤ 262144 → first_high text ≡ None → (fault : Fault) → IsRefused text fault → IsFaulty text fault
+  too_long : MOST_BYTES < length text → IsFaulty text (0, TOO_MANY_BYTES)
+  too_high : length text ≤ MOST_BYTES → (at : ℕ) → first_high text ≡ Some at → IsFaulty text (at, NOT_ASCII)
+  refused : length text ≤ MOST_BYTES → first_high text ≡ None → (fault : Fault) → IsRefused text fault → IsFaulty text fault
 
 -- the file, by its forms, and by the problem and the names that they state
 abbrev pub file_in : Text → List Form → Problem → Named → File
@@ -129,7 +131,7 @@ file_in text fs p n = record (now.file_in text fs p n) { world = world_stated te
 
 -- the text is a file without faults up to meaning, and states this
 pub record IsRead (text : Text) (f : File) : Type 0 where
-  pub short : length text ≤ 262144
+  pub short : length text ≤ MOST_BYTES
   pub low : first_high text ≡ None
   pub forms : Forms
   pub spelled : Spells text forms

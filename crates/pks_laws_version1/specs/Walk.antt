@@ -1,5 +1,6 @@
 -- The first form that isn't what the grammar of the first version has at its place, and the first fault of shape of a whole file.
 use Rattle.std.specs.Prelude.{ℕ, Bool, ◌||◌, ◌&&◌, nat_lt, List, [], ◌∷◌, length, Option, Some, None, option_map, slice_get, codes, if◌then◌else◌}
+use Rattle.pks_terms.specs.declared.codes.TheConstants.{NOT_IN_GRAMMAR, NO_DOMAIN, NO_PROBLEM, NO_VERSION, WORLD_NOT_IN_GRAMMAR}
 use Rattle.pks_text.specs.Forms.{Form, Word, Listing, Forms, no_forms, form}
 use Rattle.pks_reader_shape.specs.declared.grammar.Sort.{Sort}
 use Rattle.pks_reader_shape.specs.declared.grammar.Sort.TheVariants.{Domain, Problem, World, Nothing}
@@ -71,12 +72,12 @@ walk_fault code s (Some f) = option_map (λ at. (at, code)) (fault_in s f)
 -- the text has this many bytes and these forms: `(pks 1)`, a domain, a problem, and then maybe a world
 unfoldable pub shape_fault : ℕ → List Form → Option Fault
 shape_fault end fs =
-    or_else (top_fault 120 states_version end (slice_get fs 0))
-    (or_else (top_fault 121 (is_headed (codes "domain")) end (slice_get fs 1))
-    (or_else (top_fault 122 (is_headed (codes "problem")) end (slice_get fs 2))
+    or_else (top_fault NO_VERSION states_version end (slice_get fs 0))
+    (or_else (top_fault NO_DOMAIN (is_headed (codes "domain")) end (slice_get fs 1))
+    (or_else (top_fault NO_PROBLEM (is_headed (codes "problem")) end (slice_get fs 2))
     (or_else (rest_fault (slice_get fs 3) (slice_get fs 4))
-    (or_else (walk_fault 124 Domain (slice_get fs 1)) (walk_fault 124 Problem (slice_get fs 2))))))
+    (or_else (walk_fault NOT_IN_GRAMMAR Domain (slice_get fs 1)) (walk_fault NOT_IN_GRAMMAR Problem (slice_get fs 2))))))
 
 -- the same of a world, which is asked later
 abbrev pub world_shape_fault : List Form → Option Fault
-world_shape_fault fs = walk_fault 300 World (slice_get fs 3)
+world_shape_fault fs = walk_fault WORLD_NOT_IN_GRAMMAR World (slice_get fs 3)

@@ -1,6 +1,7 @@
 //! The laws, each the clause of a function that does nothing. Files are in `docs/FORMAT.md`.
 
 ghost use Rattle.std.specs.Prelude.{◌≡◌, ◌↔◌, ◌==◌, ◌≤◌, ℕ, true, List, [], ◌∷◌, length, Option, codes};
+ghost use Rattle.pks_terms.specs.declared.codes.TheConstants.{NOT_IN_GRAMMAR};
 ghost use Rattle.pks_terms.specs.Problems.{Problem};
 ghost use Rattle.pks_terms.specs.Valid.{IsValid};
 ghost use Rattle.pks_terms.specs.Versions.{IsFirstVersion};
@@ -48,7 +49,7 @@ pub fn what_is_not_of_the_first_grammar_is_refused()
 
 /// So a file of the first version that the grammar of the second alone has is refused with 124.
 pub fn what_the_second_grammar_alone_has_is_refused()
-    ensures { (end : ℕ) (f d p : Form) (rest : List Form) → is_list_of (codes "pks" ∷ codes "1" ∷ []) f ≡ true → IsOf file.Second sort.Domain d → IsOf file.Second sort.Problem p → MayBeWorld rest → (grammar.IsFile (f ∷ d ∷ p ∷ rest) → ⊥) → (at : ℕ) × AreRefused end (f ∷ d ∷ p ∷ rest) (at, 124) }
+    ensures { (end : ℕ) (f d p : Form) (rest : List Form) → is_list_of (codes "pks" ∷ codes "1" ∷ []) f ≡ true → IsOf file.Second sort.Domain d → IsOf file.Second sort.Problem p → MayBeWorld rest → (grammar.IsFile (f ∷ d ∷ p ∷ rest) → ⊥) → (at : ℕ) × AreRefused end (f ∷ d ∷ p ∷ rest) (at, NOT_IN_GRAMMAR) }
 {}
 
 // ---- limits and codes

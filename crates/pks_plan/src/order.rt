@@ -4,6 +4,7 @@ ghost use Rattle.std.specs.Prelude.{◌≡◌, ◌≤◌, ◌*◌, ◌^◌, ◌<
 ghost use Rattle.std.specs.declared.cmp.Ordering.TheVariants.{Equal};
 ghost use Rattle.std.specs.Ordering.{nat_cmp};
 ghost use Rattle.std.specs.Cmp.Lexicographic.{slice_cmp};
+ghost use Rattle.pks_terms.specs.declared.limits.TheConstants.{GREATEST_COST};
 ghost use Rattle.pks_terms.specs.Sets.{Each};
 ghost use Rattle.pks_terms.specs.Problems.{schema_of};
 ghost use Rattle.pks_terms.specs.Trees.{depth, chain_depth, cost, chain_cost, objects_in, root_kind, instance_cmp, same_kind_cmp, root_cmp, tree_cmp, chain_cmp};
@@ -60,7 +61,7 @@ fn chain_total(p: &Problem<'_>, k: &CaseChain) -> u64
 /// (docs/RULES.md, "Trees, and which is best").
 pub fn cost(p: &Problem<'_>, t: &Tree) -> u32
     requires depth { depth (tree_of t.now) ≤ 16 }
-    requires costs { Each (λ schema. schema.cost ≤ 9999) (problem_of p.now).schemas }
+    requires costs { Each (λ schema. schema.cost ≤ GREATEST_COST) (problem_of p.now).schemas }
     ensures { result ≡ cost (problem_of p.now) (tree_of t.now) }
 {
     total(p, t) as u32

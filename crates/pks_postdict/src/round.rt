@@ -1,5 +1,6 @@
 //! Rounds over the moments of a history, and the last of them. `docs/RULES.md` has the rules on settling.
 ghost use Rattle.std.specs.Prelude.{◌≡◌, ◌≤◌, ◌<◌, true, false, List, [], ◌∷◌, ◌++◌, length, IfOk, OnOk};
+ghost use Rattle.pks_terms.specs.declared.limits.TheConstants.{MOST_OBJECTS};
 ghost use Rattle.pks_terms.specs.Sets.{added, IsOrdered};
 ghost use Rattle.pks_terms.specs.Signatures.{Signature as SSignature};
 ghost use Rattle.pks_terms.specs.Syntax.{Literal as SLiteral};
@@ -29,7 +30,7 @@ use std::rc::Rc;
 
 /// What the rules add to a moment, where they are to be read again.
 fn own_news(alloc: Global, s: &Signature, place: &Place) -> Result<Vec<Literal>, AllocError>
-    requires few { length s.now.objects ≤ 65536 }
+    requires few { length s.now.objects ≤ MOST_OBJECTS }
     requires spared { IsSparedAlone (signature_of s.now) place.now }
     ensures { IfOk result (λ v. Completes (held_of place.now.held).kf (literals_of v.items) (additions (signature_of s.now) (held_of place.now.held))) }
 {

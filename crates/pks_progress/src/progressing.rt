@@ -1,5 +1,6 @@
 //! The databases after an action. `docs/RULES.md` has the rule.
 ghost use Rattle.std.specs.Prelude.{◌≡◌, ◌≤◌, length, IfOk};
+ghost use Rattle.pks_terms.specs.declared.limits.TheConstants.{MOST_OBJECTS};
 ghost use Rattle.pks_terms.specs.Sets.{Each, IsIn, added};
 ghost use Rattle.pks_terms.specs.Databases.{entry_cmp};
 ghost use Rattle.pks_terms.specs.Orders.{conj_cmp, literal_cmp, term_cmp};
@@ -86,7 +87,7 @@ fn put_in_adds(alloc: Global, p: &Problem<'_>, d: &Db, i: &Instance) -> Result<P
 /// What the databases become by closing. It asks for at most 65,536 objects, and for an object of each function's result
 /// type.
 fn close_ahead(alloc: Global, s: &Signature, ahead: Ahead) -> Result<Step, AllocError>
-    requires few { length s.now.objects ≤ 65536 }
+    requires few { length s.now.objects ≤ MOST_OBJECTS }
     requires values { HasValues (signature_of s.now) }
     requires ahead { IsAhead (signature_of s.now) ahead }
     ensures { IfOk result (λ o. Closes (signature_of s.now) (five_ahead ahead) (outcome_of o)) }

@@ -2,6 +2,7 @@
 ghost use Rattle.std.specs.Prelude.{◌≡◌, ◌^◌, ◌≤◌, ◌<◌, ◌+◌, ◌-◌, ◌&&◌, ◌||◌, ◌==◌, length, slice_get, true};
 ghost use Rattle.std.specs.List.{list_any, list_all};
 ghost use Rattle.std.specs.Option.{option_map};
+ghost use Rattle.pks_terms.specs.declared.limits.TheConstants.{MOST_OBJECTS};
 ghost use Rattle.pks_terms.specs.Worlds.{World, true_in};
 ghost use Rattle.pks_terms.specs.Problems.{StartAlike};
 ghost use Rattle.pks_terms.specs.Branching.{numbered};
@@ -183,7 +184,7 @@ fn is_literal_allowed(
     l: &Literal,
     reason: &Reason,
 ) -> bool
-    requires objects { length p.now.signature.objects ≤ 65536 }
+    requires objects { length p.now.signature.objects ≤ MOST_OBJECTS }
     requires moment { c.now.moment < 2 ^ 32 }
     ensures { result ≡ is_literal_allowed (problem_of p.now) (path_of path.now) (judge_of c.now) c.now.moment (literal_of l.now) (reason_of reason.now) }
 {
@@ -222,7 +223,7 @@ fn is_region_allowed(
 
 /// Whether the fact may stand at the moment for the reason, by what is cited.
 fn is_allowed_by(p: &Problem<'_>, path: &[Turn], c: &Cited<'_>, f: &Fact, reason: &Reason) -> bool
-    requires objects { length p.now.signature.objects ≤ 65536 }
+    requires objects { length p.now.signature.objects ≤ MOST_OBJECTS }
     requires moment { c.now.moment < 2 ^ 32 }
     ensures { result ≡ is_allowed_by (problem_of p.now) (path_of path.now) (judge_of c.now) c.now.moment (fact_of f.now) (reason_of reason.now) }
 {
@@ -259,7 +260,7 @@ fn final_moment(path: &[Turn]) -> u64
 
 /// Whether the line stands at a moment of the path, and is allowed by its reason and the lines that it cites.
 fn is_allowed_line(p: &Problem<'_>, path: &[Turn], lines: &[Line], line: &Line) -> bool
-    requires { length p.now.signature.objects ≤ 65536 }
+    requires { length p.now.signature.objects ≤ MOST_OBJECTS }
     ensures { result ≡ is_allowed_line (problem_of p.now) (path_of path.now) (lines_of lines.now) (line_of line.now) }
 {
     let moment = u64::from(line.moment);
@@ -285,7 +286,7 @@ fn are_before(n: u64, cites: &[u32]) -> bool
 
 /// Whether each of the lines, the first having the number n, is allowed and cites smaller numbers alone.
 fn are_allowed(p: &Problem<'_>, path: &[Turn], lines: &[Line], n: u64, rest: &[Line]) -> bool
-    requires objects { length p.now.signature.objects ≤ 65536 }
+    requires objects { length p.now.signature.objects ≤ MOST_OBJECTS }
     requires numbers { n + length rest.now < 2 ^ 64 }
     ensures { result ≡ list_all (λ q. are_before q.0 q.1.cites && is_allowed_line (problem_of p.now) (path_of path.now) (lines_of lines.now) q.1) (numbered n (lines_of rest.now)) }
 {
@@ -367,7 +368,7 @@ fn ends_with(path: &[Turn], lines: &[Line], l: &Literal) -> bool
 
 #[tactic(auto, unfolding(pks_terms::specs::Accepting::accepts))]
 fn is_accepted(p: &Problem<'_>, path: &[Turn], lines: &[Line], l: &Literal) -> bool
-    requires { length p.now.signature.objects ≤ 65536 }
+    requires { length p.now.signature.objects ≤ MOST_OBJECTS }
     ensures { result ≡ accepts (problem_of p.now) (path_of path.now) (lines_of lines.now) (literal_of l.now) }
 {
     let _count = lines.len();
@@ -380,7 +381,7 @@ fn is_accepted(p: &Problem<'_>, path: &[Turn], lines: &[Line], l: &Literal) -> b
 /// moment. It knows nothing of databases, takes no memory, and asks for at most 65,536 objects. What is accepted is true in
 /// any two worlds that begin alike, take the path and have the same seen after each action.
 pub fn accepts(p: &Problem<'_>, path: &Path, proof: &Proof, l: &Literal) -> bool
-    requires { length p.now.signature.objects ≤ 65536 }
+    requires { length p.now.signature.objects ≤ MOST_OBJECTS }
     ensures exact { result ≡ accepts (problem_of p.now) (path_of path.now) (lines_of proof.now) (literal_of l.now) }
     ensures law { result ≡ true → (w w' : World) → IsTyped (problem_of p.now) → IsPathOf (problem_of p.now) (path_of path.now) → StartAlike (problem_of p.now) w w' → GoesAlong (problem_of p.now) w (path_of path.now) → GoesAlong (problem_of p.now) w' (path_of path.now) → SeenAlong (problem_of p.now) w w' (deeds (path_of path.now)) → (true_in (after_actions (problem_of p.now) w (ground_actions (problem_of p.now) w (deeds (path_of path.now)))) (literal_of l.now) ≡ true) × (true_in (after_actions (problem_of p.now) w' (ground_actions (problem_of p.now) w' (deeds (path_of path.now)))) (literal_of l.now) ≡ true) }
 {

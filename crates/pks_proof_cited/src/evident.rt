@@ -2,6 +2,7 @@
 ghost use Rattle.std.specs.Prelude.{◌≡◌, ◌≤◌, ◌+◌, ◌||◌, ◌&&◌, ◌==◌, [], ◌∷◌, length, not, true, false};
 ghost use Rattle.std.specs.List.{list_any};
 ghost use Rattle.std.specs.Option.{option_map};
+ghost use Rattle.pks_terms.specs.declared.limits.TheConstants.{MOST_OBJECTS};
 ghost use Rattle.pks_terms.specs.Syntax.{object, Equality};
 ghost use Rattle.pks_terms.specs.Orders.{inequation};
 ghost use Rattle.pks_terms.specs.Signatures.{fits_type, objects_from, object_is_of, is_foreign, type_of};
@@ -102,7 +103,7 @@ fn are_ruled_out(
     of: TypeId,
     owns: &[TypeId],
 ) -> bool
-    requires { length owns.now ≤ 65536 }
+    requires { length owns.now ≤ MOST_OBJECTS }
     ensures { result ≡ others_ruled_out (judge_of c.now) c.now.moment (term_of t.now) d.0 (objects_from (λ own. fits_type (signature_of s.now) own of.0) 0 (types_of owns.now)) }
 {
     let mut at: usize = 0;
@@ -121,7 +122,7 @@ fn are_ruled_out(
 
 /// Whether the object is one of the term's type, and each other of it is cited not to be the term's value.
 fn is_last_left(c: &Cited<'_>, s: &Signature, t: &Term, d: ObjId) -> bool
-    requires { length s.now.objects ≤ 65536 }
+    requires { length s.now.objects ≤ MOST_OBJECTS }
     ensures { result ≡ (list_any (λ e. e == d.0) (objects_like (signature_of s.now) (term_of t.now)) && others_ruled_out (judge_of c.now) c.now.moment (term_of t.now) d.0 (objects_like (signature_of s.now) (term_of t.now))) }
 {
     match type_of(s, t) {
@@ -133,7 +134,7 @@ fn is_last_left(c: &Cited<'_>, s: &Signature, t: &Term, d: ObjId) -> bool
 /// `range`: whether the literal is an equation with an object of the term's type on the right, each other object of that type
 /// cited not to be the term's value. It takes no memory.
 pub fn is_in_range(c: &Cited<'_>, s: &Signature, l: &Literal) -> bool
-    requires { length s.now.objects ≤ 65536 }
+    requires { length s.now.objects ≤ MOST_OBJECTS }
     ensures { result ≡ is_in_range (signature_of s.now) (judge_of c.now) c.now.moment (literal_of l.now) }
 {
     match &l.atom {

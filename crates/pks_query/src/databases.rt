@@ -1,5 +1,6 @@
 //! Closed databases. `docs/RULES.md` has the rule on closing.
 ghost use Rattle.std.specs.Prelude.{◌≡◌, ◌≤◌, length, None, IfOk, IfErr, IfSome, IsSomeAnd};
+ghost use Rattle.pks_terms.specs.declared.limits.TheConstants.{MOST_OBJECTS};
 ghost use Rattle.pks_terms.specs.Signatures.{HasValues};
 ghost use Rattle.pks_terms.specs.Worlds.{World};
 ghost use Rattle.pks_terms.specs.Meaning.{IsTrueOf};
@@ -59,7 +60,7 @@ impl Db {
     /// The databases that the five become by closing. It asks for at most 65,536 objects, and for an object of each
     /// function's result type. The error is the least literal that is derived false, or want of memory.
     pub fn close(alloc: Global, s: &Signature, five: Five) -> Result<Db, CloseEnd>
-        requires few { length s.now.objects ≤ 65536 }
+        requires few { length s.now.objects ≤ MOST_OBJECTS }
         requires values { HasValues (signature_of s.now) }
         ensures closes { IfOk result (λ db. Closes (signature_of s.now) (five_of five) (Next (five_of db))) }
         ensures clashes { IfErr result (IfClash (λ l. Closes (signature_of s.now) (five_of five) (Clash (literal_of l)))) }
@@ -76,7 +77,7 @@ impl Db {
 
     // The same by plain rounds, which name a clash.
     fn close_by_rounds(alloc: Global, s: &Signature, five: Five) -> Result<Db, CloseEnd>
-        requires few { length s.now.objects ≤ 65536 }
+        requires few { length s.now.objects ≤ MOST_OBJECTS }
         requires values { HasValues (signature_of s.now) }
         ensures closes { IfOk result (λ db. Closes (signature_of s.now) (five_of five) (Next (five_of db))) }
         ensures clashes { IfErr result (IfClash (λ l. Closes (signature_of s.now) (five_of five) (Clash (literal_of l)))) }
@@ -101,7 +102,7 @@ impl Db {
         s: &Signature,
         five: Five,
     ) -> Result<Option<Db>, AllocError>
-        requires few { length s.now.objects ≤ 65536 }
+        requires few { length s.now.objects ≤ MOST_OBJECTS }
         requires values { HasValues (signature_of s.now) }
         ensures ends { IfOk result (λ o. EndsWith (Closes (signature_of s.now) (five_of five)) o) }
         ensures moment { AreOf (signature_of s.now) (five_of five) → AreInOrder (five_of five) → IfOk result (λ o. IfSome o (λ db. IsMomentOf (signature_of s.now) (five_of db))) }
@@ -133,7 +134,7 @@ impl Db {
     /// What the five become by closing, as a step. It asks for what `close` does. Where the five are true of two worlds there
     /// is no clash. The error is want of memory.
     pub fn close_to_step(alloc: Global, s: &Signature, five: Five) -> Result<Step, AllocError>
-        requires few { length s.now.objects ≤ 65536 }
+        requires few { length s.now.objects ≤ MOST_OBJECTS }
         requires values { HasValues (signature_of s.now) }
         ensures closes { IfOk result (λ o. Closes (signature_of s.now) (five_of five) (outcome_of o)) }
         ensures moment { AreOf (signature_of s.now) (five_of five) → AreInOrder (five_of five) → IfOk result (λ o. IfNext (IsMomentOf (signature_of s.now)) (outcome_of o)) }

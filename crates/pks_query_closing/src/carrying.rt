@@ -1,6 +1,7 @@
 //! What follows by values, by groups and by ranges, put in one after another by a work list: where a place comes to have a
 //! value, the literals in which it stands are looked at again. `docs/RULES.md` has the rules.
 ghost use Rattle.std.specs.Prelude.{◌≡◌, ◌≤◌, List, [], ◌∷◌, ◌++◌, map, length, IfOk, OnOk, IfSome};
+ghost use Rattle.pks_terms.specs.declared.limits.TheConstants.{MOST_OBJECTS};
 ghost use Rattle.pks_terms.specs.Databases.{Five as SFive};
 ghost use Rattle.pks_terms.specs.Sets.{IsIn};
 ghost use Rattle.pks_terms.specs.Saturated.{Within};
@@ -243,7 +244,7 @@ impl Carrying {
 
     /// Looks at the literal of this number.
     fn look_at(&mut self, alloc: Global, s: &Signature, k: usize) -> Result<(), AllocError>
-        requires { length s.now.objects ≤ 65536 }
+        requires { length s.now.objects ≤ MOST_OBJECTS }
         ensures { OnOk result (GoesOn (signature_of s.now) self.old self.new) }
     {
         let Some(l) = self.literal(k) else {
@@ -258,7 +259,7 @@ impl Carrying {
 
     /// Looks at the literals from this number on, and at those that are put in then, as long as no place has two values.
     fn look_from(&mut self, alloc: Global, s: &Signature, from: usize) -> Result<(), AllocError>
-        requires { length s.now.objects ≤ 65536 }
+        requires { length s.now.objects ≤ MOST_OBJECTS }
         ensures { OnOk result (GoesOn (signature_of s.now) self.old self.new) }
     {
         let mut k = from;
@@ -282,7 +283,7 @@ impl Carrying {
     /// Looks at the literals from this number on, and at the groups that they touch, and so on. Each atom is settled once,
     /// so the turns are enough; what they leave is left to the rounds.
     fn work(&mut self, alloc: Global, s: &Signature, from: usize) -> Result<(), AllocError>
-        requires { length s.now.objects ≤ 65536 }
+        requires { length s.now.objects ≤ MOST_OBJECTS }
         ensures { OnOk result (GoesOn (signature_of s.now) self.old self.new) }
     {
         let mut from = from;
@@ -299,7 +300,7 @@ impl Carrying {
 
     /// The databases with what follows by the literals from this number on.
     fn after_work(&mut self, alloc: Global, s: &Signature, from: usize) -> Result<Five, AllocError>
-        requires { length s.now.objects ≤ 65536 }
+        requires { length s.now.objects ≤ MOST_OBJECTS }
         ensures { IfOk result (λ e. (d : SFive) → HasValues (signature_of s.now) → IsReached (signature_of s.now) d self.old → GrowsTo (signature_of s.now) d (five_of e)) }
     {
         self.work(alloc, s, from)?;
@@ -392,7 +393,7 @@ pub(crate) fn carry(
     old: &Derived,
     five: Five,
 ) -> Result<Five, AllocError>
-    requires few { length s.now.objects ≤ 65536 }
+    requires few { length s.now.objects ≤ MOST_OBJECTS }
     requires values { HasValues (signature_of s.now) }
     ensures { IfOk result (λ e. GrowsTo (signature_of s.now) (five_of five) (five_of e)) }
 {

@@ -2,6 +2,7 @@
 ghost use Rattle.std.specs.Prelude.{◌≡◌, ◌≤◌, List, [], ◌∷◌, map, length, Some, IfOk, IfErr};
 ghost use Rattle.std.specs.List.{find};
 ghost use Rattle.std.specs.Option.{option_map};
+ghost use Rattle.pks_terms.specs.declared.limits.TheConstants.{MOST_OBJECTS};
 ghost use Rattle.pks_terms.specs.Databases.{Five as SFive};
 ghost use Rattle.pks_terms.specs.Orders.{literal_cmp};
 ghost use Rattle.pks_terms.specs.Sets.{IsOrdered};
@@ -62,7 +63,7 @@ pub fn first_clash(s: &Signature, d: &Derived) -> Option<Literal>
 /// error is `Clash` with the least literal that is known and derived false, exactly where there is one after the last
 /// round, and `Memory` where memory runs out.
 pub fn close(alloc: Global, s: &Signature, five: Five) -> Result<Derived, CloseEnd>
-    requires { length s.now.objects ≤ 65536 }
+    requires { length s.now.objects ≤ MOST_OBJECTS }
     ensures closes { IfOk result (λ d. Closes (signature_of s.now) (five_of five) (Next (five_of d))) }
     ensures clashes { IfErr result (IfClash (λ l. Closes (signature_of s.now) (five_of five) (Clash (literal_of l)))) }
     ensures keeps_truth { IfOk result (λ d. (w w' : World) → IsTrueOf (signature_of s.now) w w' (five_of five) → IsTrueOf (signature_of s.now) w w' (five_of d)) }
@@ -117,7 +118,7 @@ pub fn close_unless_clash(
     s: &Signature,
     five: Five,
 ) -> Result<Option<Derived>, AllocError>
-    requires few { length s.now.objects ≤ 65536 }
+    requires few { length s.now.objects ≤ MOST_OBJECTS }
     requires values { HasValues (signature_of s.now) }
     ensures { IfOk result (λ o. EndsWith (Closes (signature_of s.now) (five_of five)) o) }
 {

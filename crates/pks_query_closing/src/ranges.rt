@@ -1,6 +1,7 @@
 //! Values that are the only ones left.
 ghost use Rattle.std.specs.Prelude.{◌≡◌, ℕ, ◌<◌, ◌≤◌, ◌+◌, ◌==◌, ◌||◌, ◌&&◌, IsTrue, false, [], ◌∷◌, ◌++◌, map, length, IfOk, OnOk};
 ghost use Rattle.std.specs.List.{flat_map, filter};
+ghost use Rattle.pks_terms.specs.declared.limits.TheConstants.{MOST_OBJECTS};
 ghost use Rattle.pks_terms.specs.Syntax.{object};
 ghost use Rattle.pks_terms.specs.Sets.{set_of};
 ghost use Rattle.pks_terms.specs.Databases.{normal, holds};
@@ -151,7 +152,7 @@ pub(crate) fn put_by_range(
     d: &Derived,
     t: &Term,
 ) -> Result<(), AllocError>
-    requires { length s.now.objects ≤ 65536 }
+    requires { length s.now.objects ≤ MOST_OBJECTS }
     ensures { OnOk result (map literal_of to.new.items ≡ map literal_of to.old.items ++ by_range (signature_of s.now) (five_of d.now) (term_of t.now)) }
 {
     let objects = range_of(alloc, s, t)?;
@@ -233,7 +234,7 @@ fn put_each(
     d: &Derived,
     set: &SetOf<Term>,
 ) -> Result<(), AllocError>
-    requires { length s.now.objects ≤ 65536 }
+    requires { length s.now.objects ≤ MOST_OBJECTS }
     ensures { OnOk result (map literal_of to.new.items ≡ map literal_of to.old.items ++ flat_map (by_range (signature_of s.now) (five_of d.now)) (terms_of set.now)) }
 {
     for t in set.items() {
@@ -251,7 +252,7 @@ pub fn put_by_ranges(
     s: &Signature,
     d: &Derived,
 ) -> Result<(), AllocError>
-    requires { length s.now.objects ≤ 65536 }
+    requires { length s.now.objects ≤ MOST_OBJECTS }
     ensures { OnOk result (map literal_of to.new.items ≡ map literal_of to.old.items ++ flat_map (by_range (signature_of s.now) (five_of d.now)) (set_of term_cmp (occurring (literals_of d.now.kf)))) }
 {
     let set = applications(alloc, d)?;

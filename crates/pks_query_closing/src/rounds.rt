@@ -1,5 +1,6 @@
 //! Rounds: what they add, and the last of them. `docs/RULES.md` has the rules.
 ghost use Rattle.std.specs.Prelude.{◌≡◌, ◌≤◌, ◌<◌, ◌^◌, List, [], ◌∷◌, ◌++◌, map, length, Option, Some, None, IfOk};
+ghost use Rattle.pks_terms.specs.declared.limits.TheConstants.{MOST_OBJECTS};
 ghost use Rattle.pks_terms.specs.Sets.{added};
 ghost use Rattle.pks_terms.specs.Syntax.{Literal as SLiteral};
 ghost use Rattle.pks_terms.specs.Orders.{literal_cmp};
@@ -22,7 +23,7 @@ use std::mem::drop;
 
 #[tactic(auto, using(crate::proofs::Members::members))]
 fn added_once(alloc: Global, s: &Signature, d: &Derived) -> Result<Vec<Literal>, AllocError>
-    requires { length s.now.objects ≤ 65536 }
+    requires { length s.now.objects ≤ MOST_OBJECTS }
     ensures { IfOk result (λ v. literals_of v.items ≡ added_once (signature_of s.now) (five_of d.now)) }
 {
     let mut all = by_values(alloc, d.normals())?;
@@ -35,7 +36,7 @@ fn added_once(alloc: Global, s: &Signature, d: &Derived) -> Result<Vec<Literal>,
 /// literals, also with more of them, they give what all additions give. It asks for at most 65,536 objects. The one error
 /// is want of memory.
 pub fn additions(alloc: Global, s: &Signature, d: &Derived) -> Result<Vec<Literal>, AllocError>
-    requires { length s.now.objects ≤ 65536 }
+    requires { length s.now.objects ≤ MOST_OBJECTS }
     ensures members { IfOk result (λ v. HaveSameMembers (literals_of v.items) (additions (signature_of s.now) (five_of d.now))) }
     ensures with_more { IfOk result (λ v. (more : List SLiteral) → added literal_cmp (literals_of d.now.kf) (literals_of v.items ++ more) ≡ added literal_cmp (literals_of d.now.kf) (additions (signature_of s.now) (five_of d.now) ++ more)) }
     ensures round { IfOk result (λ v. added literal_cmp (literals_of d.now.kf) (literals_of v.items) ≡ (round (signature_of s.now) (five_of d.now)).kf) }
@@ -47,7 +48,7 @@ pub fn additions(alloc: Global, s: &Signature, d: &Derived) -> Result<Vec<Litera
 
 /// The known literals after one more round.
 fn known_after(alloc: Global, s: &Signature, d: &Derived) -> Result<Kf, AllocError>
-    requires { length s.now.objects ≤ 65536 }
+    requires { length s.now.objects ≤ MOST_OBJECTS }
     ensures { IfOk result (λ kf. literals_of kf ≡ (round (signature_of s.now) (five_of d.now)).kf) }
 {
     let more = additions(alloc, s, d)?;
@@ -61,7 +62,7 @@ pub(crate) fn next_round(
     s: &Signature,
     d: &Derived,
 ) -> Result<Option<Five>, AllocError>
-    requires { length s.now.objects ≤ 65536 }
+    requires { length s.now.objects ≤ MOST_OBJECTS }
     ensures { IfOk result (λ o. IsNextRound (signature_of s.now) d.now o) }
 {
     let kf = known_after(alloc, s, d)?;
@@ -76,7 +77,7 @@ pub(crate) fn next_round(
 /// The databases after the last round: the next one equals it. It asks for at most 65,536 objects. The one error is want
 /// of memory.
 pub fn last_round(alloc: Global, s: &Signature, five: Five) -> Result<Derived, AllocError>
-    requires { length s.now.objects ≤ 65536 }
+    requires { length s.now.objects ≤ MOST_OBJECTS }
     ensures { IfOk result (λ d. IsLastRound (signature_of s.now) (five_of five) (five_of d)) }
 {
     let mut d = Derived::of(alloc, five)?;

@@ -1,5 +1,6 @@
 //! What follows by one group, and by the range of one application. `docs/RULES.md` has the rules.
 ghost use Rattle.std.specs.Prelude.{◌≡◌, ◌≤◌, List, [], ◌∷◌, ◌++◌, map, length, IfOk, OnOk, IfSome};
+ghost use Rattle.pks_terms.specs.declared.limits.TheConstants.{MOST_OBJECTS};
 ghost use Rattle.pks_terms.specs.Sets.{IsIn, added};
 ghost use Rattle.pks_terms.specs.Saturated.{Within};
 ghost use Rattle.pks_terms.specs.Orders.{literal_cmp};
@@ -169,7 +170,7 @@ impl Carrying {
 
     /// Whether the application has no value, and all that it may be but one at most are denied.
     fn may_be_last(&self, alloc: Global, s: &Signature, t: &Term) -> Result<bool, AllocError>
-        requires { length s.now.objects ≤ 65536 }
+        requires { length s.now.objects ≤ MOST_OBJECTS }
     {
         if self.standing.has_value(t) {
             return Ok(false);
@@ -195,7 +196,7 @@ impl Carrying {
         l: &Literal,
         t: &Term,
     ) -> Result<Vec<Literal>, AllocError>
-        requires few { length s.now.objects ≤ 65536 }
+        requires few { length s.now.objects ≤ MOST_OBJECTS }
         requires among { IsAmong (term_of t.now) (literal_of l.now) }
         ensures { IfOk result (λ v. IsIn (literal_of l.now) (literals_of self.now.listed.items) → GivesBy (signature_of s.now) self.now (map literal_of v.items)) }
     {
@@ -216,7 +217,7 @@ impl Carrying {
         s: &Signature,
         terms: &[Term],
     ) -> Result<Option<Term>, AllocError>
-        requires { length s.now.objects ≤ 65536 }
+        requires { length s.now.objects ≤ MOST_OBJECTS }
         ensures { IfOk result (λ o. IfSome o (λ t. IsIn (term_of t) (terms_of terms.now))) }
     {
         for k in 0..terms.len() {
@@ -237,7 +238,7 @@ impl Carrying {
         s: &Signature,
         l: &Literal,
     ) -> Result<Option<Term>, AllocError>
-        requires { length s.now.objects ≤ 65536 }
+        requires { length s.now.objects ≤ MOST_OBJECTS }
         ensures { IfOk result (λ o. IfSome o (λ t. IsAmong (term_of t) (literal_of l.now))) }
     {
         let mut applications = Vec::new(alloc);
@@ -253,7 +254,7 @@ impl Carrying {
         s: &Signature,
         l: &Literal,
     ) -> Result<(), AllocError>
-        requires { length s.now.objects ≤ 65536 }
+        requires { length s.now.objects ≤ MOST_OBJECTS }
         ensures { OnOk result (IsIn (literal_of l.now) (literals_of self.old.listed.items) → GoesOn (signature_of s.now) self.old self.new) }
     {
         let Some(t) = self.last_within(alloc, s, l)? else {

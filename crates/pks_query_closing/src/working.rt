@@ -1,5 +1,6 @@
 //! Rounds between which a work list puts in what follows by values, ranges and groups, and that end where a clash is seen.
 ghost use Rattle.std.specs.Prelude.{◌≡◌, ◌≤◌, length, IfOk};
+ghost use Rattle.pks_terms.specs.declared.limits.TheConstants.{MOST_OBJECTS};
 ghost use Rattle.pks_terms.specs.Signatures.{HasValues};
 ghost use Rattle.pks_terms.specs.Views.{signature_of};
 ghost use Rattle.pks_query_lookup.specs.Fives.{five_of};
@@ -16,7 +17,7 @@ use std::mem::drop;
 
 /// The databases with what follows from them by what the old ones don't have.
 fn grow(alloc: Global, s: &Signature, old: &Derived, five: Five) -> Result<Derived, AllocError>
-    requires few { length s.now.objects ≤ 65536 }
+    requires few { length s.now.objects ≤ MOST_OBJECTS }
     requires values { HasValues (signature_of s.now) }
     ensures { IfOk result (λ e. GrowsTo (signature_of s.now) (five_of five) (five_of e)) }
 {
@@ -32,7 +33,7 @@ pub(crate) fn work_out(
     s: &Signature,
     five: Five,
 ) -> Result<Option<Derived>, AllocError>
-    requires few { length s.now.objects ≤ 65536 }
+    requires few { length s.now.objects ≤ MOST_OBJECTS }
     requires values { HasValues (signature_of s.now) }
     ensures { IfOk result (λ o. IsWorked (signature_of s.now) (five_of five) o) }
 {

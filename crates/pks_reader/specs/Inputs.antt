@@ -1,6 +1,8 @@
 -- How an input reads: as a file, or with a first fault of length, bytes, text, shape or meaning.
 use Rattle.std.specs.Prelude.{◌≡◌, ◌≤◌, ◌<◌, ℕ, zero, suc, nat_lt, List, [], ◌∷◌, length, Option, Some, None, option_map, option_and_then, slice_get, if◌then◌else◌}
 use Rattle.std.specs.Option.{option_map_or}
+use Rattle.pks_terms.specs.declared.codes.TheConstants.{NOT_ASCII, TOO_MANY_BYTES}
+use Rattle.pks_terms.specs.declared.limits.TheConstants.{MOST_BYTES}
 use Rattle.pks_terms.specs.Printed.{Text}
 use Rattle.pks_terms.specs.Problems.{Problem}
 use Rattle.pks_terms.specs.Answers.{Place, Stated, NoWorld, BadWorld, GivenWorld, File, Reading, ReadAs, Faulty}
@@ -51,13 +53,13 @@ file_in text fs p n = record {
 
 -- the first fault, at a byte: too many bytes, a byte above 127, or one of text, shape or meaning
 pub data IsFaulty (input : Text) : Fault → Type 0 where
-  too_long : 262144 < length input → IsFaulty input (0, 100)
-  too_high : length input ≤ 262144 → (at : ℕ) → first_high input ≡ Some at → IsFaulty input (at, 101)
-  refused : length input ≤ 262144 → first_high input ≡ None → (fault : Fault) → IsRefused input fault → IsFaulty input fault
+  too_long : MOST_BYTES < length input → IsFaulty input (0, TOO_MANY_BYTES)
+  too_high : length input ≤ MOST_BYTES → (at : ℕ) → first_high input ≡ Some at → IsFaulty input (at, NOT_ASCII)
+  refused : length input ≤ MOST_BYTES → first_high input ≡ None → (fault : Fault) → IsRefused input fault → IsFaulty input fault
 
 -- the input is a file without faults up to meaning, and states this
 pub record IsRead (input : Text) (f : File) : Type 0 where
-  pub short : length input ≤ 262144
+  pub short : length input ≤ MOST_BYTES
   pub low : first_high input ≡ None
   pub forms : Forms
   pub spelled : Spells input forms

@@ -1,5 +1,6 @@
 -- What a text states, and when it is refused.
 use Rattle.std.specs.Prelude.{◌≡◌, ℕ, List, length, Option, Some, None}
+use Rattle.pks_terms.specs.declared.codes.TheConstants.{BAD_BYTE, TOO_DEEP, UNCLOSED, UNOPENED}
 use Rattle.pks_terms.specs.Problems.{Problem}
 use Rattle.pks_text.specs.Forms.{Forms, list_of, Spells}
 use Rattle.pks_text.specs.Faults.{IsFirstFault}
@@ -16,10 +17,10 @@ pub record Reads (text : List ℕ) (fs : Forms) : Type 0 where
 
 -- the place and the code of a fault of a text; want of memory is none
 abbrev pub coded : FormFault → Option Fault
-coded (BadByte at) = Some (at, 110)
-coded (Unclosed at) = Some (at, 111)
-coded (Unopened at) = Some (at, 112)
-coded (TooDeep at) = Some (at, 113)
+coded (BadByte at) = Some (at, BAD_BYTE)
+coded (Unclosed at) = Some (at, UNCLOSED)
+coded (Unopened at) = Some (at, UNOPENED)
+coded (TooDeep at) = Some (at, TOO_DEEP)
 coded Memory = None
 
 -- the text is refused with this fault: the first of the text, or, where it has none, that of its forms

@@ -1,5 +1,6 @@
 -- Files that were read, and places, as they lie in memory.
 use Rattle.std.specs.Prelude.{◌≡◌, ◌≤◌, ℕ, map, length, Option, Some, None}
+use Rattle.pks_terms.specs.declared.limits.TheConstants.{MOST_BYTES}
 use Rattle.pks_terms.specs.Answers.{Place, Stated, NoWorld, BadWorld, GivenWorld, File}
 use Rattle.pks_terms.specs.Views.{signature_of, problem_of}
 use Rattle.pks_terms.specs.ValidProblems.{IsValidProblem}
@@ -20,7 +21,7 @@ file_of f = file_in f.source.now (map form_view f.forms.top.items) (problem_of f
 
 -- the text isn't too long, and its forms state the problem, which is valid
 pub record IsWhole (f : InputFile) : Type 0 where
-  pub short : length f.source.now ≤ 262144
+  pub short : length f.source.now ≤ MOST_BYTES
   pub valid : IsValidProblem f.problem
   pub declared : signature_of f.problem.signature ≡ signature_in (declared_by (map form_view f.forms.top.items))
 

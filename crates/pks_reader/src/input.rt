@@ -1,5 +1,7 @@
 //! Reading an input.
 ghost use Rattle.std.specs.Prelude.{◌≡◌, ◌≤◌, ℕ, map, length, IsOk, IfOk, IfErr};
+ghost use Rattle.pks_terms.specs.declared.codes.TheConstants.{NOT_ASCII};
+ghost use Rattle.pks_terms.specs.declared.limits.TheConstants.{MOST_BYTES};
 ghost use Rattle.pks_terms.specs.Answers as answers;
 ghost use Rattle.pks_terms.specs.Problems as stating;
 ghost use Rattle.pks_terms.specs.ValidProblems.{IsValidProblem};
@@ -17,6 +19,7 @@ ghost use Rattle.pks_reader.specs.Inputs.{first_high, IsFaulty, IsRead};
 ghost use Rattle.pks_reader.specs.Views.{file_of, IsWhole};
 
 use crate::{Refusal, Turned, problem_of, text_refused};
+use pks_terms::codes::NOT_ASCII;
 use pks_terms::problem::Problem;
 use pks_text::{Forms, forms};
 use std::alloc::Global;
@@ -35,7 +38,7 @@ pub struct InputFile<'s> {
 
 // The first byte above 127.
 fn first_high(input: &[u8]) -> Option<u32>
-    requires { length input.now ≤ 262144 }
+    requires { length input.now ≤ MOST_BYTES }
     ensures { result ≡ first_high input.now }
 {
     let mut at = 0;
@@ -50,14 +53,14 @@ fn first_high(input: &[u8]) -> Option<u32>
 
 // The refusal of a byte above 127.
 fn high_refusal(at: u32) -> Turned
-    ensures { Turns (λ f. f ≡ (at, 101)) result }
+    ensures { Turns (λ f. f ≡ (at, NOT_ASCII)) result }
 {
-    Turned::Refused(Refusal::plain(at, 101))
+    Turned::Refused(Refusal::plain(at, NOT_ASCII))
 }
 
 // The file of these forms, or their first fault, of shape or meaning.
 fn read_forms<'s>(alloc: Global, source: &'s str, forms: Forms<'s>) -> Result<InputFile<'s>, Turned>
-    requires short { length source.now ≤ 262144 }
+    requires short { length source.now ≤ MOST_BYTES }
     requires spelled { Spells source.now (forms_view forms.top.items) }
     ensures source { IfOk result (λ f. f.source.now ≡ source.now) }
     ensures forms { IfOk result (λ f. f.forms.top.items ≡ forms.entry.top.items) }
@@ -79,7 +82,7 @@ fn read_forms<'s>(alloc: Global, source: &'s str, forms: Forms<'s>) -> Result<In
 
 // The file of a text, or its first fault, of text, shape or meaning.
 fn read_text<'s>(alloc: Global, source: &'s str) -> Result<InputFile<'s>, Turned>
-    requires { length source.now ≤ 262144 }
+    requires { length source.now ≤ MOST_BYTES }
     ensures source { IfOk result (λ f. f.source.now ≡ source.now) }
     ensures text { IfOk result (λ f. Reads source.now (forms_view f.forms.top.items)) }
     ensures states { IfOk result (λ f. FormsState (map form_view f.forms.top.items) (problem_of f.problem) (named_of f.problem)) }
@@ -100,7 +103,7 @@ fn read_text<'s>(alloc: Global, source: &'s str) -> Result<InputFile<'s>, Turned
 ///
 /// `Refused` comes exactly where there is a fault, says where it is and nothing else; `Memory` may come at any input.
 pub fn read_file<'s>(alloc: Global, input: &'s [u8]) -> Result<InputFile<'s>, Turned>
-    requires { length input.now ≤ 262144 }
+    requires { length input.now ≤ MOST_BYTES }
 
     // The input reads as the file, whose parts fit together.
     ensures reads { IfOk result (λ f. IsRead input.now (file_of f)) }

@@ -1,6 +1,7 @@
 //! Places in an input: the bytes that refusals name, and their lines and columns.
 ghost use Rattle.std.specs.Prelude.{◌≡◌, ◌≤◌, length, map, slice_get};
 ghost use Rattle.std.specs.Option.{option_map_or};
+ghost use Rattle.pks_terms.specs.declared.limits.TheConstants.{MOST_BYTES};
 ghost use Rattle.pks_text.specs.Forms.{place_of};
 ghost use Rattle.pks_text.specs.FormViews.{form_view};
 ghost use Rattle.pks_reader_problem.specs.Spans.{bytes_in, adds_in};
@@ -17,7 +18,7 @@ use pks_text::{line_column_behind, place_of};
 /// from 1 by line feeds, columns from 1 by bytes (`docs/FORMAT.md`).
 #[tactic(auto, unfolding(pks_text::specs::Lines::line_column_of))]
 pub fn place(input: &[u8], at: u32) -> (u32, u32)
-    requires { length input.now ≤ 262144 }
+    requires { length input.now ≤ MOST_BYTES }
     ensures { place_at result ≡ line_and_column input.now at }
 {
     let end = (at as usize).min(input.len());

@@ -1,5 +1,6 @@
 //! A text to its problem.
 ghost use Rattle.std.specs.Prelude.{◌≡◌, ◌≤◌, ◌<◌, ℕ, map, length, slice_get, Some, None, IsOk, IfOk, IfErr, OnOk};
+ghost use Rattle.pks_terms.specs.declared.limits.TheConstants.{MOST_BYTES};
 ghost use Rattle.pks_terms.specs.Sets.{Each};
 ghost use Rattle.pks_terms.specs.Counts.{SignatureCounts, ProblemCounts};
 ghost use Rattle.pks_terms.specs.Problems as stating;
@@ -92,7 +93,7 @@ pub fn problem_of<'s>(
     source: &'s str,
     forms: &Forms<'s>,
 ) -> Result<Problem<'s>, Turned>
-    requires short { length source.now ≤ 262144 }
+    requires short { length source.now ≤ MOST_BYTES }
     requires spelled { Spells source.now (forms_view forms.now.top.items) }
 
     // The problem is the one that the forms state, and it is valid.
@@ -121,7 +122,7 @@ pub fn problem_of<'s>(
 ///
 /// `Refused` comes exactly where there is a fault, and the problem is valid; `Memory` may come at any text.
 pub fn read_problem<'s>(alloc: Global, source: &'s str) -> Result<Problem<'s>, Turned>
-    requires { length source.now ≤ 262144 }
+    requires { length source.now ≤ MOST_BYTES }
 
     // The problem is the one that the text states, and it is valid.
     ensures stated { IfOk result (λ p. States source.now (problem_of p) (named_of p)) }

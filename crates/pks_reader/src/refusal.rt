@@ -6,6 +6,7 @@ ghost use Rattle.pks_reader_shape.specs.Refusals.{Turns};
 ghost use Rattle.pks_reader.specs.Texts.{coded};
 
 use pks_reader_shape::report::{Refusal, Turned};
+use pks_terms::codes::{BAD_BYTE, TOO_DEEP, UNCLOSED, UNOPENED};
 use pks_text::FormFault;
 
 /// The refusal of a fault of a text, with its code from 110 to 113 (`docs/FORMAT.md`), or want of memory.
@@ -14,10 +15,10 @@ pub fn text_refused(fault: FormFault) -> Turned
     ensures memory { result ≡ Memory → fault ≡ text.Memory }
 {
     match fault {
-        FormFault::BadByte(at) => Turned::Refused(Refusal::plain(at, 110)),
-        FormFault::Unclosed(at) => Turned::Refused(Refusal::plain(at, 111)),
-        FormFault::Unopened(at) => Turned::Refused(Refusal::plain(at, 112)),
-        FormFault::TooDeep(at) => Turned::Refused(Refusal::plain(at, 113)),
+        FormFault::BadByte(at) => Turned::Refused(Refusal::plain(at, BAD_BYTE)),
+        FormFault::Unclosed(at) => Turned::Refused(Refusal::plain(at, UNCLOSED)),
+        FormFault::Unopened(at) => Turned::Refused(Refusal::plain(at, UNOPENED)),
+        FormFault::TooDeep(at) => Turned::Refused(Refusal::plain(at, TOO_DEEP)),
         FormFault::Memory => Turned::Memory,
     }
 }

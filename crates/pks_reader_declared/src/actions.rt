@@ -18,6 +18,7 @@ use pks_reader_names::report::Report;
 use pks_reader_names::scope::Scope;
 use pks_reader_names::sentences::{adds, effects, queries, senses};
 use pks_reader_shape::walk::is_headed;
+use pks_terms::codes::PAST_LIMIT;
 use pks_text::{Form, place_of};
 use std::alloc::Global;
 
@@ -78,7 +79,7 @@ fn cost(report: &mut Report, word: &Form<'_>)
     ensures { found_of report.new ≡ all_noted (found_of report.old) (cost_faults (form_view word.now)) }
 {
     if text_of(word).len() > 4 {
-        report.note(place_of(word), 208);
+        report.note(place_of(word), PAST_LIMIT);
     }
 }
 

@@ -15,6 +15,7 @@ use pks_reader_names::parts::{behind_head, parts_of, text_of};
 use pks_reader_names::report::Report;
 use pks_reader_names::scope::{entry, name_in, number};
 use pks_reader_shape::report::Turned;
+use pks_terms::codes::{DECLARED_TWICE, PAST_LIMIT, UNDECLARED};
 use pks_terms::ids::TypeId;
 use pks_terms::problem::Shape;
 use pks_text::{Form, place_of};
@@ -98,7 +99,11 @@ pub fn check_name<X>(report: &mut Report, table: &IndexMap<&str, X>, word: &Form
     ensures { found_of report.new ≡ all_noted (found_of report.old) (name_faults (names_of table.now) (form_view word.now)) }
 {
     report.too_long(name_of(word), place_of(word));
-    report.require(entry(table, name_of(word)).is_none(), place_of(word), 202);
+    report.require(
+        entry(table, name_of(word)).is_none(),
+        place_of(word),
+        DECLARED_TWICE,
+    );
 }
 
 /// A name with its shape, unless it is there.
@@ -127,7 +132,7 @@ fn surplus<X>(report: &mut Report, declared: &IndexMap<&str, X>, word: &Form<'_>
     ensures { found_of report.new ≡ all_noted (found_of report.old) (surplus_faults (names_of declared.now) (form_view word.now)) }
 {
     check_name(report, declared, word);
-    report.note(place_of(word), 208);
+    report.note(place_of(word), PAST_LIMIT);
 }
 
 /// The first past n names, that are words or lists with the name as first part.
@@ -179,7 +184,11 @@ pub fn type_word(report: &mut Report, types: &Types<'_>, form: &Form<'_>)
     ensures { found_of report.new ≡ all_noted (found_of report.old) (type_faults (names_of types.now) (form_view form.now)) }
 {
     report.too_long(text_of(form), place_of(form));
-    report.require(number(types, text_of(form)).is_some(), place_of(form), 203);
+    report.require(
+        number(types, text_of(form)).is_some(),
+        place_of(form),
+        UNDECLARED,
+    );
 }
 
 /// The faults of the only form, which names a type.

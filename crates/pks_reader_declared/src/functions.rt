@@ -19,6 +19,7 @@ use pks_reader_names::parts::{behind_head, first_forms, text_of};
 use pks_reader_names::report::Report;
 use pks_reader_names::scope::Scope;
 use pks_reader_names::sentences::past;
+use pks_terms::codes::EMPTY_TYPE;
 use pks_terms::ids::TypeId;
 use pks_terms::problem::Shape;
 use pks_text::{Form, place_of};
@@ -124,7 +125,7 @@ fn empty(report: &mut Report, scope: &Scope<'_, '_>, form: Option<&Form<'_>>)
     if let Some(form) = form {
         if let Some(wanted) = small_number(&scope.declared.types, text_of(form)) {
             if !has_object(scope, wanted) {
-                report.note(place_of(form), 209);
+                report.note(place_of(form), EMPTY_TYPE);
             }
         }
     }

@@ -19,6 +19,7 @@ use pks_reader_names::parts::{behind_head, first_forms, text_of};
 use pks_reader_names::report::Report;
 use pks_reader_names::scope::Scope;
 use pks_reader_names::sentences::past;
+use pks_terms::codes::BARRED_NAME;
 use pks_terms::ids::TypeId;
 use pks_terms::problem::Shape;
 use pks_text::{Form, place_of};
@@ -176,7 +177,7 @@ fn report_not(report: &mut Report, form: &Form<'_>)
 {
     let word = first_in(form);
     if name_of(word) == "not" {
-        report.note(place_of(word), 201);
+        report.note(place_of(word), BARRED_NAME);
     }
 }
 

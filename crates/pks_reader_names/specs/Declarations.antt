@@ -1,5 +1,6 @@
 -- What the sections of a domain declare, and the faults of declarations.
 use Rattle.std.specs.Prelude.{ℕ, zero, suc, Bool, false, ◌||◌, ◌-◌, ◌==◌, nat_lt, List, [], ◌∷◌, ◌++◌, length, Option, Some, None, codes, bytes_eq, if◌then◌else◌, unwrap_or}
+use Rattle.pks_terms.specs.declared.codes.TheConstants.{BARRED_NAME, EMPTY_TYPE, PAST_LIMIT, UNDECLARED}
 use Rattle.pks_terms.specs.Signatures.{Shape}
 use Rattle.pks_text.specs.Forms.{Form, Forms, no_forms, form, place_of}
 use Rattle.pks_reader_shape.specs.Walk.{is_headed, count}
@@ -45,7 +46,7 @@ entries_faults named said faults table (form f fs) =
 
 -- the name is one too many, whatever else is said of it
 abbrev pub surplus_faults : {X : Type 0} → Table X → Form → List Fault
-surplus_faults table w = name_faults table w ++ ((place_of w, 208) ∷ [])
+surplus_faults table w = name_faults table w ++ ((place_of w, PAST_LIMIT) ∷ [])
 
 -- the first name past a number of them, where these are declared. What stands behind it has a later place
 abbrev pub past_names : {X : Type 0} → Table X → (Form → Form) → ℕ → Forms → List Fault
@@ -77,7 +78,7 @@ Types = Table (Option ℕ)
 
 -- the form names a type
 abbrev pub type_faults : Types → Form → List Fault
-type_faults types f = too_long (text_of f) (place_of f) ++ unknown (place_of f) 203 (number_of types (text_of f))
+type_faults types f = too_long (text_of f) (place_of f) ++ unknown (place_of f) UNDECLARED (number_of types (text_of f))
 
 -- the number of the type that it names
 abbrev pub type_named : Types → Form → ℕ
@@ -156,7 +157,7 @@ predicate_in types f = record { arguments = types_named types 3 (behind_head f);
 
 -- a predicate isn't named `not`
 abbrev pub barred_faults : Form → List Fault
-barred_faults f = if bytes_eq (name_of (first_in f)) (codes "not") then (place_of (first_in f), 201) ∷ [] else []
+barred_faults f = if bytes_eq (name_of (first_in f)) (codes "not") then (place_of (first_in f), BARRED_NAME) ∷ [] else []
 
 -- it has at most three arguments
 unfoldable pub predicate_faults : Types → Form → List Fault
@@ -189,7 +190,7 @@ has_object s (own ∷ owns) wanted = fits s own wanted || has_object s owns want
 -- the type is declared and has no object
 abbrev pub empty_faults : Scope → Option Form → List Fault
 empty_faults s None = []
-empty_faults s (Some f) = elim (number_of s.types (text_of f)) [ None ↦ [] | Some wanted ↦ if has_object s (entries_of s.objects) wanted then [] else (place_of f, 209) ∷ [] ]
+empty_faults s (Some f) = elim (number_of s.types (text_of f)) [ None ↦ [] | Some wanted ↦ if has_object s (entries_of s.objects) wanted then [] else (place_of f, EMPTY_TYPE) ∷ [] ]
 
 -- a function has at most two arguments, and its result type has an object
 unfoldable pub function_faults : Scope → Form → List Fault
@@ -224,7 +225,7 @@ parameters_section types fs = section_faults first_in 4 (parameter_in types) (λ
 
 -- A number doesn't begin with `0`, so it is above 9,999 where it has more than four digits.
 abbrev pub cost_faults : Form → List Fault
-cost_faults f = if nat_lt 4 (length (text_of f)) then (place_of f, 208) ∷ [] else []
+cost_faults f = if nat_lt 4 (length (text_of f)) then (place_of f, PAST_LIMIT) ∷ [] else []
 
 -- the faults of an action's parts, each section having at most 16
 unfoldable pub parts_section : Scope → Forms → List Fault

@@ -1,5 +1,6 @@
 -- Parts of lists, and limits on their number.
 use Rattle.std.specs.Prelude.{ℕ, zero, suc, List, [], ◌∷◌, ◌++◌, Option, Some, None, if◌then◌else◌}
+use Rattle.pks_terms.specs.declared.codes.TheConstants.{PAST_LIMIT}
 use Rattle.pks_text.specs.Forms.{Form, Word, Listing, Forms, no_forms, form, place_of}
 use Rattle.pks_reader_shape.specs.Walk.{is_headed}
 use Rattle.pks_reader_shape.specs.Files.{Fault}
@@ -61,5 +62,5 @@ only faults (form f fs) = faults f
 -- the first form past a number of them
 abbrev pub past : ℕ → Forms → List Fault
 past n no_forms = []
-past zero (form f fs) = (place_of f, 208) ∷ []
+past zero (form f fs) = (place_of f, PAST_LIMIT) ∷ []
 past (suc n) (form f fs) = past n fs

@@ -1,5 +1,6 @@
 -- The faults of queries, effects, senses, adds, initial items and aims.
 use Rattle.std.specs.Prelude.{ℕ, Bool, true, false, ◌||◌, ◌&&◌, List, [], ◌∷◌, ◌++◌, codes, bytes_eq, if◌then◌else◌}
+use Rattle.pks_terms.specs.declared.codes.TheConstants.{LITERAL_TWICE}
 use Rattle.pks_text.specs.Forms.{Form, Word, Listing, Forms, no_forms, form, place_of}
 use Rattle.pks_reader_shape.specs.Walk.{is_headed}
 use Rattle.pks_reader_shape.specs.Files.{Fault}
@@ -97,7 +98,7 @@ same_literal f g = if is_headed (codes "not") f && is_headed (codes "not") g the
 
 -- the same literal comes again
 abbrev pub again : Form → Form → List Fault
-again f g = if same_literal f g then (place_of g, 210) ∷ [] else []
+again f g = if same_literal f g then (place_of g, LITERAL_TWICE) ∷ [] else []
 
 -- a literal that stands twice, at its second place
 abbrev pub repeated : Forms → List Fault

@@ -1,6 +1,7 @@
 -- Names that are declared, with what is said of them. A name has the number of its place.
 use Rattle.std.specs.Prelude.{ℕ, nat_lt, List, [], ◌∷◌, length, Option, Some, None, bytes_eq, if◌then◌else◌, is_some, position}
 use Rattle.std.specs.Map.{keys_of}
+use Rattle.pks_terms.specs.declared.codes.TheConstants.{DECLARED_TWICE, LONG_NAME}
 use Rattle.pks_reader_shape.specs.Files.{Fault}
 
 -- names in the order of declaration, each with what is said of it
@@ -30,7 +31,7 @@ declare (e ∷ es) name x = if bytes_eq name e.0 then e ∷ es else e ∷ declar
 
 -- a name has more than 64 bytes
 abbrev pub too_long : List ℕ → ℕ → List Fault
-too_long name at = if nat_lt 64 (length name) then (at, 200) ∷ [] else []
+too_long name at = if nat_lt 64 (length name) then (at, LONG_NAME) ∷ [] else []
 
 -- what a name stands for isn't declared
 abbrev pub unknown : {X : Type 0} → ℕ → ℕ → Option X → List Fault
@@ -39,4 +40,4 @@ unknown at code (Some x) = []
 
 -- a name is declared already
 abbrev pub twice : {X : Type 0} → Table X → List ℕ → ℕ → List Fault
-twice table name at = if is_some (entry_of table name) then (at, 202) ∷ [] else []
+twice table name at = if is_some (entry_of table name) then (at, DECLARED_TWICE) ∷ [] else []

@@ -1,5 +1,6 @@
 -- The faults of terms, literals and patterns. The forms have the shape that the grammar asks for; of other forms nothing is said.
 use Rattle.std.specs.Prelude.{ℕ, zero, suc, ◌||◌, ◌+◌, ◌==◌, nat_lt, max, List, [], ◌∷◌, ◌++◌, length, Option, Some, None, codes, bytes_eq, if◌then◌else◌}
+use Rattle.pks_terms.specs.declared.codes.TheConstants.{HIGH_TERM, THIRD_WILDCARD, UNDECLARED, UNKNOWN_PARAMETER, WRONG_COUNT, WRONG_TYPE}
 use Rattle.pks_terms.specs.Signatures.{Shape}
 use Rattle.pks_text.specs.Forms.{Form, Word, Listing, Forms, no_forms, form, place_of}
 use Rattle.pks_reader_shape.specs.Words.{is_variable, is_wild}
@@ -14,13 +15,13 @@ use Rattle.pks_reader_names.specs.Parts.{text_of, behind, behind_head, only}
 -- a term stands where a type is wanted that its own doesn't fit
 abbrev pub mistyped : Scope → Option ℕ → Form → List Fault
 mistyped s None t = []
-mistyped s (Some wanted) t = elim (type_of s t) [ None ↦ [] | Some own ↦ if fits s own wanted then [] else (place_of t, 206) ∷ [] ]
+mistyped s (Some wanted) t = elim (type_of s t) [ None ↦ [] | Some own ↦ if fits s own wanted then [] else (place_of t, WRONG_TYPE) ∷ [] ]
 
 -- of two sides neither type fits the other
 abbrev pub apart : Scope → Option ℕ → Option ℕ → ℕ → List Fault
 apart s None right at = []
 apart s (Some a) None at = []
-apart s (Some a) (Some b) at = if fits s a b || fits s b a then [] else (at, 206) ∷ []
+apart s (Some a) (Some b) at = if fits s a b || fits s b a then [] else (at, WRONG_TYPE) ∷ []
 
 -- ---- heights
 
@@ -37,14 +38,14 @@ abbrev mutual
 
 -- a term is higher than 2. Of such terms within one another the outermost stands first
 abbrev pub too_high : Form → List Fault
-too_high t = if nat_lt 2 (height t) then (place_of t, 207) ∷ [] else []
+too_high t = if nat_lt 2 (height t) then (place_of t, HIGH_TERM) ∷ [] else []
 
 -- ---- applications
 
 -- the number of arguments is another than the declared one
 abbrev pub miscounted : Option Shape → Forms → ℕ → List Fault
 miscounted None args at = []
-miscounted (Some x) args at = if length x.arguments == count args then [] else (at, 205) ∷ []
+miscounted (Some x) args at = if length x.arguments == count args then [] else (at, WRONG_COUNT) ∷ []
 
 -- the types of the arguments, as far as they are known
 abbrev pub wanted_by : Option Shape → List ℕ
@@ -64,7 +65,7 @@ rest_wanted (t ∷ ts) = ts
 -- the name of a predicate or function, and the number of its arguments, by the parts of its list
 abbrev pub applied_faults : Option Shape → Forms → ℕ → List Fault
 applied_faults shape no_forms at = []
-applied_faults shape (form head args) at = too_long (text_of head) (place_of head) ++ (unknown (place_of head) 203 shape ++ miscounted shape args at)
+applied_faults shape (form head args) at = too_long (text_of head) (place_of head) ++ (unknown (place_of head) UNDECLARED shape ++ miscounted shape args at)
 
 -- ---- terms
 
@@ -72,8 +73,8 @@ applied_faults shape (form head args) at = too_long (text_of head) (place_of hea
 abbrev pub word_faults : Scope → List ℕ → ℕ → List Fault
 word_faults s text at =
     if is_wild text then [] else
-    (if is_variable text then too_long (name_in text) at ++ unknown at 204 (entry_of s.parameters (name_in text))
-    else too_long text at ++ unknown at 203 (entry_of s.objects text))
+    (if is_variable text then too_long (name_in text) at ++ unknown at UNKNOWN_PARAMETER (entry_of s.parameters (name_in text))
+    else too_long text at ++ unknown at UNDECLARED (entry_of s.objects text))
 
 abbrev mutual
   -- a term
@@ -133,4 +134,4 @@ past_places code (suc n) (p ∷ ps) = past_places code n ps
 -- an atom that may have wildcards, of which two are allowed
 unfoldable pub pattern_faults : Scope → Form → List Fault
 pattern_faults s (Word text at) = []
-pattern_faults s (Listing parts at end) = atom_faults s parts at ++ past_places 211 2 (wildcards (behind parts))
+pattern_faults s (Listing parts at end) = atom_faults s parts at ++ past_places THIRD_WILDCARD 2 (wildcards (behind parts))

@@ -7,6 +7,7 @@ ghost use Rattle.pks_reader_names.specs.Views.{found_of};
 
 use crate::report::Report;
 use pks_reader_shape::report::Refusal;
+use pks_terms::codes::LONG_NAME;
 
 fn is_before(f: Refusal, g: Refusal) -> bool
     ensures { result ≡ is_before (f.at, f.code) (g.at, g.code) }
@@ -50,7 +51,7 @@ impl Report {
         ensures { found_of self.new ≡ all_noted (found_of self.old) (too_long name.now at) }
     {
         if name.len() > 64 {
-            self.note(at, 200);
+            self.note(at, LONG_NAME);
         }
     }
 

@@ -13,6 +13,7 @@ use crate::same::same_literal;
 use crate::scope::Scope;
 use crate::terms::{literal, only_positive, pattern, report_assignment, term};
 use pks_reader_shape::walk::is_headed;
+use pks_terms::codes::{LITERAL_TWICE, PAST_LIMIT};
 use pks_text::{Form, place_of};
 
 // The first form.
@@ -21,7 +22,7 @@ fn first_past(report: &mut Report, forms: &[Form<'_>])
 {
     match forms {
         [] => {}
-        [first, _rest @ ..] => report.note(place_of(first), 208),
+        [first, _rest @ ..] => report.note(place_of(first), PAST_LIMIT),
     }
 }
 
@@ -284,7 +285,7 @@ fn again(report: &mut Report, first: &Form<'_>, form: &Form<'_>)
     ensures { found_of report.new ≡ all_noted (found_of report.old) (again (form_view first.now) (form_view form.now)) }
 {
     if same_literal(first, form) {
-        report.note(place_of(form), 210);
+        report.note(place_of(form), LITERAL_TWICE);
     }
 }
 

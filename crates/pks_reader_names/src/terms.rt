@@ -1,5 +1,6 @@
 //! The faults of terms, literals and patterns.
 ghost use Rattle.std.specs.Prelude.{◌≡◌, ℕ, List, [], ◌∷◌, ◌++◌, map, option_map};
+ghost use Rattle.pks_terms.specs.declared.codes.TheConstants.{THIRD_WILDCARD};
 ghost use Rattle.pks_terms.specs.Views.{shape_of, types_of};
 ghost use Rattle.pks_text.specs.Forms.{place_of};
 ghost use Rattle.pks_text.specs.FormViews.{form_view, forms_view};
@@ -15,6 +16,9 @@ use crate::report::Report;
 use crate::scope::{Scope, name_in, wanted_by};
 use pks_reader_shape::walk::{head_of, is_headed};
 use pks_reader_shape::words::is_variable;
+use pks_terms::codes::{
+    HIGH_TERM, THIRD_WILDCARD, UNDECLARED, UNKNOWN_PARAMETER, WRONG_COUNT, WRONG_TYPE,
+};
 use pks_terms::ids::TypeId;
 use pks_terms::problem::Shape;
 use pks_terms::term::front;
@@ -31,7 +35,7 @@ fn report_mistyped<'s>(
     if let Some(wanted) = wanted {
         if let Some(own) = scope.type_of(term) {
             if !scope.fits(own, wanted) {
-                report.note(place_of(term), 206);
+                report.note(place_of(term), WRONG_TYPE);
             }
         }
     }
@@ -43,7 +47,7 @@ fn apart(report: &mut Report, scope: &Scope<'_, '_>, left: Option<u8>, right: Op
     if let Some(a) = left {
         if let Some(b) = right {
             if !(scope.fits(a, b) || scope.fits(b, a)) {
-                report.note(at, 206);
+                report.note(at, WRONG_TYPE);
             }
         }
     }
@@ -55,7 +59,7 @@ fn report_miscounted(report: &mut Report, shape: Option<&Shape>, args: &[Form<'_
 {
     if let Some(shape) = shape {
         if front(&shape.args, shape.n).len() != args.len() {
-            report.note(at, 205);
+            report.note(at, WRONG_COUNT);
         }
     }
 }
@@ -86,10 +90,14 @@ fn word(report: &mut Report, scope: &Scope<'_, '_>, text: &str, at: u32)
     }
     if is_variable(text.as_bytes()) {
         report.too_long(name_in(text), at);
-        report.require(scope.parameter(name_in(text)).is_some(), at, 204);
+        report.require(
+            scope.parameter(name_in(text)).is_some(),
+            at,
+            UNKNOWN_PARAMETER,
+        );
     } else {
         report.too_long(text, at);
-        report.require(scope.object(text).is_some(), at, 203);
+        report.require(scope.object(text).is_some(), at, UNDECLARED);
     }
 }
 
@@ -120,7 +128,7 @@ fn too_high(report: &mut Report, term: &Form<'_>)
     ensures { found_of report.new ≡ all_noted (found_of report.old) (too_high (form_view term.now)) }
 {
     if is_above(term, 2) {
-        report.note(place_of(term), 207);
+        report.note(place_of(term), HIGH_TERM);
     }
 }
 
@@ -132,7 +140,7 @@ fn report_application(report: &mut Report, shape: Option<&Shape>, parts: &[Form<
     match parts {
         [head, args @ ..] => {
             report.too_long(text_of(head), place_of(head));
-            report.require(shape.is_some(), place_of(head), 203);
+            report.require(shape.is_some(), place_of(head), UNDECLARED);
             report_miscounted(report, shape, args, at);
         }
         [] => {}
@@ -300,13 +308,13 @@ pub fn literal<'s>(report: &mut Report, scope: &Scope<'_, 's>, form: &Form<'s>)
 
 // The first wildcard past n of them.
 fn wildcards(report: &mut Report, n: u8, forms: &[Form<'_>])
-    ensures { found_of report.new ≡ all_noted (found_of report.old) (past_places 211 n (wildcards (forms_view forms.now))) }
+    ensures { found_of report.new ≡ all_noted (found_of report.old) (past_places THIRD_WILDCARD n (wildcards (forms_view forms.now))) }
 {
     let mut left = n;
     for form in forms {
         if text_of(form) == "_" {
             if left == 0 {
-                report.note(place_of(form), 211);
+                report.note(place_of(form), THIRD_WILDCARD);
                 return;
             }
             left -= 1;

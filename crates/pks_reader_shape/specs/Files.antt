@@ -1,5 +1,6 @@
 -- The shape of a whole file: its first fault of shape, as a place and a code.
 use Rattle.std.specs.Prelude.{ℕ, Bool, true, false, ◌&&◌, List, [], ◌∷◌, Option, Some, None, codes, bytes_eq, if◌then◌else◌, slice_get, option_map}
+use Rattle.pks_terms.specs.declared.codes.TheConstants.{NOT_IN_GRAMMAR, NO_DOMAIN, NO_PROBLEM, NO_VERSION, SURPLUS_FORM, WORLD_NOT_IN_GRAMMAR}
 use Rattle.pks_text.specs.Forms.{Form, Word, Listing, Forms, no_forms, form, place_of}
 use Rattle.pks_reader_shape.specs.declared.grammar.Version.{Version}
 use Rattle.pks_reader_shape.specs.declared.grammar.Version.TheVariants.{First, Second}
@@ -61,7 +62,7 @@ top_fault code test end (Some f) = if test f then None else Some (place_of f, co
 -- a fourth form is a world, and there is no fifth
 abbrev pub rest_fault : Option Form → Option Form → Option Fault
 rest_fault None fifth = None
-rest_fault (Some f) fifth = if is_headed (codes "world") f then option_map (λ g. (place_of g, 123)) fifth else Some (place_of f, 123)
+rest_fault (Some f) fifth = if is_headed (codes "world") f then option_map (λ g. (place_of g, SURPLUS_FORM)) fifth else Some (place_of f, SURPLUS_FORM)
 
 -- a form that the grammar hasn't at its place
 abbrev pub walk_fault : ℕ → Version → Sort → Option Form → Option Fault
@@ -71,12 +72,12 @@ walk_fault code v s (Some f) = option_map (λ at. (at, code)) (fault_in v s f)
 -- the text has this many bytes and these forms
 unfoldable pub shape_fault : ℕ → List Form → Option Fault
 shape_fault end fs =
-    or_else (top_fault 120 is_version end (slice_get fs 0))
-    (or_else (top_fault 121 (is_headed (codes "domain")) end (slice_get fs 1))
-    (or_else (top_fault 122 (is_headed (codes "problem")) end (slice_get fs 2))
+    or_else (top_fault NO_VERSION is_version end (slice_get fs 0))
+    (or_else (top_fault NO_DOMAIN (is_headed (codes "domain")) end (slice_get fs 1))
+    (or_else (top_fault NO_PROBLEM (is_headed (codes "problem")) end (slice_get fs 2))
     (or_else (rest_fault (slice_get fs 3) (slice_get fs 4))
-    (or_else (walk_fault 124 (version_of fs) Domain (slice_get fs 1)) (walk_fault 124 (version_of fs) Problem (slice_get fs 2))))))
+    (or_else (walk_fault NOT_IN_GRAMMAR (version_of fs) Domain (slice_get fs 1)) (walk_fault NOT_IN_GRAMMAR (version_of fs) Problem (slice_get fs 2))))))
 
 -- the same of a world, which is asked later
 abbrev pub world_shape_fault : List Form → Option Fault
-world_shape_fault fs = walk_fault 300 (version_of fs) World (slice_get fs 3)
+world_shape_fault fs = walk_fault WORLD_NOT_IN_GRAMMAR (version_of fs) World (slice_get fs 3)

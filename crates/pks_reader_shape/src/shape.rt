@@ -1,6 +1,7 @@
 //! The shape of a whole file (`docs/FORMAT.md`).
 
 ghost use Rattle.std.specs.Prelude.{◌≡◌, ◌↔◌, ◌∷◌, [], IsNone, map, option_map, slice_get, List};
+ghost use Rattle.pks_terms.specs.declared.codes.TheConstants.{NO_VERSION, SURPLUS_FORM};
 ghost use Rattle.pks_text.specs.Forms.{place_of};
 ghost use Rattle.pks_text.specs.FormViews.{form_view, forms_view};
 ghost use Rattle.pks_reader_shape.specs.Files.{is_word, are_words, is_list_of, stated, is_version, version_of, number_of, or_else, top_fault, rest_fault, shape_fault, walk_fault, world_shape_fault};
@@ -11,6 +12,9 @@ ghost use Rattle.pks_reader_shape.specs.Walk.{is_headed};
 use crate::grammar::{Sort, Version};
 use crate::report::Refusal;
 use crate::walk::{fault_in, is_headed};
+use pks_terms::codes::{
+    NO_DOMAIN, NO_PROBLEM, NO_VERSION, NOT_IN_GRAMMAR, SURPLUS_FORM, WORLD_NOT_IN_GRAMMAR,
+};
 use pks_text::{Form, place_of};
 
 impl Version {
@@ -94,13 +98,13 @@ pub fn or_else(first: Option<Refusal>, later: Option<Refusal>) -> Option<Refusal
 }
 
 fn version_fault(end: u32, form: Option<&Form<'_>>) -> Option<Refusal>
-    ensures { result ≡ refusing (top_fault 120 is_version end (option_map (λ f. form_view f.now) form.entry)) }
+    ensures { result ≡ refusing (top_fault NO_VERSION is_version end (option_map (λ f. form_view f.now) form.entry)) }
 {
     match form {
-        None => Some(Refusal::plain(end, 120)),
+        None => Some(Refusal::plain(end, NO_VERSION)),
         Some(form) => match stated_version(form) {
             Some(_) => None,
-            None => Some(Refusal::plain(place_of(form), 120)),
+            None => Some(Refusal::plain(place_of(form), NO_VERSION)),
         },
     }
 }
@@ -121,11 +125,11 @@ fn head_fault(code: u16, head: &str, end: u32, form: Option<&Form<'_>>) -> Optio
 }
 
 fn fifth_fault(form: Option<&Form<'_>>) -> Option<Refusal>
-    ensures { result ≡ refusing (option_map (λ g. (place_of g, 123)) (option_map (λ f. form_view f.now) form.entry)) }
+    ensures { result ≡ refusing (option_map (λ g. (place_of g, SURPLUS_FORM)) (option_map (λ f. form_view f.now) form.entry)) }
 {
     match form {
         None => None,
-        Some(form) => Some(Refusal::plain(place_of(form), 123)),
+        Some(form) => Some(Refusal::plain(place_of(form), SURPLUS_FORM)),
     }
 }
 
@@ -138,7 +142,7 @@ fn rest_fault(fourth: Option<&Form<'_>>, fifth: Option<&Form<'_>>) -> Option<Ref
             if is_headed("world", form) {
                 fifth_fault(fifth)
             } else {
-                Some(Refusal::plain(place_of(form), 123))
+                Some(Refusal::plain(place_of(form), SURPLUS_FORM))
             }
         }
     }
@@ -170,12 +174,15 @@ fn first_fault(end: u32, top: &[Form<'_>]) -> Option<Refusal>
 {
     let version = version_of(top);
     let walked = or_else(
-        walk_fault(124, version, Sort::Domain, top_at(top, 1)),
-        walk_fault(124, version, Sort::Problem, top_at(top, 2)),
+        walk_fault(NOT_IN_GRAMMAR, version, Sort::Domain, top_at(top, 1)),
+        walk_fault(NOT_IN_GRAMMAR, version, Sort::Problem, top_at(top, 2)),
     );
     let rest = or_else(rest_fault(top_at(top, 3), top_at(top, 4)), walked);
-    let problem = or_else(head_fault(122, "problem", end, top_at(top, 2)), rest);
-    let domain = or_else(head_fault(121, "domain", end, top_at(top, 1)), problem);
+    let problem = or_else(head_fault(NO_PROBLEM, "problem", end, top_at(top, 2)), rest);
+    let domain = or_else(
+        head_fault(NO_DOMAIN, "domain", end, top_at(top, 1)),
+        problem,
+    );
     or_else(version_fault(end, top_at(top, 0)), domain)
 }
 
@@ -192,5 +199,10 @@ pub fn shape_fault(end: u32, top: &[Form<'_>]) -> Option<Refusal>
 pub fn world_shape_fault(top: &[Form<'_>]) -> Option<Refusal>
     ensures { result ≡ refusing (world_shape_fault (map form_view top.now)) }
 {
-    walk_fault(300, version_of(top), Sort::World, top_at(top, 3))
+    walk_fault(
+        WORLD_NOT_IN_GRAMMAR,
+        version_of(top),
+        Sort::World,
+        top_at(top, 3),
+    )
 }

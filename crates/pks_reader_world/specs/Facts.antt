@@ -1,5 +1,6 @@
 -- The faults of the facts of a world. The forms have the shape that the grammar asks for; of other forms nothing is said.
 use Rattle.std.specs.Prelude.{ℕ, Bool, true, false, ◌==◌, List, [], ◌∷◌, ◌++◌, length, Option, Some, None, option_map, codes, if◌then◌else◌}
+use Rattle.pks_terms.specs.declared.codes.TheConstants.{VALUE_TWICE, WORLD_MISFIT, WORLD_UNDECLARED}
 use Rattle.pks_terms.specs.Syntax.{Term}
 use Rattle.pks_terms.specs.Orders.{term_eq}
 use Rattle.pks_terms.specs.Signatures.{Shape}
@@ -18,11 +19,11 @@ use Rattle.pks_reader_world.specs.Naming.{place_named}
 -- an object's type doesn't fit the type that is wanted
 abbrev pub misfit : Scope → Option ℕ → ℕ → ℕ → List Fault
 misfit s None own at = []
-misfit s (Some wanted) own at = if fits s own wanted then [] else (at, 302) ∷ []
+misfit s (Some wanted) own at = if fits s own wanted then [] else (at, WORLD_MISFIT) ∷ []
 
 -- a word names no object, or one of another type than is wanted
 abbrev pub object_faults : Scope → Option ℕ → Form → List Fault
-object_faults s wanted f = elim (entry_of s.objects (text_of f)) [ None ↦ (place_of f, 301) ∷ [] | Some own ↦ misfit s wanted own (place_of f) ]
+object_faults s wanted f = elim (entry_of s.objects (text_of f)) [ None ↦ (place_of f, WORLD_UNDECLARED) ∷ [] | Some own ↦ misfit s wanted own (place_of f) ]
 
 -- words for objects, where these types are wanted one by one
 abbrev pub objects_faults : Scope → List ℕ → Forms → List Fault
@@ -35,11 +36,11 @@ objects_faults s (a ∷ tys) (form f fs) = object_faults s (Some a) f ++ objects
 -- the number of arguments is another than the declared one
 abbrev pub miscounted : Option Shape → Forms → ℕ → List Fault
 miscounted None args at = []
-miscounted (Some x) args at = if length x.arguments == count args then [] else (at, 302) ∷ []
+miscounted (Some x) args at = if length x.arguments == count args then [] else (at, WORLD_MISFIT) ∷ []
 
 -- a fact, by the shape that is declared for its head
 abbrev pub fact_faults : Scope → Option Shape → Form → List Fault
-fact_faults s shape f = (unknown (place_of (first_in f)) 301 shape ++ miscounted shape (behind_head f) (place_of f)) ++ objects_faults s (wanted_by shape) (behind_head f)
+fact_faults s shape f = (unknown (place_of (first_in f)) WORLD_UNDECLARED shape ++ miscounted shape (behind_head f) (place_of f)) ++ objects_faults s (wanted_by shape) (behind_head f)
 
 -- an atom that is true
 abbrev pub true_faults : Scope → Form → List Fault
@@ -62,7 +63,7 @@ with_given given t = λ u. if term_eq t u then true else given u
 -- a place, where it is known, has a value already
 abbrev pub again : Given → Option Term → ℕ → List Fault
 again given None at = []
-again given (Some t) at = if given t then (at, 304) ∷ [] else []
+again given (Some t) at = if given t then (at, VALUE_TWICE) ∷ [] else []
 
 -- the shape of the function whose value is given
 abbrev pub function_at : Scope → Form → Option Shape

@@ -1,6 +1,7 @@
 -- The world that a file states, or the first fault of its world.
 use Rattle.std.specs.Prelude.{ℕ, Bool, false, ◌||◌, List, Option, Some, None, codes, slice_get, if◌then◌else◌, unwrap_or}
 use Rattle.std.specs.Option.{option_map_or}
+use Rattle.pks_terms.specs.declared.codes.TheConstants.{VALUE_MISSING, WORLD_MISSING}
 use Rattle.pks_terms.specs.Syntax.{Term, Atom, place}
 use Rattle.pks_terms.specs.Orders.{term_eq}
 use Rattle.pks_terms.specs.Worlds.{World}
@@ -44,7 +45,7 @@ world_in s fs = record {
 
 -- a place of the signature has no value: the fault is at the world list
 abbrev pub missing_fault : Scope → Form → Option Fault
-missing_fault s w = if is_full (signature_in s) (given_by s none_given (section (codes "values") (behind_head w))) then None else Some (place_of w, 303)
+missing_fault s w = if is_full (signature_in s) (given_by s none_given (section (codes "values") (behind_head w))) then None else Some (place_of w, VALUE_MISSING)
 
 -- the first fault of a world of this shape
 unfoldable pub contents_fault : Scope → Form → Option Fault
@@ -64,7 +65,7 @@ declared_by fs = scope_of (number_of (version_of fs)) (parts_at fs 1)
 
 -- the first fault of a file's world: that there is none, its shape, its facts
 unfoldable pub world_fault : List Form → Option Fault
-world_fault fs = elim (slice_get fs 3) [ None ↦ Some (place_at fs 2, 310) | Some w ↦ or_else (world_shape_fault fs) (contents_fault (declared_by fs) w) ]
+world_fault fs = elim (slice_get fs 3) [ None ↦ Some (place_at fs 2, WORLD_MISSING) | Some w ↦ or_else (world_shape_fault fs) (contents_fault (declared_by fs) w) ]
 
 -- the world of a file, whose fourth form it is
 unfoldable pub world_by : List Form → World

@@ -17,6 +17,7 @@ use pks_reader_names::parts::{behind_head, parts_of, section, text_of};
 use pks_reader_names::report::Report;
 use pks_reader_names::scope::{Scope, wanted_by};
 use pks_reader_shape::walk::head_of;
+use pks_terms::codes::{VALUE_TWICE, WORLD_MISFIT, WORLD_UNDECLARED};
 use pks_terms::ids::TypeId;
 use pks_terms::problem::Shape;
 use pks_terms::term::{Term, front};
@@ -32,7 +33,7 @@ fn misfit(report: &mut Report, scope: &Scope<'_, '_>, wanted: Option<u8>, own: u
 {
     if let Some(wanted) = wanted {
         if !scope.fits(own, wanted) {
-            report.note(at, 302);
+            report.note(at, WORLD_MISFIT);
         }
     }
 }
@@ -42,7 +43,7 @@ fn object(report: &mut Report, scope: &Scope<'_, '_>, wanted: Option<u8>, word: 
     ensures { found_of report.new ≡ all_noted (found_of report.old) (object_faults (scope_view scope.now) wanted (form_view word.now)) }
 {
     match scope.object(text_of(word)) {
-        None => report.note(place_of(word), 301),
+        None => report.note(place_of(word), WORLD_UNDECLARED),
         Some(own) => misfit(report, scope, wanted, own, place_of(word)),
     }
 }
@@ -74,7 +75,7 @@ fn require_count(report: &mut Report, shape: Option<&Shape>, words: &[Form<'_>],
 {
     if let Some(shape) = shape {
         if front(&shape.args, shape.n).len() != words.len() {
-            report.note(at, 302);
+            report.note(at, WORLD_MISFIT);
         }
     }
 }
@@ -84,7 +85,7 @@ fn require_count(report: &mut Report, shape: Option<&Shape>, words: &[Form<'_>],
 fn fact(report: &mut Report, scope: &Scope<'_, '_>, shape: Option<&Shape>, form: &Form<'_>)
     ensures { found_of report.new ≡ all_noted (found_of report.old) (fact_faults (scope_view scope.now) (option_map (λ x. shape_of x.now) shape.entry) (form_view form.now)) }
 {
-    report.require(shape.is_some(), place_of(first_in(form)), 301);
+    report.require(shape.is_some(), place_of(first_in(form)), WORLD_UNDECLARED);
     require_count(report, shape, behind_head(form), place_of(form));
     objects(report, scope, wanted_by(shape), behind_head(form));
 }
@@ -134,7 +135,7 @@ fn again(report: &mut Report, given: &BTreeSet<Term>, place: Option<&Term>, at: 
 {
     if let Some(place) = place {
         if is_given(given, place) {
-            report.note(at, 304);
+            report.note(at, VALUE_TWICE);
         }
     }
 }

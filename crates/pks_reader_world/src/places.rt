@@ -1,5 +1,6 @@
 //! Whether each place of a signature has a value.
 ghost use Rattle.std.specs.Prelude.{◌≡◌, ◌≤◌, ℕ, [], ◌∷◌, ◌+◌, map, take, length};
+ghost use Rattle.pks_terms.specs.declared.limits.TheConstants.{MOST_OBJECTS};
 ghost use Rattle.pks_terms.specs.Syntax.{place};
 ghost use Rattle.pks_terms.specs.Sets.{Each};
 ghost use Rattle.pks_terms.specs.Views.{object_of, shape_of, signature_of, types_of};
@@ -55,7 +56,7 @@ fn two_objects(a: ObjId, b: ObjId) -> Objects
 // The function has a value at this object followed by any of the type.
 #[tactic(auto, unfolding(pks_terms::specs::Signatures::objects_of))]
 fn row(s: &Signature, given: &BTreeSet<Term>, fun: FnId, a: ObjId, of: TypeId) -> bool
-    requires { length s.now.objects ≤ 65536 }
+    requires { length s.now.objects ≤ MOST_OBJECTS }
     ensures { result ≡ all_given (signature_of s.now) (given_of given.now) fun.0 (object_of a ∷ []) (of.0 ∷ []) }
 {
     for (i, own) in s.objects.as_slice().iter().enumerate() {
@@ -69,7 +70,7 @@ fn row(s: &Signature, given: &BTreeSet<Term>, fun: FnId, a: ObjId, of: TypeId) -
 // The function has a value at any object of the type.
 #[tactic(auto, unfolding(pks_terms::specs::Signatures::objects_of))]
 fn column(s: &Signature, given: &BTreeSet<Term>, fun: FnId, of: TypeId) -> bool
-    requires { length s.now.objects ≤ 65536 }
+    requires { length s.now.objects ≤ MOST_OBJECTS }
     ensures { result ≡ all_given (signature_of s.now) (given_of given.now) fun.0 [] (of.0 ∷ []) }
 {
     for (i, own) in s.objects.as_slice().iter().enumerate() {
@@ -83,7 +84,7 @@ fn column(s: &Signature, given: &BTreeSet<Term>, fun: FnId, of: TypeId) -> bool
 // The function has a value at any two objects of the types.
 #[tactic(auto, unfolding(pks_terms::specs::Signatures::objects_of))]
 fn square(s: &Signature, given: &BTreeSet<Term>, fun: FnId, of: TypeId, then: TypeId) -> bool
-    requires { length s.now.objects ≤ 65536 }
+    requires { length s.now.objects ≤ MOST_OBJECTS }
     ensures { result ≡ all_given (signature_of s.now) (given_of given.now) fun.0 [] (of.0 ∷ then.0 ∷ []) }
 {
     for (i, own) in s.objects.as_slice().iter().enumerate() {
@@ -96,7 +97,7 @@ fn square(s: &Signature, given: &BTreeSet<Term>, fun: FnId, of: TypeId, then: Ty
 
 // The function has all its values.
 fn all_given(s: &Signature, given: &BTreeSet<Term>, fun: FnId, types: &[TypeId]) -> bool
-    requires objects { length s.now.objects ≤ 65536 }
+    requires objects { length s.now.objects ≤ MOST_OBJECTS }
     requires few { length types.now ≤ 2 }
     ensures { result ≡ all_given (signature_of s.now) (given_of given.now) fun.0 [] (types_of types.now) }
 {
@@ -108,7 +109,7 @@ fn all_given(s: &Signature, given: &BTreeSet<Term>, fun: FnId, types: &[TypeId])
 }
 
 fn has_values(s: &Signature, given: &BTreeSet<Term>, fun: FnId, shape: &Shape) -> bool
-    requires objects { length s.now.objects ≤ 65536 }
+    requires objects { length s.now.objects ≤ MOST_OBJECTS }
     requires few { length (shape_of shape.now).arguments ≤ 2 }
     ensures { result ≡ all_given (signature_of s.now) (given_of given.now) fun.0 [] (shape_of shape.now).arguments }
 {
@@ -118,7 +119,7 @@ fn has_values(s: &Signature, given: &BTreeSet<Term>, fun: FnId, shape: &Shape) -
 /// Each place of the signature has a value.
 #[tactic(auto, unfolding(crate::specs::Places::is_full))]
 pub(crate) fn is_full(s: &Signature, given: &BTreeSet<Term>) -> bool
-    requires objects { length s.now.objects ≤ 65536 }
+    requires objects { length s.now.objects ≤ MOST_OBJECTS }
     requires functions { length s.now.functions ≤ 256 }
     requires few { Each (λ x. length (shape_of x).arguments ≤ 2) s.now.functions }
     ensures { result ≡ is_full (signature_of s.now) (given_of given.now) }

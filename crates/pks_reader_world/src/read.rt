@@ -26,6 +26,7 @@ use pks_reader_names::report::Report;
 use pks_reader_names::scope::{Declared, Scope};
 use pks_reader_shape::report::{Refusal, Turned};
 use pks_reader_shape::shape::{top_at, version_of, world_shape_fault};
+use pks_terms::codes::{VALUE_MISSING, WORLD_MISSING};
 use pks_terms::problem::Problem;
 use pks_text::{Form, Forms, place_of};
 use pks_world::World;
@@ -82,7 +83,7 @@ fn world_of_form(
         return Err(Turned::Refused(refusal));
     }
     if !is_full(&p.signature, &given) {
-        return Err(refusal_at(place_of(form), 303));
+        return Err(refusal_at(place_of(form), VALUE_MISSING));
     }
     let world = fill_world(alloc, p, scope, behind_head(form))?;
     Ok(world)
@@ -152,7 +153,7 @@ pub fn read_world(alloc: Global, p: &Problem<'_>, forms: &Forms<'_>) -> Result<W
 {
     let top = forms.top.as_slice();
     match top_at(top, 3) {
-        None => Err(refusal_at(place_at(top, 2), 310)),
+        None => Err(refusal_at(place_at(top, 2), WORLD_MISSING)),
         Some(form) => {
             if let Some(refusal) = world_shape_fault(top) {
                 return Err(Turned::Refused(refusal));

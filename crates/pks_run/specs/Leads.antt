@@ -1,6 +1,7 @@
 -- What a dialogue comes to.
 use Rattle.std.specs.Prelude.{ℕ, ◌+◌, ◌≡◌, ◌≤◌, ◌⊎◌, List, [], ◌++◌, Option, Some, Result, Ok, Err}
 use Rattle.std.specs.Io.KnownBytes.{Appends}
+use Rattle.pks_terms.specs.declared.codes.TheConstants.{ANSWER_MISSING, ANSWER_UNFIT}
 use Rattle.pks_io.specs.Causes.{Rose}
 use Rattle.pks_io.specs.Writing.{AppendsFront}
 use Rattle.pks_terms.specs.Jobs.{Agent}
@@ -57,8 +58,8 @@ EndsAs this old new writes writes' status = (status ≡ this) × (new ≡ old) �
 -- how the call ends where its dialogue ended so, the full stop being on this line: an answer that isn't fit or is missing is refused
 abbrev pub Concludes : Result End TalkEnd → ℕ → Option Text → Option Text → ℕ → ℕ → Status → Type 0
 Concludes (Ok end) stop old new writes writes' status = EndsAs Done old new writes writes' status
-Concludes (Err (Misfit k)) stop old new writes writes' status = WritesRefusal (line_refused (stop + k) 320) old new writes writes' status
-Concludes (Err (Silent k)) stop old new writes writes' status = WritesRefusal (line_refused (stop + k) 321) old new writes writes' status
+Concludes (Err (Misfit k)) stop old new writes writes' status = WritesRefusal (line_refused (stop + k) ANSWER_UNFIT) old new writes writes' status
+Concludes (Err (Silent k)) stop old new writes writes' status = WritesRefusal (line_refused (stop + k) ANSWER_MISSING) old new writes writes' status
 Concludes (Err (Failed Send)) stop old new writes writes' status = EndsAs WriteFault old new writes writes' status
 Concludes (Err (Failed Receive)) stop old new writes writes' status = EndsAs ReadFault old new writes writes' status
 

@@ -1,5 +1,7 @@
 // The answer to a job and an input.
 ghost use Rattle.std.specs.Prelude.{◌≡◌, ◌≤◌, [], length, IfOk};
+ghost use Rattle.pks_terms.specs.declared.codes.TheConstants.{TOO_MANY_BYTES};
+ghost use Rattle.pks_terms.specs.declared.limits.TheConstants.{MOST_BYTES};
 ghost use Rattle.pks_terms.specs.Printed.{Text, refusal_text};
 ghost use Rattle.pks_terms.specs.Jobs.{IsInBounds, usage_text};
 ghost use Rattle.pks_terms.specs.Answers.{refusal, text_for, Reading, ReadAs};
@@ -16,6 +18,7 @@ use pks_reader::{InputFile, Refusal, Turned, read_file};
 use pks_run_answer::line::refusal_line;
 use pks_run_answer::reply::{Verdict, reply_about};
 use pks_run_words::Job;
+use pks_terms::codes::TOO_MANY_BYTES;
 use std::alloc::{AllocError, Global};
 use std::mem::drop;
 
@@ -32,7 +35,7 @@ fn status_for(verdict: Verdict) -> Status
 
 // The line of a refusal of an input, which says nothing but its place and its code.
 fn refusal_of(alloc: Global, input: &[u8], r: Refusal) -> Result<Vec<u8>, AllocError>
-    requires { length input.now ≤ 262144 }
+    requires { length input.now ≤ MOST_BYTES }
     ensures { IfOk result (λ text. text.items ≡ refusal_text (refusal (line_and_column input.now r.at) r.code [])) }
 {
     let text = refusal_line(alloc, input, r, "")?;
@@ -48,7 +51,7 @@ pub enum Opened<'t> {
 
 // Reads a text as an input.
 pub fn open<'t>(alloc: Global, text: &'t [u8]) -> Result<Opened<'t>, AllocError>
-    requires { length text.now ≤ 262144 }
+    requires { length text.now ≤ MOST_BYTES }
     ensures { IfOk result (OpensAs text.now) }
 {
     match read_file(alloc, text) {
@@ -71,9 +74,9 @@ pub fn usage(alloc: Global) -> Result<Vec<u8>, AllocError>
 
 // What is answered to an input of too many bytes, at the first of them.
 pub fn too_long(alloc: Global) -> Result<Vec<u8>, AllocError>
-    ensures { IfOk result (λ text. text.items ≡ refusal_text (refusal (line_and_column [] 0) 100 [])) }
+    ensures { IfOk result (λ text. text.items ≡ refusal_text (refusal (line_and_column [] 0) TOO_MANY_BYTES [])) }
 {
-    let text = refusal_of(alloc, &[], Refusal::plain(0, 100))?;
+    let text = refusal_of(alloc, &[], Refusal::plain(0, TOO_MANY_BYTES))?;
     Ok(text)
 }
 
@@ -127,7 +130,7 @@ fn about_input(
 
 // The answer to a job about a text.
 pub fn answer(alloc: Global, job: Job, input: &[u8]) -> Result<(Status, Vec<u8>), AllocError>
-    requires short { length input.now ≤ 262144 }
+    requires short { length input.now ≤ MOST_BYTES }
     requires bounds { IsInBounds (job_of job) }
     requires about { IsAbout (job_of job) input.now }
     ensures { IfOk result (λ a. (given : Text) → text_for (job_of job) given ≡ input.now → IsReplyTo (job_of job) given a.0 a.1.items) }

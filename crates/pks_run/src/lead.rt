@@ -2,6 +2,7 @@
 ghost use Rattle.std.specs.Prelude.{◌≡◌, ◌⊎◌, ◌≤◌, Some, IfSome, OnOk, OnErr, length};
 ghost use Rattle.std.specs.List.{flat_map};
 ghost use Rattle.std.specs.Io.KnownBytes.{Appends};
+ghost use Rattle.pks_terms.specs.declared.limits.TheConstants.{MOST_BYTES};
 ghost use Rattle.pks_io.specs.Causes.{HasCause};
 ghost use Rattle.pks_io.specs.Writing.{AppendsFront};
 ghost use Rattle.pks_terms.specs.Answers.{Reading, ReadAs, RefusesFile, NoneApplies};
@@ -28,6 +29,7 @@ use pks_plan::Tree;
 use pks_reader::InputFile;
 use pks_run_answer::leads::{Lead, lead_about};
 use pks_run_answer::line::refusal_parts;
+use pks_terms::codes::{ANSWER_MISSING, ANSWER_UNFIT};
 use pks_text::line_column_behind;
 use std::alloc::Global;
 
@@ -66,8 +68,8 @@ fn conclude<K: Sink>(ended: Result<End, TalkEnd>, stop: u32, sink: &mut K) -> St
 {
     match ended {
         Ok(_) => Status::Done,
-        Err(TalkEnd::Misfit(k)) => refuse(sink, u64::from(stop) + u64::from(k), 320),
-        Err(TalkEnd::Silent(k)) => refuse(sink, u64::from(stop) + u64::from(k), 321),
+        Err(TalkEnd::Misfit(k)) => refuse(sink, u64::from(stop) + u64::from(k), ANSWER_UNFIT),
+        Err(TalkEnd::Silent(k)) => refuse(sink, u64::from(stop) + u64::from(k), ANSWER_MISSING),
         Err(TalkEnd::Failed(PeerFault::Send)) => Status::WriteFault,
         Err(TalkEnd::Failed(PeerFault::Receive)) => Status::ReadFault,
     }
@@ -90,7 +92,7 @@ fn lead_through<S: Source, K: Sink>(
     source: &mut S,
     sink: &mut K,
 ) -> Status
-    requires short { length opening.text.now ≤ 262144 }
+    requires short { length opening.text.now ≤ MOST_BYTES }
     requires whole { IsWhole f.now }
     requires depth { opening.depth ≤ 16 }
     requires read { IsRead opening.text.now (file_of f.now) }
@@ -121,7 +123,7 @@ fn lead_file<S: Source, K: Sink>(
     source: &mut S,
     sink: &mut K,
 ) -> Status
-    requires short { length opening.text.now ≤ 262144 }
+    requires short { length opening.text.now ≤ MOST_BYTES }
     requires whole { IsWhole f.now }
     requires depth { opening.depth ≤ 16 }
     requires read { IsRead opening.text.now (file_of f.now) }
@@ -147,7 +149,7 @@ fn lead_input<S: Source, K: Sink>(
     source: &mut S,
     sink: &mut K,
 ) -> Status
-    requires short { length opening.text.now ≤ 262144 }
+    requires short { length opening.text.now ≤ MOST_BYTES }
     requires depth { opening.depth ≤ 16 }
     requires opens { OpensAs opening.text.now opened.now }
     ensures told { (input : Text) → HasFile input (coming opening.entry.ahead (S.left source.old)) opening.entry.text.now → Converses opening.entry.depth input (K.written sink.old) (K.written sink.new) (S.left source.new) result }
@@ -170,7 +172,7 @@ fn lead_text<S: Source, K: Sink>(
     source: &mut S,
     sink: &mut K,
 ) -> Status
-    requires short { length text.now ≤ 262144 }
+    requires short { length text.now ≤ MOST_BYTES }
     requires depth { depth ≤ 16 }
     ensures told { (input : Text) → HasFile input (coming ahead (S.left source.old)) text.now → Converses depth input (K.written sink.old) (K.written sink.new) (S.left source.new) result }
     ensures causes { HasCauses (S.faults source.old) (S.faults source.new) (K.faults sink.old) (K.faults sink.new) result }

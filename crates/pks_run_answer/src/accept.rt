@@ -1,5 +1,6 @@
 //! Whether a file is accepted for a job, in the order of refusals. `docs/FORMAT.md` has the order.
 ghost use Rattle.std.specs.Prelude.{◌≡◌, ◌++◌, [], codes, decimal, OnOk, IfOk, IfErr};
+ghost use Rattle.pks_terms.specs.declared.codes.TheConstants.{INITIAL_CLASH, UNJUSTIFIED_ADD, WORLD_INCOMPATIBLE, WORLD_MISSING};
 ghost use Rattle.pks_terms.specs.Printed.{name_in};
 ghost use Rattle.pks_terms.specs.Views.{problem_of};
 ghost use Rattle.pks_terms.specs.Answers.{GivenWorld, refusal, RefusesWorld, RefusesFor, RefusesFile};
@@ -16,6 +17,7 @@ use pks_reader::{
     Extra, InputFile, Refusal, Turned, add_at, init_at, problem_at, stated_world, world_at,
 };
 use pks_run_words::Job;
+use pks_terms::codes::{INITIAL_CLASH, UNJUSTIFIED_ADD, WORLD_INCOMPATIBLE, WORLD_MISSING};
 use pks_terms::ids::ItemNo;
 use pks_world::World;
 use std::alloc::Global;
@@ -31,10 +33,10 @@ pub struct Accepted {
 
 /// An add that has no case (260).
 fn unjustified_refusal(f: &InputFile<'_>, add: Unjustified) -> Refusal
-    ensures { printed_of f.now result ≡ refusal ((file_of f.now).add_at add.action.0 add.effect) 260 (codes " action " ++ (name_in (file_of f.now).names.actions add.action.0 ++ (codes " effect " ++ decimal add.effect))) }
+    ensures { printed_of f.now result ≡ refusal ((file_of f.now).add_at add.action.0 add.effect) UNJUSTIFIED_ADD (codes " action " ++ (name_in (file_of f.now).names.actions add.action.0 ++ (codes " effect " ++ decimal add.effect))) }
 {
     Refusal {
-        code: 260,
+        code: UNJUSTIFIED_ADD,
         at: add_at(f, add.action, add.effect),
         extra: Extra::Effect {
             action: add.action,
@@ -45,24 +47,24 @@ fn unjustified_refusal(f: &InputFile<'_>, add: Unjustified) -> Refusal
 
 /// First databases that clash (270).
 fn clash(f: &InputFile<'_>) -> Refusal
-    ensures { printed_of f.now result ≡ refusal (file_of f.now).init_at 270 [] }
+    ensures { printed_of f.now result ≡ refusal (file_of f.now).init_at INITIAL_CLASH [] }
 {
-    Refusal::plain(init_at(f), 270)
+    Refusal::plain(init_at(f), INITIAL_CLASH)
 }
 
 /// A run without a world (310).
 fn no_world(f: &InputFile<'_>) -> Refusal
-    ensures { printed_of f.now result ≡ refusal (file_of f.now).problem_at 310 [] }
+    ensures { printed_of f.now result ≡ refusal (file_of f.now).problem_at WORLD_MISSING [] }
 {
-    Refusal::plain(problem_at(f), 310)
+    Refusal::plain(problem_at(f), WORLD_MISSING)
 }
 
 /// A run in a world that breaks an initial item (311).
 fn broken_item(f: &InputFile<'_>, item: ItemNo) -> Refusal
-    ensures { printed_of f.now result ≡ refusal (file_of f.now).world_at 311 (codes " item " ++ decimal item.0) }
+    ensures { printed_of f.now result ≡ refusal (file_of f.now).world_at WORLD_INCOMPATIBLE (codes " item " ++ decimal item.0) }
 {
     Refusal {
-        code: 311,
+        code: WORLD_INCOMPATIBLE,
         at: world_at(f),
         extra: Extra::Item(item),
     }

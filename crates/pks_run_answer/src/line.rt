@@ -1,6 +1,7 @@
 //! The lines of refusals.
 ghost use Rattle.std.specs.Prelude.{◌≡◌, ◌≤◌, ◌++◌, codes, decimal, string_bytes, length, IfOk, OnOk};
 ghost use Rattle.std.specs.List.{flat_map};
+ghost use Rattle.pks_terms.specs.declared.limits.TheConstants.{MOST_BYTES};
 ghost use Rattle.pks_terms.specs.Printed.{Refusal as Printed, name_in, refusal_text};
 ghost use Rattle.pks_terms.specs.Answers.{refusal};
 ghost use Rattle.pks_terms.specs.Views.{names_of};
@@ -58,7 +59,7 @@ pub fn refusal_line(
     r: Refusal,
     rest: &str,
 ) -> Result<Vec<u8>, AllocError>
-    requires { length input.now ≤ 262144 }
+    requires { length input.now ≤ MOST_BYTES }
     ensures { IfOk result (λ text. text.items ≡ refusal_text (refusal (line_and_column input.now r.at) r.code rest.now)) }
 {
     let (line, column) = place(input, r.at);

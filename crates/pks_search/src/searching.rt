@@ -23,6 +23,7 @@ use pks_plan::Tree;
 use pks_query::databases::Db;
 use pks_query_closing::closing::CloseEnd;
 use pks_search_witness::twins_of;
+use pks_terms::limits::GREATEST_COST;
 use pks_terms::problem::Problem;
 use std::alloc::{AllocError, Global};
 
@@ -137,5 +138,5 @@ fn best_of_all(
         near: near.as_slice(),
         twins: twins.as_slice(),
     };
-    best_rising(&spot, 0, u32::from(depth), 16 * 9_999, &mut notes)
+    best_rising(&spot, 0, u32::from(depth), 16 * GREATEST_COST, &mut notes)
 }

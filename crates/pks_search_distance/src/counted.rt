@@ -11,6 +11,9 @@ use std::alloc::{AllocError, Global};
 use std::num::NonZeroUsize;
 use std::rc::Rc;
 
+/// How many worlds the table has.
+const WORLDS_KEPT: usize = 8_192;
+
 /// A bound, or that there is none, and how far it was counted: where it is as great as that, a greater one may hold.
 #[derive(Clone, Copy)]
 pub(crate) struct Bound {
@@ -62,7 +65,7 @@ impl Counts {
     pub(crate) fn new(alloc: Global) -> Result<Counts, AllocError>
         ensures { IfOk result (λ t. (p : Problem) → AreRight p t) }
     {
-        let table = LruCache::sparse(alloc, NonZeroUsize::new(8_192).unwrap())?;
+        let table = LruCache::sparse(alloc, NonZeroUsize::new(WORLDS_KEPT).unwrap())?;
         Ok(Counts { table })
     }
 

@@ -1,6 +1,7 @@
 //! The ground actions of a problem: what each asks for, and what it does.
 ghost use Rattle.std.specs.Prelude.{◌≡◌, ◌≤◌, ◌<◌, ◌+◌, ◌++◌, [], ◌∷◌, map, take, length, IfOk, OnOk, IfSome};
 ghost use Rattle.std.specs.List.{flat_map};
+ghost use Rattle.pks_terms.specs.declared.limits.TheConstants.{MOST_OBJECTS};
 ghost use Rattle.pks_terms.specs.Sets.{Each};
 ghost use Rattle.pks_terms.specs.Syntax.{Object};
 ghost use Rattle.pks_terms.specs.ValidProblems.{IsValidProblem, ArePlaced};
@@ -118,7 +119,7 @@ fn add_ground_actions(
     given: &Instance,
     to: &mut Vec<GroundAction>,
 ) -> Result<(), AllocError>
-    requires objects { length s.now.objects ≤ 65536 }
+    requires objects { length s.now.objects ≤ MOST_OBJECTS }
     requires few { given.now.n + length params.now ≤ 4 }
     requires placed { ArePlaced schema.now.effects }
     requires old { Each (λ x. ArePlaced x.effects.items) to.old.items }
@@ -150,7 +151,7 @@ fn add_each_ground_action(
     given: &Instance,
     to: &mut Vec<GroundAction>,
 ) -> Result<(), AllocError>
-    requires objects { length s.now.objects ≤ 65536 }
+    requires objects { length s.now.objects ≤ MOST_OBJECTS }
     requires few { given.now.n + 1 + length params.now ≤ 4 }
     requires placed { ArePlaced schema.now.effects }
     requires old { Each (λ x. ArePlaced x.effects.items) to.old.items }
@@ -171,7 +172,7 @@ fn add_all_ground_actions(
     schemas: &[Schema<'_>],
     to: &mut Vec<GroundAction>,
 ) -> Result<(), AllocError>
-    requires objects { length s.now.objects ≤ 65536 }
+    requires objects { length s.now.objects ≤ MOST_OBJECTS }
     requires few { Each (λ x. length x.params ≤ 4) schemas.now }
     requires placed { Each (λ x. ArePlaced x.effects) schemas.now }
     requires old { Each (λ x. ArePlaced x.effects.items) to.old.items }
@@ -187,7 +188,7 @@ fn add_all_ground_actions(
 
 /// How many ground actions there are of an action with these parameters.
 fn instances_of(alloc: Global, s: &Signature, params: &[TypeId]) -> Result<u64, AllocError>
-    requires { length s.now.objects ≤ 65536 }
+    requires { length s.now.objects ≤ MOST_OBJECTS }
 {
     let mut all: u64 = 1;
     for of in params {
@@ -199,7 +200,7 @@ fn instances_of(alloc: Global, s: &Signature, params: &[TypeId]) -> Result<u64, 
 
 /// How many ground actions there are.
 fn count(alloc: Global, p: &Problem<'_>) -> Result<u64, AllocError>
-    requires { length p.now.signature.objects ≤ 65536 }
+    requires { length p.now.signature.objects ≤ MOST_OBJECTS }
 {
     let mut all: u64 = 0;
     for schema in p.schemas.as_slice() {

@@ -1,5 +1,6 @@
 -- What stands in the table of finds.
 use Rattle.std.specs.Prelude.{ℕ, ◌≡◌, ◌≤◌, Contains}
+use Rattle.pks_terms.specs.declared.limits.TheConstants.{GREATEST_COST}
 use Rattle.pks_terms.specs.Sets.{Each}
 use Rattle.pks_terms.specs.Problems.{Problem}
 use Rattle.pks_terms.specs.Trees.{depth, cost}
@@ -21,4 +22,4 @@ AreFound p f = (mark : ℕ) (x : Find) → Contains f.table.entries (mark, x) �
 
 -- no action costs more than 9,999
 abbrev pub AreCosts : Problem → Type 0
-AreCosts p = Each (λ schema. schema.cost ≤ 9999) p.schemas
+AreCosts p = Each (λ schema. schema.cost ≤ GREATEST_COST) p.schemas

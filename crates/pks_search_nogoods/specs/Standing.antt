@@ -1,6 +1,7 @@
 -- What stands in a table of failed searches, as a map from marks, and what is done to it.
 use Rattle.std.specs.Prelude.{ℕ, ◌<◌, ◌≡◌, ◌⊎◌, [], length, nat_eq, Option, Some, None}
 use Rattle.std.specs.Map.{lookup}
+use Rattle.pks_search_nogoods.specs.declared.failures.TheConstants.{FALLEN, LAST_MET}
 use Rattle.lru.specs.LruCache.{LruCache, lru_cache, put_entries, displaced}
 use Rattle.pks_search_nogoods.specs.declared.failures.Failure.{Failure}
 use Rattle.pks_search_nogoods.specs.declared.failures.Failures.{Failures}
@@ -41,8 +42,8 @@ LosesNone old new out = (m : ℕ) (y : Failure) → at_mark old m ≡ Some y →
 
 -- both are empty: there may be 4,096 failures in the first, and 65,536 in the one behind it
 pub record AreEmpty (f : Failures) : Type 0 where
-  pub last : f.last ≡ lru_cache [] 4096
-  pub fallen : f.fallen ≡ lru_cache [] 65536
+  pub last : f.last ≡ lru_cache [] LAST_MET
+  pub fallen : f.fallen ≡ lru_cache [] FALLEN
 
 -- the second is as it was, or what the first put out is put in there
 abbrev pub IsPutBehind : Option (ℕ × Failure) → Table → Table → Type 0

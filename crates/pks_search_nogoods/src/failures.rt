@@ -19,6 +19,9 @@ use std::num::NonZeroUsize;
 /// How many failures the first table has, and how many finds are kept.
 pub(crate) const LAST_MET: usize = 4_096;
 
+/// How many failures the second table has.
+pub(crate) const FALLEN: usize = 65_536;
+
 /// A search that failed: no tree at the history, no deeper than `depth`, costs at most `limit`.
 #[derive(Drop)]
 pub struct Failure {
@@ -132,7 +135,7 @@ impl Failures {
         ensures empty { IfOk result AreEmpty }
     {
         let last = LruCache::new(alloc, NonZeroUsize::new(LAST_MET).unwrap())?;
-        let fallen = LruCache::sparse(alloc, NonZeroUsize::new(65_536).unwrap())?;
+        let fallen = LruCache::sparse(alloc, NonZeroUsize::new(FALLEN).unwrap())?;
         let alike = Alike::of(alloc, p)?;
         Ok(Failures {
             last,

@@ -7,7 +7,7 @@ use pks_terms::problem::Problem;
 use std::alloc::{AllocError, Global};
 
 /// The most objects, and the most aims, of a problem in which classes are looked for.
-const MOST_OBJECTS: usize = 256;
+const MOST_COMPARED: usize = 256;
 
 const MOST_AIMS: usize = 64;
 
@@ -108,7 +108,7 @@ impl Classes {
         let count = p.signature.objects.len();
         let mut all: Vec<u16> = Vec::new(alloc);
         let mut firsts = Vec::new(alloc);
-        if count <= MOST_OBJECTS && p.goal.len() <= MOST_AIMS {
+        if count <= MOST_COMPARED && p.goal.len() <= MOST_AIMS {
             for number in 0..count {
                 let d = object_at(number);
                 let class = if is_free(alloc, p, d)? {

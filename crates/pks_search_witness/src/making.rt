@@ -1,5 +1,6 @@
 //! Making worlds in which a problem may begin.
 ghost use Rattle.std.specs.Prelude.{◌≤◌, ◌+◌, length, OnOk, IfOk, IfSome};
+ghost use Rattle.pks_terms.specs.declared.limits.TheConstants.{MOST_OBJECTS};
 ghost use Rattle.pks_terms.specs.Sets.{Each};
 ghost use Rattle.pks_terms.specs.Problems.{IsCompatible};
 ghost use Rattle.pks_terms.specs.ValidProblems.{IsValidProblem};
@@ -24,7 +25,7 @@ const MOST_WORLDS: usize = 4;
 const MOST_ITEMS: usize = 500;
 
 /// How many objects.
-const MOST_OBJECTS: usize = 256;
+const FEW_OBJECTS: usize = 256;
 
 /// How many places a signature may have, since each action copies the world.
 const MOST_PLACES: u64 = 500;
@@ -38,7 +39,7 @@ pub(crate) struct Making {
 
 /// How many places there are.
 fn count_places(alloc: Global, p: &Problem<'_>) -> Result<u64, AllocError>
-    requires { length p.now.signature.objects ≤ 65536 }
+    requires { length p.now.signature.objects ≤ MOST_OBJECTS }
 {
     let mut all: u64 = 0;
     for shape in p.signature.functions.as_slice() {
@@ -133,7 +134,7 @@ fn may_have(p: &Problem<'_>, at: &Term, d: ObjId, shuns: bool) -> bool {
 
 /// Gives the place the first value that it may have, or one that is as many further as the turn says, or else the last.
 fn give_other(p: &Problem<'_>, at: &Term, way: Making, w: &mut World)
-    requires objects { length p.now.signature.objects ≤ 65536 }
+    requires objects { length p.now.signature.objects ≤ MOST_OBJECTS }
     requires world { IsWorldOf (signature_of p.now.signature) w.old }
     ensures { IsWorldOf (signature_of p.now.signature) w.new }
 {
@@ -154,7 +155,7 @@ fn give_other(p: &Problem<'_>, at: &Term, way: Making, w: &mut World)
 
 /// Gives the place of the equation, where that is denied and yet true, another value.
 fn turn_away(p: &Problem<'_>, l: &Literal, way: Making, w: &mut World)
-    requires objects { length p.now.signature.objects ≤ 65536 }
+    requires objects { length p.now.signature.objects ≤ MOST_OBJECTS }
     requires world { IsWorldOf (signature_of p.now.signature) w.old }
     ensures { IsWorldOf (signature_of p.now.signature) w.new }
 {
@@ -167,7 +168,7 @@ fn turn_away(p: &Problem<'_>, l: &Literal, way: Making, w: &mut World)
 
 /// Gives each place that has a value which is denied another one.
 fn turn_away_all(p: &Problem<'_>, way: Making, w: &mut World)
-    requires objects { length p.now.signature.objects ≤ 65536 }
+    requires objects { length p.now.signature.objects ≤ MOST_OBJECTS }
     requires world { IsWorldOf (signature_of p.now.signature) w.old }
     ensures { IsWorldOf (signature_of p.now.signature) w.new }
 {
@@ -180,7 +181,7 @@ fn turn_away_all(p: &Problem<'_>, way: Making, w: &mut World)
 
 /// Makes the goal's literal false, where it is true and isn't an initial one.
 fn shun(p: &Problem<'_>, l: &Literal, way: Making, w: &mut World) -> Result<(), AllocError>
-    requires objects { length p.now.signature.objects ≤ 65536 }
+    requires objects { length p.now.signature.objects ≤ MOST_OBJECTS }
     requires world { IsWorldOf (signature_of p.now.signature) w.old }
     ensures { OnOk result (IsWorldOf (signature_of p.now.signature) w.new) }
 {
@@ -206,7 +207,7 @@ fn shun(p: &Problem<'_>, l: &Literal, way: Making, w: &mut World) -> Result<(), 
 
 /// Makes the goal's literals false where that is easy.
 fn shun_goal(p: &Problem<'_>, way: Making, w: &mut World) -> Result<(), AllocError>
-    requires objects { length p.now.signature.objects ≤ 65536 }
+    requires objects { length p.now.signature.objects ≤ MOST_OBJECTS }
     requires world { IsWorldOf (signature_of p.now.signature) w.old }
     ensures { OnOk result (IsWorldOf (signature_of p.now.signature) w.new) }
 {
@@ -414,9 +415,9 @@ fn add_found(
 
 /// Whether the problem isn't too large for worlds of it to be taken along.
 pub(crate) fn is_small(alloc: Global, p: &Problem<'_>) -> Result<bool, AllocError>
-    requires { length p.now.signature.objects ≤ 65536 }
+    requires { length p.now.signature.objects ≤ MOST_OBJECTS }
 {
-    if p.init.len() > MOST_ITEMS || p.signature.objects.len() > MOST_OBJECTS {
+    if p.init.len() > MOST_ITEMS || p.signature.objects.len() > FEW_OBJECTS {
         return Ok(false);
     }
     let places = count_places(alloc, p)?;

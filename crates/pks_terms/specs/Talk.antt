@@ -2,6 +2,7 @@
 use Rattle.std.specs.Prelude.{ℕ, ◌+◌, Bool, true, false, ◌≡◌, nat_eq, nat_le, List, [], ◌∷◌, ◌++◌, length, Option, Some, None, codes, option_map, if◌then◌else◌}
 use Rattle.std.specs.List.{filter, filter_map, flat_map}
 use Rattle.std.specs.Option.{option_map_or}
+use Rattle.pks_terms.specs.declared.codes.TheConstants.{ANSWER_MISSING, ANSWER_UNFIT}
 use Rattle.pks_terms.specs.Syntax.{Object, Parameter, Apply, Inner, term_of}
 use Rattle.pks_terms.specs.Signatures.{Signature, range_of}
 use Rattle.pks_terms.specs.Worlds.{World, inner_value, value_of, all_true_in}
@@ -164,8 +165,8 @@ answer_refusal input k code = record { line = stop_line input + k; column = 1; c
 -- the refusal of an answer that isn't fit, or of one that is missing
 abbrev pub RefusesAnswer : Text → TalkEnd → Refusal → Type 0
 RefusesAnswer input (Over end) r = ⊥
-RefusesAnswer input (Unfit k) r = r ≡ answer_refusal input k 320
-RefusesAnswer input (Missing k) r = r ≡ answer_refusal input k 321
+RefusesAnswer input (Unfit k) r = r ≡ answer_refusal input k ANSWER_UNFIT
+RefusesAnswer input (Missing k) r = r ≡ answer_refusal input k ANSWER_MISSING
 
 -- ---- answers of a world
 

@@ -2,8 +2,10 @@
 #![tactic(auto)]
 
 pub mod choices;
+pub mod codes;
 pub mod group;
 pub mod ids;
+pub mod limits;
 pub mod literal;
 pub mod lookup;
 pub mod marks;

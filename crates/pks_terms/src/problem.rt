@@ -1,6 +1,7 @@
 //! Signatures, names and problems. `docs/RULES.md` says what they mean and when they are valid, `docs/FORMAT.md` how they
 //! are written.
 ghost use Rattle.std.specs.Prelude.{◌≡◌, ◌≤◌, map, length, IfOk};
+ghost use Rattle.pks_terms.specs.declared.limits.TheConstants.{MOST_OBJECTS};
 ghost use Rattle.pks_terms.specs.Signatures.{parent_of, fits_type, objects_of};
 ghost use Rattle.pks_terms.specs.Views.{object_of, signature_of};
 
@@ -76,7 +77,7 @@ impl Signature {
     /// want of memory.
     #[tactic(auto, unfolding(crate::specs::Signatures::objects_of))]
     pub fn objects_of(&self, alloc: Global, of: TypeId) -> Result<Vec<ObjId>, AllocError>
-        requires { length self.now.objects ≤ 65536 }
+        requires { length self.now.objects ≤ MOST_OBJECTS }
         ensures { IfOk result (λ v. map object_of v.items ≡ objects_of (signature_of self.now) of.0) }
     {
         let mut objects = Vec::new(alloc);

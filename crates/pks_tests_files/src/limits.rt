@@ -1,5 +1,8 @@
 //! Each limit on a count, at the limit and one past it, and the longest names.
 use crate::refusals::{Refused, are_refused, refusal_of};
+use pks_terms::codes::{
+    BARRED_NAME, DECLARED_TWICE, LONG_NAME, PAST_LIMIT, TOO_DEEP, UNCLOSED, UNDECLARED, WRONG_COUNT,
+};
 use std::alloc::{AllocError, Global};
 use std::test::Fail;
 
@@ -79,7 +82,7 @@ fn is_named_refused(
 fn is_next_refused(alloc: Global, row: &CountLimit) -> Result<bool, AllocError> {
     let next = u32::from(row.most) + 1;
     let number = format!(in alloc; "{next}")?;
-    is_named_refused(alloc, row, number.as_str(), 208)
+    is_named_refused(alloc, row, number.as_str(), PAST_LIMIT)
 }
 
 /// Whether so many parts are taken, and one more is refused at its place.
@@ -90,7 +93,10 @@ fn is_limit(alloc: Global, row: &CountLimit) -> Result<bool, AllocError> {
 /// Whether the first name past the limit is refused as any other, where it stands twice and where it has 65 bytes.
 fn is_asked_past(alloc: Global, row: &CountLimit) -> Result<bool, AllocError> {
     let long = with_name(alloc, "", 64, "")?;
-    Ok(is_named_refused(alloc, row, "1", 202)? && is_named_refused(alloc, row, long.as_str(), 200)?)
+    Ok(
+        is_named_refused(alloc, row, "1", DECLARED_TWICE)?
+            && is_named_refused(alloc, row, long.as_str(), LONG_NAME)?,
+    )
 }
 
 /// Fails at the first list that takes fewer parts or more.
@@ -224,27 +230,27 @@ const LASTS: &[Last] = &[
     Last {
         list: &TYPES,
         part: " (t0 u)",
-        code: 208,
+        code: PAST_LIMIT,
     },
     Last {
         list: &TYPES,
         part: " (t1 u)",
-        code: 202,
+        code: DECLARED_TWICE,
     },
     Last {
         list: &PREDICATES,
         part: " (not)",
-        code: 201,
+        code: BARRED_NAME,
     },
     Last {
         list: &ARGUMENTS_OF_ONE,
         part: " u",
-        code: 203,
+        code: UNDECLARED,
     },
     Last {
         list: &LITERALS,
         part: " (p1 a)",
-        code: 205,
+        code: WRONG_COUNT,
     },
 ];
 
@@ -422,7 +428,7 @@ fn refusal_with(alloc: Global, row: &Named, n: u32) -> Result<(u32, u16), AllocE
 fn is_longest(alloc: Global, row: &Named) -> Result<bool, AllocError> {
     let (at, code) = refusal_with(alloc, row, 65)?;
     let placed = row.front.len().checked_sub(at as usize) == Some(row.sign);
-    Ok(refusal_with(alloc, row, 64)? == (0, 0) && code == 200 && placed)
+    Ok(refusal_with(alloc, row, 64)? == (0, 0) && code == LONG_NAME && placed)
 }
 
 /// Fails at the first place where that isn't so.
@@ -482,15 +488,15 @@ const GREATEST: &[Refused] = &[
     Refused(
         "(pks 2) (domain (predicates (p)) (action a (cost 10000))) (problem (goal (k (p))))",
         49,
-        208,
+        PAST_LIMIT,
     ),
     Refused(
         "(pks 1) (domain (types t) (objects (t a)) (predicates (p t t t))) (problem (init (lcw (p _ a _))) (goal (k (p a a a))))",
         0,
         0,
     ),
-    Refused("((((((((((((", 11, 111),
-    Refused("(((((((((((((", 12, 113),
+    Refused("((((((((((((", 11, UNCLOSED),
+    Refused("(((((((((((((", 12, TOO_DEEP),
 ];
 
 #[test]

@@ -3,6 +3,7 @@ ghost use Rattle.std.specs.Prelude.{IfOk};
 ghost use Rattle.pks_terms.specs.ValidProblems.{IsValidProblem};
 
 use pks_reader::read_problem;
+use pks_terms::limits::MOST_BYTES;
 use pks_terms::problem::Problem;
 use std::alloc::Global;
 use std::test::Fail;
@@ -11,7 +12,7 @@ use std::test::Fail;
 pub fn read<'s>(alloc: Global, text: &'s str) -> Result<Problem<'s>, Fail>
     ensures { IfOk result (λ p. IsValidProblem p) }
 {
-    if text.len() > 262_144 {
+    if text.len() > MOST_BYTES {
         return Err(Fail::new("the file is too long"));
     }
     let Ok(p) = read_problem(alloc, text) else {

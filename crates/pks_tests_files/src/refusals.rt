@@ -1,5 +1,7 @@
 //! Refusals of texts.
 use pks_reader::{Turned, read_problem};
+use pks_terms::codes::TOO_MANY_BYTES;
+use pks_terms::limits::MOST_BYTES;
 use std::alloc::Global;
 use std::test::Fail;
 
@@ -8,8 +10,8 @@ pub struct Refused(pub &'static str, pub u32, pub u16);
 
 /// The place and the code of the refusal; zeros where there is none.
 pub fn refusal_of(alloc: Global, text: &str) -> (u32, u16) {
-    if text.len() > 262144 {
-        return (0, 100);
+    if text.len() > MOST_BYTES {
+        return (0, TOO_MANY_BYTES);
     }
     match read_problem(alloc, text) {
         Ok(_problem) => (0, 0),

@@ -1,5 +1,6 @@
 //! Words and lists at their places, and the first faults of texts.
 use pks_terms::ids::Span;
+use pks_terms::limits::MOST_BYTES;
 use pks_text::FormFault::{BadByte, TooDeep, Unclosed, Unopened};
 use pks_text::{Form, FormFault, forms, line_column};
 use std::alloc::{AllocError, Global};
@@ -10,7 +11,7 @@ struct Faulty(&'static str, Option<FormFault>);
 
 /// The fault of the text, where it has one.
 fn fault_of(alloc: Global, text: &str) -> Option<FormFault> {
-    if text.len() > 262144 {
+    if text.len() > MOST_BYTES {
         return None;
     }
     forms(alloc, text).err()
@@ -97,7 +98,7 @@ fn are_placed(top: &[Form<'_>]) -> bool {
 
 /// The same of a text's forms.
 fn are_placed_in(alloc: Global, text: &str) -> bool {
-    if text.len() > 262144 {
+    if text.len() > MOST_BYTES {
         return false;
     }
     match forms(alloc, text) {
@@ -118,7 +119,7 @@ const PLACES: &[TextPlace] = &[
 
 /// Whether the place in the text has this line and column.
 fn has_column(text: &str, row: &TextPlace) -> bool {
-    if text.len() > 262144 || text.len() < row.0 as usize {
+    if text.len() > MOST_BYTES || text.len() < row.0 as usize {
         return false;
     }
     line_column(text, row.0) == (row.1, row.2)
@@ -137,7 +138,7 @@ struct Repeated(&'static str, usize, Option<usize>);
 
 /// The number of top forms.
 fn forms_in(alloc: Global, text: &str) -> Option<usize> {
-    if text.len() > 262144 {
+    if text.len() > MOST_BYTES {
         return None;
     }
     match forms(alloc, text) {
@@ -163,8 +164,8 @@ fn are_read(alloc: Global, rows: &[Repeated]) -> Result<(), Fail> {
 }
 
 const LONGEST: &[Repeated] = &[
-    Repeated(";", 262144, Some(0)),
-    Repeated("(", 262144, None),
+    Repeated(";", MOST_BYTES, Some(0)),
+    Repeated("(", MOST_BYTES, None),
     Repeated("a ", 131072, Some(131072)),
     Repeated("()", 131072, Some(131072)),
     Repeated("((((((((((((\n))))))))))))\n", 10082, Some(10082)),

@@ -96,21 +96,28 @@ fn old_versions_stay_without_clone(rt: HostRuntime) -> Result<(), Fail> {
     Ok(())
 }
 
-// The numbers below 10,000 put in one after another.
+// How many numbers are put in one after another.
+const NUMBERS: u32 = 10_000;
+
+// The numbers below `NUMBERS` put in one after another.
 fn filled_map(
     alloc: Global,
     falling: bool,
     steps: &mut Steps,
 ) -> Result<PMap<u32, u32>, AllocError> {
     let mut map = PMap::empty();
-    for number in 0..10_000u32 {
-        let key = if falling { 9_999 - number } else { number };
+    for number in 0..NUMBERS {
+        let key = if falling {
+            NUMBERS - 1 - number
+        } else {
+            number
+        };
         map = map.insert(alloc, key, key, steps)?;
     }
     Ok(map)
 }
 
-// Whether the keys are the numbers below 10,000.
+// Whether the keys are the numbers below `NUMBERS`.
 fn counts_up(map: &PMap<u32, u32>) -> bool {
     let mut next: u32 = 0;
     for (key, _) in map.iter() {
@@ -119,7 +126,7 @@ fn counts_up(map: &PMap<u32, u32>) -> bool {
         }
         next = next.saturating_add(1);
     }
-    next == 10_000
+    next == NUMBERS
 }
 
 #[test]
@@ -136,6 +143,6 @@ fn ten_thousand_in_either_order(rt: HostRuntime) -> Result<(), Fail> {
     // Each insert makes a path of a tree of height 14 at most, and two more nodes at a rotation.
     assert!(rt; steps.made <= 320_000);
     assert_eq!(rt; none.made, 0);
-    assert!(rt; all.first_from(&9_999) == Some((&9_999, &9_999)));
+    assert!(rt; all.first_from(&(NUMBERS - 1)) == Some((&(NUMBERS - 1), &(NUMBERS - 1))));
     Ok(())
 }

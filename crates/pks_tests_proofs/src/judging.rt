@@ -1,5 +1,6 @@
 //! Reads the proofs of a table, and has them judged.
 ghost use Rattle.std.specs.Prelude.{◌≤◌, length, IfOk};
+ghost use Rattle.pks_terms.specs.declared.limits.TheConstants.{MOST_OBJECTS};
 
 use crate::rows::{Piece, ProofRow, ProofTable, Said};
 use pks_lcw::Entry;
@@ -9,6 +10,7 @@ use pks_proof_lines::{Fact, Line, Path, Proof, Reason, Turn};
 use pks_reader::read_problem;
 use pks_terms::choices::{Choice, Side};
 use pks_terms::ids::{ActId, ItemNo, ObjId};
+use pks_terms::limits::{MOST_BYTES, MOST_OBJECTS};
 use pks_terms::literal::{Atom, Conj, Literal, Pattern};
 use pks_terms::problem::{Aim, Init, InitItem, Problem};
 use pks_terms::schema::{Instance, Query};
@@ -123,15 +125,15 @@ fn items(alloc: Global, row: &ProofRow) -> Result<String, AllocError> {
 
 /// The problem of a file.
 fn read<'s>(alloc: Global, text: &'s str) -> Result<Problem<'s>, Fail>
-    ensures { IfOk result (λ p. length p.signature.objects ≤ 65536) }
+    ensures { IfOk result (λ p. length p.signature.objects ≤ MOST_OBJECTS) }
 {
-    if text.len() > 262_144 {
+    if text.len() > MOST_BYTES {
         return Err(Fail::new("the file is too long"));
     }
     let Ok(p) = read_problem(alloc, text) else {
         return Err(Fail::new("the file is refused"));
     };
-    if p.signature.objects.len() > 65_536 {
+    if p.signature.objects.len() > MOST_OBJECTS {
         return Err(Fail::new("there are too many objects"));
     }
     Ok(p)
@@ -202,7 +204,7 @@ fn is_shown(
     sheet: &Problem<'_>,
     row: &ProofRow,
 ) -> Result<bool, Fail>
-    requires { length p.now.signature.objects ≤ 65536 }
+    requires { length p.now.signature.objects ≤ MOST_OBJECTS }
 {
     let mut left = Sheet {
         rest: sheet.init.as_slice(),

@@ -4,6 +4,8 @@ use crate::rows::{Check, all_so};
 use crate::runs::{Answered, NOTHING, is_said, run_over};
 use pks_run::Status;
 use pks_run::Status::{Done, Refused};
+use pks_terms::codes::{LONG_NAME, PAST_LIMIT};
+use pks_terms::limits::MOST_BYTES;
 use std::alloc::{AllocError, Global};
 use std::test::Fail;
 
@@ -50,7 +52,7 @@ impl Check for PartLimit {
         let (fitting, _last) = text_of(alloc, self, self.most)?;
         let (longer, last) = text_of(alloc, self, self.most.saturating_add(1))?;
         let at = last.saturating_add(usize::from(self.shift));
-        let line = refusal(alloc, at, 208)?;
+        let line = refusal(alloc, at, PAST_LIMIT)?;
         Ok(is_said(alloc, &fitting, "accepted\n")? && is_said(alloc, &longer, &line)?)
     }
 }
@@ -264,7 +266,7 @@ impl Check for NameLimit {
     fn is_so(&self, alloc: Global) -> Result<bool, Fail> {
         let longest = with_name(alloc, self.0, 64, self.1)?;
         let longer = with_name(alloc, self.0, 65, self.1)?;
-        let line = refusal(alloc, self.0.len().saturating_sub(self.2), 200)?;
+        let line = refusal(alloc, self.0.len().saturating_sub(self.2), LONG_NAME)?;
         Ok(is_said(alloc, &longest, "accepted\n")? && is_said(alloc, &longer, &line)?)
     }
 }
@@ -386,8 +388,8 @@ impl Check for Padded {
 }
 
 const INPUTS: &[Padded] = &[
-    Padded(262_144, Done, "accepted\n"),
-    Padded(262_145, Refused, "refused 1:1 100\n"),
+    Padded(MOST_BYTES, Done, "accepted\n"),
+    Padded(MOST_BYTES + 1, Refused, "refused 1:1 100\n"),
 ];
 
 #[test]

@@ -12,6 +12,7 @@ use pks_exec::End;
 use pks_plan::Tree;
 use pks_reader::{InputFile, read_file};
 use pks_run_answer::leads::{Lead, lead_about};
+use pks_terms::limits::{LONGEST_LINE, MOST_BYTES};
 use pks_terms::sequence::Sequence;
 use std::alloc::{AllocError, Global};
 use std::test::Fail;
@@ -83,7 +84,7 @@ impl Caller {
 fn read(alloc: Global, text: &str) -> Result<InputFile<'_>, Fail>
     ensures { IfOk result (λ f. IsWhole f) }
 {
-    if text.len() > 262_144 {
+    if text.len() > MOST_BYTES {
         return Err(Fail::new("the file is too long"));
     }
     let Ok(f) = read_file(alloc, text.as_bytes()) else {
@@ -334,6 +335,6 @@ fn says_at_most(alloc: Global, bytes: usize) -> Result<bool, AllocError> {
 
 #[test]
 fn peers_say_lines_of_at_most_8192_bytes(rt: HostRuntime) -> Result<(), Fail> {
-    assert!(rt; says_at_most(rt.alloc(), 8192)?);
+    assert!(rt; says_at_most(rt.alloc(), LONGEST_LINE)?);
     Ok(())
 }

@@ -187,11 +187,11 @@ impl Check for Front {
 }
 
 const FRONTS: &[Front] = &[
-    Front(1, 100, WriteFault, ""),
-    Front(2, 100, WriteFault, "plan "),
-    Front(3, 100, WriteFault, "plan depth"),
-    Front(4, 100, WriteFault, "plan depth 0\ngo"),
-    Front(5, 100, Done, EMPTY_PLAN),
+    Front(1, 99, WriteFault, ""),
+    Front(2, 99, WriteFault, "plan "),
+    Front(3, 99, WriteFault, "plan depth"),
+    Front(4, 99, WriteFault, "plan depth 0\ngo"),
+    Front(5, 99, Done, EMPTY_PLAN),
     Front(9, 7, WriteFault, "plan de"),
 ];
 

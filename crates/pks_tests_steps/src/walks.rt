@@ -28,6 +28,7 @@ use pks_reader::read_problem;
 use pks_run_bench::generate;
 use pks_terms::choices::{Choice, Side};
 use pks_terms::ids::ObjId;
+use pks_terms::limits::MOST_BYTES;
 use pks_terms::problem::Problem;
 use pks_terms::term::Term;
 use std::alloc::{AllocError, Global};
@@ -46,7 +47,7 @@ pub(crate) fn read<'s>(alloc: Global, text: &'s str) -> Result<Problem<'s>, Fail
     ensures valid { IfOk result (λ p. IsValidProblem p) }
     ensures justified { IfOk result (λ p. AllJustified (problem_of p)) }
 {
-    if text.len() > 262_144 {
+    if text.len() > MOST_BYTES {
         return Err(Fail::new("the file is too long"));
     }
     let Ok(p) = read_problem(alloc, text) else {

@@ -1,5 +1,6 @@
 // Places of forms, and lines and columns.
 ghost use Rattle.std.specs.Prelude.{◌≡◌, ◌≤◌, length};
+ghost use Rattle.pks_terms.specs.declared.limits.TheConstants.{MOST_BYTES};
 ghost use Rattle.pks_text.specs.FormViews.{form_view};
 ghost use Rattle.pks_text.specs.Forms.{place_of};
 ghost use Rattle.pks_text.specs.Lines.{line_column_behind, line_column_of};
@@ -19,7 +20,7 @@ pub fn place_of(form: &Form<'_>) -> u32
 /// The line and the column of what stands behind these bytes: lines count from 1 by line feeds, columns from 1 by bytes
 /// (`docs/FORMAT.md`). There are at most 262,144 bytes.
 pub fn line_column_behind(front: &[u8]) -> (u32, u32)
-    requires { length front.now ≤ 262144 }
+    requires { length front.now ≤ MOST_BYTES }
     ensures { result ≡ line_column_behind front.now }
 {
     let mut line = 0;
@@ -40,7 +41,7 @@ pub fn line_column_behind(front: &[u8]) -> (u32, u32)
 /// The text has at most 262,144 bytes, and `at` is the place of one of them or the end of the text.
 #[tactic(auto, unfolding(crate::specs::Lines::line_column_of))]
 pub fn line_column(source: &str, at: u32) -> (u32, u32)
-    requires small { length source.now ≤ 262144 }
+    requires small { length source.now ≤ MOST_BYTES }
     requires within { at ≤ length source.now }
     ensures { result ≡ line_column_of source.now at }
 {

@@ -1,5 +1,6 @@
 // A text as forms.
 ghost use Rattle.std.specs.Prelude.{◌≡◌, ◌≤◌, ◌<◌, ◌+◌, ◌∷◌, ◌++◌, [], List, ℕ, length, Some, OnOk, IfOk, IfErr, IsOk};
+ghost use Rattle.pks_terms.specs.declared.limits.TheConstants.{MOST_BYTES};
 ghost use Rattle.pks_text.specs.declared.tree.FormFault.TheVariants.{Memory};
 ghost use Rattle.pks_text.specs.Forms.{Spells, SpellsNoOther};
 ghost use Rattle.pks_text.specs.Faults.{IsFirstFault, IsFaultOf, IsAnswered};
@@ -62,7 +63,7 @@ impl<'s> Pile<'s> {
 
     // A closing parenthesis.
     fn close(&mut self, at: u32) -> Result<(), FormFault>
-        requires { at < 262144 }
+        requires { at < MOST_BYTES }
         ensures marks { OnOk result (marks_of self.new ≡ marks_of self.old ++ Closes (at + 1) ∷ []) }
         ensures places { OnOk result (opened (places_of self.old) (Closes (at + 1)) ≡ Some (places_of self.new)) }
         ensures words { OnOk result (words_of self.new ≡ words_of self.old) }
@@ -83,7 +84,7 @@ impl<'s> Pile<'s> {
     }
 
     fn take(&mut self, alloc: Global, token: Token<'s>) -> Result<(), FormFault>
-        requires { token.span.start < 262144 }
+        requires { token.span.start < MOST_BYTES }
         ensures marks { OnOk result (marks_of self.new ≡ marks_of self.old ++ mark_of token.entry ∷ []) }
         ensures places { OnOk result (opened (places_of self.old) (mark_of token.entry) ≡ Some (places_of self.new)) }
         ensures words { OnOk result (words_of self.new ≡ words_of self.old ++ spoken token.entry) }
@@ -126,7 +127,7 @@ fn form_fault(fault: LexFault) -> FormFault
 ///
 /// Every fault of `FormFault` but `Memory` comes exactly where it is the first of the text; `Memory` may come at any text.
 pub fn forms<'s>(alloc: Global, source: &'s str) -> Result<Forms<'s>, FormFault>
-    requires { length source.now ≤ 262144 }
+    requires { length source.now ≤ MOST_BYTES }
 
     // The forms are those that the text spells, and it spells no others.
     ensures spelled { IfOk result (λ fs. Spells source.now (forms_view fs.top.items)) }

@@ -1,5 +1,6 @@
 //! The first world of a problem.
 ghost use Rattle.std.specs.Prelude.{◌≡◌, ◌≤◌, ◌^◌, [], ◌∷◌, map, true, IfOk, OnOk, length, Some, if◌then◌else◌};
+ghost use Rattle.pks_terms.specs.declared.limits.TheConstants.{MOST_OBJECTS};
 ghost use Rattle.pks_terms.specs.Counts.{TermCounts};
 ghost use Rattle.pks_terms.specs.Syntax.{place};
 ghost use Rattle.pks_terms.specs.Orders.{term_eq};
@@ -21,7 +22,7 @@ use std::collections::{BTreeMap, BTreeSet};
 /// The least object of the type, or object 0 where there is none.
 #[tactic(auto, unfolding(pks_terms::specs::Signatures::objects_of))]
 fn least_of(s: &Signature, of: TypeId) -> ObjId
-    requires { length s.now.objects ≤ 65536 }
+    requires { length s.now.objects ≤ MOST_OBJECTS }
     ensures { result.0 ≡ first_of (objects_of (signature_of s.now) of.0) }
 {
     for (i, own) in s.objects.as_slice().iter().enumerate() {
@@ -34,7 +35,7 @@ fn least_of(s: &Signature, of: TypeId) -> ObjId
 
 /// The least value of each function.
 fn least_values(alloc: Global, s: &Signature) -> Result<Vec<ObjId>, AllocError>
-    requires { length s.now.objects ≤ 65536 }
+    requires { length s.now.objects ≤ MOST_OBJECTS }
     ensures { IfOk result (λ v. map object_of v.items ≡ map (λ x. first_of (objects_of (signature_of s.now) x.result.0)) s.now.functions) }
 {
     let mut values = Vec::new(alloc);
@@ -51,7 +52,7 @@ fn argument_range(
     types: &[TypeId],
     number: usize,
 ) -> Result<Vec<ObjId>, AllocError>
-    requires { length s.now.objects ≤ 65536 }
+    requires { length s.now.objects ≤ MOST_OBJECTS }
     ensures { IfOk result (λ v. map object_of v.items ≡ argument_range (signature_of s.now) (types_of types.now) number) }
 {
     match types.get(number) {
@@ -121,7 +122,7 @@ fn fill(
     d: ObjId,
     values: &mut BTreeMap<Term, ObjId>,
 ) -> Result<(), AllocError>
-    requires { length s.now.objects ≤ 65536 }
+    requires { length s.now.objects ≤ MOST_OBJECTS }
     ensures only { OnOk result (WritesOnly fun.0 d.0 values.old.entries values.new.entries) }
     ensures all { length types.now ≤ 2 → OnOk result (WritesAll (signature_of s.now) fun.0 (types_of types.now) d.0 values.new.entries) }
     ensures counts { KeptCounts values.old.entries → OnOk result (KeptCounts values.new.entries) }
@@ -134,7 +135,7 @@ fn fill(
 
 /// The least value for each place of the signature.
 fn all_values(alloc: Global, s: &Signature) -> Result<BTreeMap<Term, ObjId>, AllocError>
-    requires objects { length s.now.objects ≤ 65536 }
+    requires objects { length s.now.objects ≤ MOST_OBJECTS }
     requires functions { length s.now.functions ≤ 256 }
     ensures least { IfOk result (λ m. AreLeast (signature_of s.now) m.entries) }
     ensures filled { Each (λ x. length (shape_of x).arguments ≤ 2) s.now.functions → IfOk result (λ m. AreFilled (signature_of s.now) (length s.now.functions) m.entries) }
@@ -153,7 +154,7 @@ impl World {
     /// The world in which no atom is true and each place has the least object of its result type. It asks that objects and functions can be
     /// numbered. `AllocError` comes for want of memory alone. `docs/RULES.md`, worlds.
     pub fn first(alloc: Global, p: &Problem<'_>) -> Result<World, AllocError>
-        requires objects { length p.now.signature.objects ≤ 65536 }
+        requires objects { length p.now.signature.objects ≤ MOST_OBJECTS }
         requires functions { length p.now.signature.functions ≤ 256 }
         ensures world { IfOk result (λ w. world_of w ≡ first_world (signature_of p.now.signature)) }
         ensures of_signature { IsValidSignature (signature_of p.now.signature) → IfOk result (IsWorldOf (signature_of p.now.signature)) }

@@ -1,5 +1,6 @@
 //! What is observed in a world after an action.
 ghost use Rattle.std.specs.Prelude.{◌≡◌, ◌≤◌, ℕ, List, [], ◌∷◌, ◌++◌, map, take, filter, length, IfOk, OnOk, option_map};
+ghost use Rattle.pks_terms.specs.declared.limits.TheConstants.{MOST_OBJECTS};
 ghost use Rattle.pks_terms.specs.Counts.{AtomCounts, InstanceCounts, PatternCounts, SenseCounts, ProblemCounts};
 ghost use Rattle.pks_terms.specs.Sets.{Each};
 ghost use Rattle.pks_terms.specs.Signatures.{predicate_shape};
@@ -71,7 +72,7 @@ impl World {
         slots: &[Option<Term>],
         number: usize,
     ) -> Result<Vec<ObjId>, AllocError>
-        requires { length s.now.objects ≤ 65536 }
+        requires { length s.now.objects ≤ MOST_OBJECTS }
         ensures { IfOk result (λ v. map object_of v.items ≡ slot_range (signature_of s.now) (world_of self.now) (types_of types.now) (map (option_map term_of) slots.now) number) }
     {
         match (types.get(number), slots.get(number)) {
@@ -166,7 +167,7 @@ impl World {
         s: &Signature,
         x: &Pattern,
     ) -> Result<Vec<PredAtom>, AllocError>
-        requires { length s.now.objects ≤ 65536 }
+        requires { length s.now.objects ≤ MOST_OBJECTS }
         ensures says { IfOk result (λ found. map atom_of found.items ≡ map (ground x.now.pred.0) (filter ((world_of self.now).truth x.now.pred.0) (instances_of (signature_of s.now) (world_of self.now) (predicate_shape (signature_of s.now) x.now.pred.0).arguments (pattern_of x.now).slots))) }
         ensures counts { IfOk result (λ found. Each AtomCounts found.items) }
     {
@@ -192,7 +193,7 @@ impl World {
 
     /// What the sense finds.
     fn find_by(&self, alloc: Global, s: &Signature, sense: &Sense) -> Result<Seen, AllocError>
-        requires { length s.now.objects ≤ 65536 }
+        requires { length s.now.objects ≤ MOST_OBJECTS }
         ensures seen { IfOk result (λ x. seen_of x ≡ seen (signature_of s.now) (world_of self.now) (sense_of sense.now)) }
         ensures ground { IfOk result AreGround }
         ensures counts { SenseCounts sense.now → IfOk result SeenCounts }
@@ -210,7 +211,7 @@ impl World {
     /// What the senses of the action find in this world, which is the one after it: one entry a sense in order, with the instance's arguments
     /// put in. It asks that objects can be numbered. `AllocError` comes for want of memory alone. `docs/RULES.md`, observations.
     pub fn observe(&self, alloc: Global, p: &Problem<'_>, i: &Instance) -> Result<Obs, AllocError>
-        requires { length p.now.signature.objects ≤ 65536 }
+        requires { length p.now.signature.objects ≤ MOST_OBJECTS }
         ensures seen { IfOk result (λ o. map seen_of o ≡ observations (problem_of p.now) (world_of self.now) (instance_of i.now)) }
         ensures ground { IfOk result (Each AreGround) }
         ensures counts { ProblemCounts p.now → InstanceCounts i.now → IfOk result (Each SeenCounts) }
