@@ -1,10 +1,9 @@
 """Plans as one means them: printed ones, and ones that end early or have sides left out."""
 
-import re
 from dataclasses import dataclass
 from typing import List, Sequence, Tuple
 
-from pkslib import Act, Branch, Cases, Expression, Goal, Impossible, Leaf, Malformed, Tree, expressions
+from pkslib import Act, Branch, Cases, Expression, Goal, Impossible, Leaf, Malformed, Tree, expressions, need_no_other
 
 
 @dataclass(frozen=True)
@@ -42,22 +41,13 @@ class _Lines:
             raise self.fault(fault.what) from None
 
 
-OTHERS = ((r'\(pks\b', 'a file for the planner'), (r'run$', 'a run, as `exec` prints it'),
-          (r'plan depth \d+ nodes ', 'a plan with equal parts once, as `shared` prints it'),
-          (r'none to depth ', 'no plan'), (r'refused ', 'a refusal'))
-"""What is printed besides plans, by how it begins."""
-
-
 def read_meant(text: str) -> Tree:
     """The tree of a plan; Malformed, with the line, where a line is none of a plan.
 
     The first line `plan depth D` may be missing. Where the text ends, and on a side that it leaves out, stands Stop.
     """
+    need_no_other(text)
     lines = _Lines(text)
-    other = next((what for begun, what in OTHERS if re.match(begun, text.lstrip())
-                  or re.match(begun, lines.peek(0))), None)
-    if other:
-        raise lines.fault(f'this is {other}, and here a plan is wanted, as `./pks plan` prints it')
     tree = _body(lines, 0)
     if lines.at < len(lines.lines):
         line, before = lines.lines[lines.at][1], lines.lines[lines.at - 1][1] if lines.at else ''

@@ -28,6 +28,7 @@ Plans:
     .children .price            of an inner node: the trees below, and what the step alone costs
     ways(tree)                  all ways to a leaf, each with .steps, .leaf and .cost
     read_plan(text, prices)     the tree of a printed plan;  printed(tree) is its text again
+    need_no_other(text)         tells of a text that is no plan but a file, a run, a dialogue
     costs(text)                 the cost of each action of a file
 
 Dialogues, which lead `agent` over a pipe (the class tells how; a robot stands in examples/robot.py):
@@ -75,8 +76,8 @@ from .program import Answer, ask, call, check, derive, find
 from .texts import (Branched, Cased, Do, Entry, Event, Explained, Instances, Moment, Printed, ProofLine, Recalled, Run,
                     Shared, Value, Whether, read_act, read_explained, read_printed, read_proof_line, read_recalled,
                     read_run, read_shared, tree_of)
-from .trees import (Act, Branch, Cases, Goal, Impossible, Leaf, Literal, Side, Term, Tree, Way, printed,
-                    read_body, read_plan, sides, ways)
+from .trees import (Act, Branch, Cases, Goal, Impossible, Leaf, Literal, Side, Term, Tree, Way, need_no_other,
+                    printed, read_body, read_plan, sides, ways)
 from .worlds import Fact, World
 
 __all__ = [
@@ -86,7 +87,7 @@ __all__ = [
     'NoPlan', 'NoProgram', 'NoWorld', 'PKS_WORDS', 'PksError', 'Printed', 'ProofLine', 'Question', 'Recalled',
     'Refusal', 'Refused', 'Run', 'Shared', 'Side', 'Status', 'Step', 'Term', 'Text', 'TimedOut', 'Tree',
     'UnfitAnswer', 'VARIABLE', 'Value', 'Way', 'Whether', 'World', 'ask', 'call', 'check', 'choices', 'costs',
-    'derive', 'expressions', 'find', 'fitting_world', 'gained_parenthesis', 'limits', 'lost_parenthesis', 'plan',
-    'printed', 'read', 'read_act', 'read_body', 'read_explained', 'read_plan', 'read_printed', 'read_proof_line',
-    'read_recalled', 'read_refusal', 'read_run', 'read_shared', 'sides', 'tree_of', 'ways', 'written',
+    'derive', 'expressions', 'find', 'fitting_world', 'gained_parenthesis', 'limits', 'lost_parenthesis',
+    'need_no_other', 'plan', 'printed', 'read', 'read_act', 'read_body', 'read_explained', 'read_plan', 'read_printed',
+    'read_proof_line', 'read_recalled', 'read_refusal', 'read_run', 'read_shared', 'sides', 'tree_of', 'ways', 'written',
 ]

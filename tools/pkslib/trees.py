@@ -1,5 +1,6 @@
 """Plans as trees, and the reader of printed ones."""
 
+import re
 from dataclasses import dataclass, field
 from functools import cached_property
 from typing import Iterator, List, Mapping, Optional, Sequence, Tuple, Union
@@ -291,11 +292,28 @@ def read_body(lines: Sequence[str], number: int = 1, prices: Optional[Mapping[st
     return tree
 
 
+OTHERS = ((r'\(pks\b', 'a file for the planner'), (r'run$', 'a run, as `exec` prints it'),
+          (r'plan depth \d+ nodes ', 'a plan with equal parts once, as `shared` prints it'),
+          (r'none to depth ', 'no plan'), (r'refused ', 'a refusal'),
+          (r'(?:do|value|test) \(', 'a dialogue, as `agent` prints it'))
+"""What is written and printed besides plans, by how it begins."""
+
+
+def need_no_other(text: str) -> None:
+    """Malformed, with the line, where the first line that is neither blank nor a comment is none of a plan but of OTHERS."""
+    lines = ((line.split(';')[0].strip(), number) for number, line in enumerate(text.splitlines(), 1))
+    begun, at = next(((line, number) for line, number in lines if line), ('', 1))
+    for pattern, kind in OTHERS:
+        if re.match(pattern, begun):
+            raise Malformed(f'this is {kind}, and here a plan is wanted, as `./pks plan` prints it', at)
+
+
 def read_plan(text: str, prices: Optional[Mapping[str, int]] = None) -> Tree:
     """The tree that `plan` prints; Malformed, with the line, where the text isn't one.
 
     `prices` are the costs of the actions by their names, as `costs` gives them.
     """
+    need_no_other(text)
     lines = text.splitlines()
     if not lines or not lines[0].startswith('plan depth ') or len(lines[0].split()) != 3:
         raise Malformed('no plan: its first line is `plan depth D`')

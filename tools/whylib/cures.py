@@ -13,7 +13,7 @@ from typing import Callable, Iterator, List, Optional, Sequence, Tuple
 
 from pkslib import Code, Form, Refusal, Text, read_refusal
 
-from . import adds, grammar
+from . import adds, grammar, shape
 from .names import Names, near
 from .rewriting import LEFT_OUT, SECTION_WORDS, Rewriting, head_of, words_of
 
@@ -28,6 +28,8 @@ class Cure:
     edits: List[Edit]
     is_part: bool = False
     """Whether it mends one part of a section, beside which others may be wrong."""
+    is_end: bool = False
+    """Whether the text ends where it begins, and what stood behind it isn't of the file."""
 
     def done(self, data: bytes) -> bytes:
         """The text with the changes."""
@@ -65,11 +67,14 @@ class Outcome:
 
     def sentences(self, by: str = 'With it') -> List[str]:
         """The lines that are mended, and how far that leads."""
+        by = 'Up to there' if self.cure.is_end else by
         return self.shown() + [f'{by} the file is accepted.' if self.is_accepted() else
                                f'{by} the next fault is `{self.said.strip()}`.']
 
     def shown(self) -> List[str]:
-        """The lines that are mended, at most six of them."""
+        """The lines that are mended, at most six of them; none where the text ends before."""
+        if self.cure.is_end:
+            return []
         text, numbers = Text(self.data), []
         for start, end in self.cure.places():
             for number in range(text.place(start)[0], text.place(max(start, end - 1))[0] + 1):
@@ -187,6 +192,9 @@ class Patient:
         if form is not None and form.parent is not None and form.parent.head() == 'pks':
             yield self.version(1)
             yield self.version(2)
+        if letter == '.' and shape.ends_dialogue(self.text, self.at):
+            yield Cure([(self.at, len(self.text.data), '')], is_end=True)
+            return
         if letter == ':':
             colons = Colons(self)
             yield colons.all()

@@ -442,7 +442,34 @@ def beginning(text: Text, code: int) -> List[str]:
     if heads[3:] and set(heads[3:]) == {'world'}:
         return ['A file has one world. Keep each in a file of its own, and put one behind the rest: '
                 '`cat FILE WORLD | ./pks exec DEPTH`.']
+    if len(text.forms) > at and text.forms[at].word:
+        return ['Answers of a dialogue stand behind a line that is a full stop alone, and here is none.']
     return ['Behind the problem there may stand `(world (true ..) (values ..))`, and nothing else.']
+
+
+# Dialogues
+
+def ends_dialogue(text: Text, at: int) -> bool:
+    """Whether a full stop seems to end the file of a dialogue: alone in its line, or the last of it behind a problem."""
+    line, column = text.place(at)
+    before, behind = text.line(line)[:column - 1], text.line(line)[column:]
+    is_alone, has_problem = not before.strip(), any(form.head() == 'problem' and form.start < at for form in text.forms)
+    return not behind.strip() and (is_alone or has_problem)
+
+
+def full_stop(text: Text, at: int) -> List[str]:
+    """110 at a full stop."""
+    line, column = text.place(at)
+    before, behind = text.line(line)[:column - 1], text.line(line)[column:]
+    if not ends_dialogue(text, at):
+        said = 'A name has letters, digits, `-` and `_`: write `cup-1` for `cup.1`.'
+        return [said if behind[:1].isalnum() else said + ' A comment begins with `;`.']
+    said = 'A full stop alone in its line ends the file of a dialogue, and `agent` alone reads it'
+    if before.strip():
+        return [said + '. Here something stands before it: let the file end with a line feed.']
+    if before or behind:
+        return [said + '. Here blanks stand beside it, or a carriage return.']
+    return [said + ': ask about what stands before it.']
 
 
 def pddl(heads: Sequence[str]) -> List[str]:
