@@ -1,7 +1,8 @@
 #!/bin/sh
 # Runs the planner: words, standard input, standard output and the status go through untouched; what this adds goes to standard error.
 # In a checkout, where the program isn't built or a source is newer, this proves and builds it first; where it is installed, it stands
-# beside the tools. `pks try WORDS` proves nothing: it compiles the sources and runs them as they stand.
+# beside the tools. Where the variable PKS names a program, as for the tools, that one is run in its place, and nothing is proved.
+# `pks try WORDS` proves nothing: it compiles the sources and runs them as they stand.
 # `pks help [WORD]` and `pks version` run nothing at all.
 top=$(dirname "$(readlink -f "$0")")
 crate=$top/crates/pks
@@ -16,6 +17,28 @@ say() {
     echo "pks: $1" >&2
 }
 
+# What PKS names: a path, or a command on the PATH; of the script of another checkout the program that it has built. Nothing where
+# that is this script.
+find_named() {
+    case $PKS in
+        */*) found=$PKS ;;
+        *) found=$(command -v -- "$PKS") || found=./$PKS ;;
+    esac
+    script=$(readlink -f -- "$found")
+    [ "$script" != "$(readlink -f "$0")" ] || return
+    other=$(dirname -- "$script")
+    if [ -f "$other/crates.txt" ] && [ -d "$other/crates" ]; then
+        found=$other/crates/pks/out/pks
+    fi
+    echo "$found"
+}
+
+need_named() {
+    [ -f "$named" ] && [ -x "$named" ] && return
+    say "the variable PKS names $PKS, and no program is there ($named)."
+    exit 127
+}
+
 is_stale() {
     [ -x "$program" ] || return 0
     [ "$me" = pks ] && return 1
@@ -28,7 +51,12 @@ need_rt() {
     command -v rt >/dev/null 2>&1 && return
     say "the program must be built first, and rt, the toolchain's command, isn't on the PATH."
     say "install the Rattle kit that README.md names, or put its bin folder on the PATH."
+    tell_of_named
     exit 127
+}
+
+tell_of_named() {
+    say "PKS=PROGRAM ./pks WORDS < FILE runs a program that is there, and proves nothing."
 }
 
 # Help
@@ -56,7 +84,9 @@ help() {
 version() {
     number=$(sed -n 's/^## \([0-9][0-9.]*\).*/\1/p' "$top/CHANGELOG.md" | head -1)
     if [ -f "$top/INSTALLED" ]; then
-        echo "pks $number, $(cat "$top/INSTALLED")"
+        state=$(cat "$top/INSTALLED")
+        [ -z "$named" ] || state="${state%%,*}, run by what the variable PKS names: $named"
+        echo "pks $number, $state"
         exit 0
     fi
     commit=$(git -C "$top" rev-parse --short HEAD 2>/dev/null) && commit="commit $commit" || commit="no commit known"
@@ -64,6 +94,7 @@ version() {
     state="proved"
     is_stale && state="not proved: a source is newer than the program, and the next call proves it"
     [ -x "$program" ] || state="not proved: the first call proves and builds the program"
+    [ -z "$named" ] || state="run by what the variable PKS names: $named"
     echo "pks $number, $commit, $state"
     exit 0
 }
@@ -143,6 +174,7 @@ fail() {
 build() {
     say "proving and building the program: one and a half to two processor hours from nothing, about half an hour on four cores. Later calls run it at once."
     say "./pks try WORDS < FILE runs it unproved, in about a minute."
+    tell_of_named
     rm -f "$program"
     python3 "$top/tools/prove.py" pks </dev/null || fail
 }
@@ -198,6 +230,8 @@ end() {
     exit "$status"
 }
 
+named=
+[ -z "$PKS" ] || named=$(find_named)
 case $1 in
     help) shift; help "$@" ;;
     version) version ;;
@@ -210,7 +244,11 @@ if [ "$1" = try ]; then
     try_unproved "$@"
 fi
 fault=$(fault_of_words "$@")
-if is_stale; then
+if [ -n "$named" ]; then
+    need_named
+    program=$named
+    unset PKS
+elif is_stale; then
     [ -z "$fault" ] || { say "$fault"; exit 2; }
     need_rt
     build
