@@ -12,7 +12,7 @@ use Rattle.pks_reader_shape.specs.Grammar.{lists, with_head, is_among, productio
 use Rattle.pks_reader_shape.specs.Walk.{head_of, is_headed, sort_at, parts_after, lacks, is_fixed, count, is_miscounted, first_of, fault_in, fault_among}
 use Rattle.pks_reader_shape.specs.Language.{IsOf, word, listing, Matches, nothing, one, left_out, there, no_more, again}
 use Rattle.pks_reader_shape.proofs.Heads.{some_is, parts_none, has_parts}
-use Rattle.pks_reader_shape.proofs.Tables.{is_missing, cannot_begin, is_section, has_one_head, is_decided, are_decided, is_other_decided, no_words, fixed_decided, other_decided}
+use Rattle.pks_reader_shape.proofs.Tables.{is_missing, cannot_begin, has_one_head, is_decided, are_decided, is_other_decided, no_words, fixed_decided, other_decided}
 use Rattle.pks_reader_shape.proofs.Walking.{some_none, list_fault, word_walk, list_walk, parts_walk, walked_form}
 
 -- ---- productions
@@ -55,13 +55,13 @@ one_head head (p ∷ []) None barred ps has e = by_head (bytes_eq head p.0) e
     by_head true e = refl
     by_head false e = absurd (none_either (is_among head barred) e)
 
-pub list_headed : (v : Version) (s : Sort) → has_one_head (lists v s) ≡ true → (head : List ℕ) (ps : List Part) → production v s head ≡ Some ps → bytes_eq head (head_of_section v s) ≡ true
+list_headed : (v : Version) (s : Sort) → has_one_head (lists v s) ≡ true → (head : List ℕ) (ps : List Part) → production v s head ≡ Some ps → bytes_eq head (head_of_section v s) ≡ true
 unfolding production head_of_section
 list_headed v s has head ps made = one_head head (lists v s).fixed (lists v s).other (lists v s).barred ps has made
 
-section_headed : (v : Version) (s : Sort) (f : Form) → is_section s ≡ true → has_one_head (lists v s) ≡ true → IsOf v s f → is_headed (head_of_section v s) f ≡ true
-section_headed v s _ section has (word _ text at allowed) = absurd (false≢true (sym (no_words s section text) ∙ allowed))
-section_headed v s _ section has (listing _ parts at end ps may matches) = list_headed v s has (head_of parts) ps (has_parts v s parts ps may matches)
+pub section_headed : (v : Version) (s : Sort) (f : Form) → has_one_head (lists v s) ≡ true → IsOf v s f → is_headed (head_of_section v s) f ≡ true
+section_headed v s _ has (word _ text at allowed) = absurd (false≢true (sym (no_words s v has text) ∙ allowed))
+section_headed v s _ has (listing _ parts at end ps may matches) = list_headed v s has (head_of parts) ps (has_parts v s parts ps may matches)
 
 -- ---- a list with a head that cannot begin the parts
 
@@ -157,17 +157,15 @@ next v s f qs ps fs whole faultless at after = (
 
 -- a part that may be missing among decided parts
 record MayBeMissing (v : Version) (s : Sort) (ps : List Part) : Type 0 where
-  section : is_section s ≡ true
   has_head : has_one_head (lists v s) ≡ true
   cannot : cannot_begin v (head_of_section v s) ps ≡ true
   later : is_decided v ps ≡ true
 
 may_be_missing : (v : Version) (s : Sort) (ps : List Part) → is_decided v (Maybe s ∷ ps) ≡ true → MayBeMissing v s ps
 may_be_missing v s ps d =
-    let both = and_parts (is_section s && has_one_head (lists v s)) (cannot_begin v (head_of_section v s) ps && is_decided v ps) d in
-    let own = and_parts (is_section s) (has_one_head (lists v s)) both.0 in
+    let both = and_parts (has_one_head (lists v s)) (cannot_begin v (head_of_section v s) ps && is_decided v ps) d in
     let rest = and_parts (cannot_begin v (head_of_section v s) ps) (is_decided v ps) both.1 in
-    record { section = own.0; has_head = own.1; cannot = rest.0; later = rest.1 }
+    record { has_head = both.0; cannot = rest.0; later = rest.1 }
 
 mutual
   pub faultless_form : (v : Version) (s : Sort) (f : Form) → IsOf v s f → fault_in v s f ≡ None
@@ -189,7 +187,7 @@ mutual
       passed v s ps f fs (not_first v (head_of_section v s) ps f fs missing.cannot matches) (faultless_parts v ps (form f fs) missing.later matches)
   faultless_parts v _ _ d (there s ps f fs is matches) =
       let missing = may_be_missing v s ps d in
-      stood v s ps f fs (section_headed v s f missing.section missing.has_head is) (faultless_form v s f is) (faultless_parts v ps fs missing.later matches)
+      stood v s ps f fs (section_headed v s f missing.has_head is) (faultless_form v s f is) (faultless_parts v ps fs missing.later matches)
   faultless_parts v _ _ d (no_more s [] _ nothing) = (refl, no_faults_at_end v (Many s ∷ []))
   faultless_parts v _ _ d (no_more s (p ∷ ps) fs matches) = absurd (false≢true d)
   faultless_parts v _ _ d (again s ps f fs is matches) = next v s f (Many s ∷ ps) (Many s ∷ ps) fs (faultless_form v s f is) (faultless_parts v (Many s ∷ ps) fs d matches) refl refl

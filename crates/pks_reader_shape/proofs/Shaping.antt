@@ -12,7 +12,7 @@ use Rattle.pks_reader_shape.specs.Language.{IsOf, word, listing, MayBeWorld, IsF
 use Rattle.pks_reader_shape.specs.Files.{Fault, or_else, stated, is_version, version_of, top_fault, rest_fault, walk_fault, shape_fault}
 use Rattle.pks_reader_shape.proofs.Heads.{has_parts}
 use Rattle.pks_reader_shape.proofs.Walking.{walked_form}
-use Rattle.pks_reader_shape.proofs.Deciding.{list_headed, faultless_form}
+use Rattle.pks_reader_shape.proofs.Deciding.{section_headed, faultless_form}
 
 fault_none : {fault : Fault} → Some fault ≡ None → ⊥
 fault_none e = grind arith
@@ -52,14 +52,12 @@ version_states : (f : Form) (v : Version) → stated f ≡ Some v → is_version
 version_states f v e = ap (λ (o : Option Version). elim o [ None ↦ false | Some v ↦ true ]) e
 
 domain_headed : (v : Version) (f : Form) → IsOf v Domain f → is_headed (codes "domain") f ≡ true
-unfolding is_allowed lists head_of_section
-domain_headed v _ (word _ text at allowed) = absurd (false≢true allowed)
-domain_headed v _ (listing _ parts at end ps may matches) = list_headed v Domain refl (head_of parts) ps (has_parts v Domain parts ps may matches)
+unfolding lists head_of_section
+domain_headed v f is = section_headed v Domain f refl is
 
 problem_headed : (v : Version) (f : Form) → IsOf v Problem f → is_headed (codes "problem") f ≡ true
-unfolding is_allowed lists head_of_section
-problem_headed v _ (word _ text at allowed) = absurd (false≢true allowed)
-problem_headed v _ (listing _ parts at end ps may matches) = list_headed v Problem refl (head_of parts) ps (has_parts v Problem parts ps may matches)
+unfolding lists head_of_section
+problem_headed v f is = section_headed v Problem f refl is
 
 rest_is : (rest : List Form) → rest_fault (slice_get rest 0) (slice_get rest 1) ≡ None → MayBeWorld rest
 rest_is [] e = tt
