@@ -32,10 +32,7 @@ impl Version {
 fn is_word(text: &str, form: &Form<'_>) -> bool
     ensures { result ≡ is_word text.now (form_view form.now) }
 {
-    match form {
-        Form::Name(token) => token.text == text,
-        Form::List { .. } => false,
-    }
+    matches!(form, Form::Name(token) if token.text == text)
 }
 
 fn are_words(first: &str, second: &str, parts: &[Form<'_>]) -> bool
@@ -54,10 +51,7 @@ fn are_words(first: &str, second: &str, parts: &[Form<'_>]) -> bool
 fn is_pair(first: &str, second: &str, form: &Form<'_>) -> bool
     ensures { result ≡ is_list_of (first.now ∷ second.now ∷ []) (form_view form.now) }
 {
-    match form {
-        Form::Name(_) => false,
-        Form::List { parts, .. } => are_words(first, second, parts),
-    }
+    matches!(form, Form::List { parts, .. } if are_words(first, second, parts))
 }
 
 // The version that the form states.
@@ -79,10 +73,7 @@ pub fn version_of(top: &[Form<'_>]) -> Version
     ensures { result ≡ version_of (map form_view top.now) }
 {
     match top {
-        [first, ..] => match stated_version(first) {
-            Some(version) => version,
-            None => Version::First,
-        },
+        [first, ..] => stated_version(first).unwrap_or(Version::First),
         [] => Version::First,
     }
 }
@@ -91,10 +82,7 @@ pub fn version_of(top: &[Form<'_>]) -> Version
 pub fn or_else(first: Option<Refusal>, later: Option<Refusal>) -> Option<Refusal>
     ensures { result ≡ or_else first later }
 {
-    match first {
-        None => later,
-        Some(fault) => Some(fault),
-    }
+    first.or(later)
 }
 
 fn version_fault(end: u32, form: Option<&Form<'_>>) -> Option<Refusal>
@@ -102,10 +90,8 @@ fn version_fault(end: u32, form: Option<&Form<'_>>) -> Option<Refusal>
 {
     match form {
         None => Some(Refusal::plain(end, NO_VERSION)),
-        Some(form) => match stated_version(form) {
-            Some(_) => None,
-            None => Some(Refusal::plain(place_of(form), NO_VERSION)),
-        },
+        Some(form) if stated_version(form).is_some() => None,
+        Some(form) => Some(Refusal::plain(place_of(form), NO_VERSION)),
     }
 }
 
@@ -114,38 +100,19 @@ fn head_fault(code: u16, head: &str, end: u32, form: Option<&Form<'_>>) -> Optio
 {
     match form {
         None => Some(Refusal::plain(end, code)),
-        Some(form) => {
-            if is_headed(head, form) {
-                None
-            } else {
-                Some(Refusal::plain(place_of(form), code))
-            }
-        }
-    }
-}
-
-fn fifth_fault(form: Option<&Form<'_>>) -> Option<Refusal>
-    ensures { result ≡ refusing (option_map (λ g. (place_of g, SURPLUS_FORM)) (option_map (λ f. form_view f.now) form.entry)) }
-{
-    match form {
-        None => None,
-        Some(form) => Some(Refusal::plain(place_of(form), SURPLUS_FORM)),
+        Some(form) if is_headed(head, form) => None,
+        Some(form) => Some(Refusal::plain(place_of(form), code)),
     }
 }
 
 fn rest_fault(fourth: Option<&Form<'_>>, fifth: Option<&Form<'_>>) -> Option<Refusal>
     ensures { result ≡ refusing (rest_fault (option_map (λ f. form_view f.now) fourth.entry) (option_map (λ f. form_view f.now) fifth.entry)) }
 {
-    match fourth {
-        None => None,
-        Some(form) => {
-            if is_headed("world", form) {
-                fifth_fault(fifth)
-            } else {
-                Some(Refusal::plain(place_of(form), SURPLUS_FORM))
-            }
-        }
+    let form = fourth?;
+    if !is_headed("world", form) {
+        return Some(Refusal::plain(place_of(form), SURPLUS_FORM));
     }
+    Some(Refusal::plain(place_of(fifth?), SURPLUS_FORM))
 }
 
 /// The top form with a number, counted from 0, or nothing where there are fewer. It takes no memory.
@@ -158,13 +125,8 @@ pub fn top_at<'f, 's>(top: &'f [Form<'s>], i: usize) -> Option<&'f Form<'s>>
 fn walk_fault(code: u16, version: Version, sort: Sort, form: Option<&Form<'_>>) -> Option<Refusal>
     ensures { result ≡ refusing (walk_fault code version sort (option_map (λ f. form_view f.now) form.entry)) }
 {
-    match form {
-        None => None,
-        Some(form) => match fault_in(version, sort, form) {
-            None => None,
-            Some(at) => Some(Refusal::plain(at, code)),
-        },
-    }
+    let at = fault_in(version, sort, form?)?;
+    Some(Refusal::plain(at, code))
 }
 
 // The tests of a file's shape in their order.
@@ -199,10 +161,6 @@ pub fn shape_fault(end: u32, top: &[Form<'_>]) -> Option<Refusal>
 pub fn world_shape_fault(top: &[Form<'_>]) -> Option<Refusal>
     ensures { result ≡ refusing (world_shape_fault (map form_view top.now)) }
 {
-    walk_fault(
-        WORLD_NOT_IN_GRAMMAR,
-        version_of(top),
-        Sort::World,
-        top_at(top, 3),
-    )
+    let (version, world) = (version_of(top), top_at(top, 3));
+    walk_fault(WORLD_NOT_IN_GRAMMAR, version, Sort::World, world)
 }

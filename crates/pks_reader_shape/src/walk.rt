@@ -83,12 +83,9 @@ fn head_of_section(version: Version, sort: Sort) -> &'static str
 pub fn head_of<'s>(parts: &[Form<'s>]) -> &'s str
     ensures { result.now ≡ head_of (forms_view parts.now) }
 {
-    match parts {
-        [first, ..] => match first {
-            Form::Name(token) => token.text,
-            Form::List { .. } => "",
-        },
-        [] => "",
+    match parts.first() {
+        Some(Form::Name(token)) => token.text,
+        _ => "",
     }
 }
 
@@ -96,45 +93,26 @@ pub fn head_of<'s>(parts: &[Form<'s>]) -> &'s str
 pub fn is_headed(head: &str, form: &Form<'_>) -> bool
     ensures { result ≡ is_headed head.now (form_view form.now) }
 {
-    match form {
-        Form::Name(_) => false,
-        Form::List { parts, .. } => head_of(parts) == head,
-    }
+    matches!(form, Form::List { parts, .. } if head_of(parts) == head)
 }
 
-// The sort for which the next part stands.
-fn sort_at(version: Version, parts: &[Part], form: &Form<'_>) -> Sort
-    ensures { result ≡ sort_at version parts.now (form_view form.now) }
-{
-    for part in parts {
-        match part {
-            Part::One(sort) | Part::Many(sort) => return *sort,
-            Part::Maybe(sort) => {
-                if is_headed(head_of_section(version, *sort), form) {
-                    return *sort;
-                }
-            }
-        }
-    }
-    Sort::Nothing
-}
-
-// The parts that may come behind it.
-fn parts_after<'p>(version: Version, parts: &'p [Part], form: &Form<'_>) -> &'p [Part]
-    ensures { result.now ≡ parts_after version parts.now (form_view form.now) }
+// The sort for which the next part stands, and the parts that may come behind it.
+fn next_part<'p>(version: Version, parts: &'p [Part], form: &Form<'_>) -> (Sort, &'p [Part])
+    ensures sort { result.0 ≡ sort_at version parts.now (form_view form.now) }
+    ensures rest { result.1.now ≡ parts_after version parts.now (form_view form.now) }
 {
     for (i, part) in parts.iter().enumerate() {
         match part {
-            Part::One(_) => return &parts[i + 1..],
-            Part::Many(_) => return &parts[i..],
+            Part::One(sort) => return (*sort, &parts[i + 1..]),
+            Part::Many(sort) => return (*sort, &parts[i..]),
             Part::Maybe(sort) => {
                 if is_headed(head_of_section(version, *sort), form) {
-                    return &parts[i + 1..];
+                    return (*sort, &parts[i + 1..]);
                 }
             }
         }
     }
-    &[]
+    (Sort::Nothing, &[])
 }
 
 fn is_wanting(parts: &[Part]) -> bool
@@ -165,7 +143,7 @@ fn lacks(version: Version, parts: &[Part], forms: &[Form<'_>]) -> bool
 {
     let mut rest = parts;
     for form in forms {
-        rest = parts_after(version, rest, form);
+        rest = next_part(version, rest, form).1;
     }
     is_wanting(rest)
 }
@@ -184,22 +162,13 @@ fn walk_form(version: Version, sort: Sort, form: &Form<'_>) -> Option<u32>
     ensures { result ≡ fault_in version sort (form_view form.now) }
 {
     match form {
-        Form::Name(token) => {
-            if is_allowed(sort, token.text) {
-                None
-            } else {
-                Some(token.span.start)
-            }
-        }
+        Form::Name(token) if is_allowed(sort, token.text) => None,
+        Form::Name(token) => Some(token.span.start),
         Form::List { parts, span } => match production(version, sort, head_of(parts)) {
-            None => Some(span.start),
-            Some(wanted) => {
-                if is_miscounted(version, wanted, parts) {
-                    Some(span.start)
-                } else {
-                    walk_parts(version, wanted, parts)
-                }
+            Some(wanted) if !is_miscounted(version, wanted, parts) => {
+                walk_parts(version, wanted, parts)
             }
+            _ => Some(span.start),
         },
     }
 }
@@ -212,11 +181,12 @@ fn walk_parts(version: Version, parts: &[Part], forms: &[Form<'_>]) -> Option<u3
 {
     let mut rest = parts;
     for form in forms {
-        let fault = walk_form(version, sort_at(version, rest, form), form);
+        let (sort, after) = next_part(version, rest, form);
+        let fault = walk_form(version, sort, form);
         if fault.is_some() {
             return fault;
         }
-        rest = parts_after(version, rest, form);
+        rest = after;
     }
     None
 }

@@ -1,7 +1,0 @@
-use Rattle.std.proofs.Common.{◌≡◌, drop}
-use Rattle.pks_text.specs.FormViews.{form_view}
-use Rattle.pks_reader_shape.specs.Walk.{parts_after}
-use Rattle.pks_reader_shape.proofs.walk.parts_after.Given as goal
-
-abbrev pub invariant-loop-i : goal.invariant-loop-i
-invariant-loop-i l = parts_after l.version (drop l.i l.parts) (form_view l.form) ≡ parts_after l.version l.parts (form_view l.form)
