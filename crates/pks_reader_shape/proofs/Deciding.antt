@@ -1,6 +1,6 @@
 -- Where a form is of the sort by the grammar, the walk finds no fault.
 use Rattle.std.proofs.Common.{◌≡◌, ◌↔◌, ℕ, Bool, true, false, ◌||◌, ◌&&◌, cond, List, [], ◌∷◌, length, nat_lt, Option, Some, None, IsNone, refl, sym, ap, ◌∙◌, subst, arith, bytes_eq}
-use Rattle.std.proofs.lemmas.Bool.{false≢true, true≢false, and_parts}
+use Rattle.std.proofs.lemmas.Bool.{false≢true, true≢false, and_parts, false_from_ne_true}
 use Rattle.std.proofs.lemmas.Bool.Decides.{nat_tests}
 use Rattle.std.proofs.lemmas.Slice.Eq.{bytes_eq-Decides}
 use Rattle.pks_text.specs.Forms.{Form, Forms, no_forms, form}
@@ -11,9 +11,9 @@ use Rattle.pks_reader_shape.specs.declared.grammar.Part.TheVariants.{One, Maybe,
 use Rattle.pks_reader_shape.specs.Grammar.{lists, with_head, is_among, production, head_of_section}
 use Rattle.pks_reader_shape.specs.Walk.{head_of, is_headed, sort_at, parts_after, lacks, is_fixed, count, is_miscounted, first_of, fault_in, fault_among}
 use Rattle.pks_reader_shape.specs.Language.{IsOf, word, listing, Matches, nothing, one, left_out, there, no_more, again}
-use Rattle.pks_reader_shape.proofs.Heads.{some_is, parts_none, has_parts}
-use Rattle.pks_reader_shape.proofs.Tables.{is_missing, cannot_begin, has_one_head, is_decided, are_decided, is_other_decided, no_words, fixed_decided, other_decided}
-use Rattle.pks_reader_shape.proofs.Walking.{some_none, list_fault, word_walk, list_walk, parts_walk, walked_form}
+use Rattle.pks_reader_shape.proofs.Heads.{some_is, some_none, has_parts}
+use Rattle.pks_reader_shape.proofs.Tables.{is_missing, cannot_begin, has_one_head, is_decided, are_decided, is_other_decided, no_words, lists_sound}
+use Rattle.pks_reader_shape.proofs.Walking.{list_fault, word_walk, list_walk, parts_walk, walked_form}
 
 -- ---- productions
 
@@ -34,8 +34,8 @@ unbarred_decided v false other all = all
 decided : (v : Version) (s : Sort) (head : List ℕ) (ps : List Part) → production v s head ≡ Some ps → is_decided v ps ≡ true
 unfolding production
 decided v s head ps made =
-    found_decided v head (lists v s).fixed (cond (is_among head (lists v s).barred) None (lists v s).other) ps (fixed_decided s v)
-    (unbarred_decided v (is_among head (lists v s).barred) (lists v s).other (other_decided s v)) made
+    found_decided v head (lists v s).fixed (cond (is_among head (lists v s).barred) None (lists v s).other) ps (lists_sound s v).fixed
+    (unbarred_decided v (is_among head (lists v s).barred) (lists v s).other (lists_sound s v).other) made
 
 -- ---- a section has its head
 
@@ -48,8 +48,8 @@ one_head head (p ∷ []) (Some qs) barred ps has e = absurd (false≢true has)
 one_head head (p ∷ []) None barred ps has e = by_head (bytes_eq head p.0) e
   where
     none_either : (b : Bool) → cond b None None ≡ Some ps → ⊥
-    none_either true e = parts_none (sym e)
-    none_either false e = parts_none (sym e)
+    none_either true e = some_none (sym e)
+    none_either false e = some_none (sym e)
 
     by_head : (b : Bool) → cond b (Some p.1) (cond (is_among head barred) None None) ≡ Some ps → b ≡ true
     by_head true e = refl
@@ -71,11 +71,8 @@ missing_is (Some ps) e = absurd (false≢true e)
 
 not_headed : (v : Version) (h : List ℕ) (s : Sort) (f : Form) → is_missing (production v s h) ≡ true → IsOf v s f → is_headed h f ≡ false
 not_headed v h s _ missing (word _ text at allowed) = refl
-not_headed v h s _ missing (listing _ parts at end ps may matches) = by_head (bytes_eq (head_of parts) h) (λ same. (bytes_eq-Decides (head_of parts) h).0 same)
-  where
-    by_head : (b : Bool) → (b ≡ true → head_of parts ≡ h) → b ≡ false
-    by_head true same = absurd (parts_none (sym (has_parts v s parts ps may matches) ∙ ap (λ (head : List ℕ). production v s head) (same refl) ∙ missing_is (production v s h) missing))
-    by_head false same = refl
+not_headed v h s _ missing (listing _ parts at end ps may matches) = false_from_ne_true (bytes_eq (head_of parts) h) (λ same.
+    some_none (sym (has_parts v s parts ps may matches) ∙ ap (λ (head : List ℕ). production v s head) ((bytes_eq-Decides (head_of parts) h).0 same) ∙ missing_is (production v s h) missing))
 
 cannot_later : (v : Version) (h : List ℕ) (s : Sort) (ps : List Part) → (is_missing (production v s h) && cannot_begin v h ps) ≡ true → (is_missing (production v s h) ≡ true) × (cannot_begin v h ps ≡ true)
 cannot_later v h s ps cannot = and_parts (is_missing (production v s h)) (cannot_begin v h ps) cannot
@@ -92,10 +89,7 @@ not_first v h _ f fs cannot (again s ps _ _ is matches) = not_headed v h s f (ca
 counted_parts : (v : Version) (ps : List Part) (fs : Forms) → is_fixed ps ≡ true → Matches v ps fs → count fs ≡ length ps
 counted_parts v _ _ fixed nothing = refl
 counted_parts v _ _ fixed (one s ps f fs is matches) = let later : count fs ≡ length ps = counted_parts v ps fs fixed matches in omega (arith, later)
-counted_parts v _ _ fixed (left_out s ps fs matches) = absurd (false≢true fixed)
-counted_parts v _ _ fixed (there s ps f fs is matches) = absurd (false≢true fixed)
-counted_parts v _ _ fixed (no_more s ps fs matches) = absurd (false≢true fixed)
-counted_parts v _ _ fixed (again s ps f fs is matches) = absurd (false≢true fixed)
+counted_parts v _ _ fixed _ = absurd (false≢true fixed)
 
 not_too_many : (v : Version) (ps : List Part) (fs : Forms) → Matches v ps fs → (is_fixed ps && nat_lt (length ps) (count fs)) ≡ false
 not_too_many v ps fs matches = by_test (is_fixed ps) (λ fixed. counted_parts v ps fs fixed matches)
@@ -120,40 +114,29 @@ no_faults_at_end : (v : Version) (ps : List Part) → fault_among v ps no_forms 
 unfolding fault_among
 no_faults_at_end v ps = refl
 
--- the parts stand at one place or another, by a test
-passed : (v : Version) (s : Sort) (ps : List Part) (f : Form) (fs : Forms) → is_headed (head_of_section v s) f ≡ false → AreFaultless v ps (form f fs) → AreFaultless v (Maybe s ∷ ps) (form f fs)
-passed v s ps f fs apart faultless =
-    let at : sort_at v (Maybe s ∷ ps) f ≡ sort_at v ps f = ap (λ (b : Bool). cond b s (sort_at v ps f)) apart in
-    let after : parts_after v (Maybe s ∷ ps) f ≡ parts_after v ps f = ap (λ (b : Bool). cond b ps (parts_after v ps f)) apart in (
-      ap (λ (qs : List Part). lacks v qs fs) after ∙ faultless.0,
-      parts_walk v (Maybe s ∷ ps) f fs
-          ∙ ap (λ (t : Sort). first_of (fault_in v t f) (fault_among v (parts_after v (Maybe s ∷ ps) f) fs)) at
-          ∙ ap (λ (qs : List Part). first_of (fault_in v (sort_at v ps f) f) (fault_among v qs fs)) after
-          ∙ sym (parts_walk v ps f fs)
-          ∙ faultless.1,
-    )
-
-stood : (v : Version) (s : Sort) (ps : List Part) (f : Form) (fs : Forms) → is_headed (head_of_section v s) f ≡ true → fault_in v s f ≡ None → AreFaultless v ps fs → AreFaultless v (Maybe s ∷ ps) (form f fs)
-stood v s ps f fs headed whole faultless =
-    let at : sort_at v (Maybe s ∷ ps) f ≡ s = ap (λ (b : Bool). cond b s (sort_at v ps f)) headed in
-    let after : parts_after v (Maybe s ∷ ps) f ≡ ps = ap (λ (b : Bool). cond b ps (parts_after v ps f)) headed in (
-      ap (λ (qs : List Part). lacks v qs fs) after ∙ faultless.0,
-      parts_walk v (Maybe s ∷ ps) f fs
-          ∙ ap (λ (t : Sort). first_of (fault_in v t f) (fault_among v (parts_after v (Maybe s ∷ ps) f) fs)) at
-          ∙ ap (λ (o : Option ℕ). first_of o (fault_among v (parts_after v (Maybe s ∷ ps) f) fs)) whole
-          ∙ ap (λ (qs : List Part). fault_among v qs fs) after
-          ∙ faultless.1,
-    )
-
-next : (v : Version) (s : Sort) (f : Form) (qs ps : List Part) (fs : Forms) → fault_in v s f ≡ None → AreFaultless v qs fs → sort_at v ps f ≡ s → parts_after v ps f ≡ qs → AreFaultless v ps (form f fs)
-next v s f qs ps fs whole faultless at after = (
+-- by the sort of the first form and the parts behind it
+by_next : (v : Version) (s : Sort) (f : Form) (qs ps : List Part) (fs : Forms) → sort_at v ps f ≡ s → parts_after v ps f ≡ qs
+    → (lacks v qs fs ≡ false) × (first_of (fault_in v s f) (fault_among v qs fs) ≡ None) → AreFaultless v ps (form f fs)
+by_next v s f qs ps fs at after faultless = (
   ap (λ (ps : List Part). lacks v ps fs) after ∙ faultless.0,
   parts_walk v ps f fs
       ∙ ap (λ (t : Sort). first_of (fault_in v t f) (fault_among v (parts_after v ps f) fs)) at
-      ∙ ap (λ (o : Option ℕ). first_of o (fault_among v (parts_after v ps f) fs)) whole
-      ∙ ap (λ (ps : List Part). fault_among v ps fs) after
+      ∙ ap (λ (ps : List Part). first_of (fault_in v s f) (fault_among v ps fs)) after
       ∙ faultless.1,
 )
+
+next : (v : Version) (s : Sort) (f : Form) (qs ps : List Part) (fs : Forms) → fault_in v s f ≡ None → AreFaultless v qs fs → sort_at v ps f ≡ s → parts_after v ps f ≡ qs → AreFaultless v ps (form f fs)
+next v s f qs ps fs whole faultless at after = by_next v s f qs ps fs at after (faultless.0, ap (λ (o : Option ℕ). first_of o (fault_among v qs fs)) whole ∙ faultless.1)
+
+-- a part that may be missing is passed, or the form is there
+passed : (v : Version) (s : Sort) (ps : List Part) (f : Form) (fs : Forms) → is_headed (head_of_section v s) f ≡ false → AreFaultless v ps (form f fs) → AreFaultless v (Maybe s ∷ ps) (form f fs)
+passed v s ps f fs apart faultless =
+    by_next v (sort_at v ps f) f (parts_after v ps f) (Maybe s ∷ ps) fs (ap (λ (b : Bool). cond b s (sort_at v ps f)) apart)
+    (ap (λ (b : Bool). cond b ps (parts_after v ps f)) apart) (faultless.0, sym (parts_walk v ps f fs) ∙ faultless.1)
+
+stood : (v : Version) (s : Sort) (ps : List Part) (f : Form) (fs : Forms) → is_headed (head_of_section v s) f ≡ true → fault_in v s f ≡ None → AreFaultless v ps fs → AreFaultless v (Maybe s ∷ ps) (form f fs)
+stood v s ps f fs headed whole faultless =
+    next v s f ps (Maybe s ∷ ps) fs whole faultless (ap (λ (b : Bool). cond b s (sort_at v ps f)) headed) (ap (λ (b : Bool). cond b ps (parts_after v ps f)) headed)
 
 -- a part that may be missing among decided parts
 record MayBeMissing (v : Version) (s : Sort) (ps : List Part) : Type 0 where
@@ -197,6 +180,6 @@ pub of_the_sort : (v : Version) (s : Sort) (f : Form) → (fault_in v s f ≡ No
 of_the_sort v s f = (walked_form v s f, faultless_form v s f)
 
 -- nothing is there
-pub none_same : (o : Option ℕ) → (IsNone o → o ≡ None) × (o ≡ None → IsNone o)
+pub none_same : {X : Type 0} (o : Option X) → (IsNone o → o ≡ None) × (o ≡ None → IsNone o)
 none_same None = (λ none. refl, λ none. refl)
-none_same (Some at) = (λ none. absurd (true≢false none), λ none. absurd (some_none none))
+none_same (Some x) = (λ none. absurd (true≢false none), λ none. absurd (some_none none))

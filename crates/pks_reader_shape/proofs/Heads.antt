@@ -1,6 +1,7 @@
 -- A list has the parts that its head says, exactly where the sort's lists may have them.
 use Rattle.std.proofs.Common.{◌≡◌, ◌⊎◌, inl, inr, ℕ, Bool, true, false, not, ◌||◌, cond, map, List, [], ◌∷◌, Option, Some, None, refl, sym, ap, ◌∙◌, subst, arith, bytes_eq}
-use Rattle.std.proofs.lemmas.Bool.{false≢true, true≢false, and_parts}
+use Rattle.std.proofs.lemmas.Bool.{false≢true, true≢false, and_parts, or_parts, false_from_ne_true}
+use Rattle.std.proofs.lemmas.Option.{none-some}
 use Rattle.std.proofs.lemmas.Slice.Eq.{bytes_eq-Decides}
 use Rattle.pks_terms.specs.Sets.{IsIn}
 use Rattle.pks_text.specs.Forms.{Forms}
@@ -12,15 +13,15 @@ use Rattle.pks_terms.specs.ValidProblems.{is_name}
 use Rattle.pks_reader_shape.specs.Grammar.{is_allowed, lists, with_head, is_among, production}
 use Rattle.pks_reader_shape.specs.Walk.{head_of}
 use Rattle.pks_reader_shape.specs.Language.{MayHave, word, listing, Matches, nothing, one, left_out, there, no_more, again}
-use Rattle.pks_reader_shape.proofs.Tables.{are_distinct, begins_with_name, are_no_names, is_apart, heads_distinct, lists_apart}
+use Rattle.pks_reader_shape.proofs.Tables.{are_distinct, begins_with_name, are_no_names, is_apart, lists_sound}
 
 -- ---- from the head to the lists
 
 pub some_is : {x y : List Part} → Some x ≡ Some y → x ≡ y
 some_is e = cc
 
-pub parts_none : {ps : List Part} → Some ps ≡ None → ⊥
-parts_none e = grind arith
+pub some_none : {X : Type 0} {x : X} → Some x ≡ None → ⊥
+some_none {x = x} e = none-some x (sym e)
 
 with_head_is : (head : List ℕ) (fixed : List (List ℕ × List Part)) (otherwise : Option (List Part)) (ps : List Part) → with_head head fixed otherwise ≡ Some ps → IsIn (head, ps) fixed ⊎ (otherwise ≡ Some ps)
 with_head_is head [] otherwise ps e = inr e
@@ -32,7 +33,7 @@ with_head_is head (p ∷ fixed) otherwise ps e = by_head (bytes_eq head p.0) (λ
     by_head false same e later = elim (later e) [ inl found ↦ inl (inr found) | inr rest ↦ inr rest ]
 
 unbarred : (b : Bool) (other : Option (List Part)) (ps : List Part) → cond b None other ≡ Some ps → (other ≡ Some ps) × (b ≡ false)
-unbarred true other ps e = absurd (parts_none (sym e))
+unbarred true other ps e = absurd (some_none (sym e))
 unbarred false other ps e = (e, refl)
 
 pub may_have : (v : Version) (s : Sort) (head : List ℕ) (ps : List Part) → production v s head ≡ Some ps → MayHave (lists v s) head ps
@@ -45,29 +46,17 @@ may_have v s head ps made =
 
 -- ---- from the lists to the head
 
-or_right : (a b : Bool) → (a || b) ≡ false → b ≡ false
-or_right true b e = absurd (true≢false e)
-or_right false b e = e
-
 among : (head : List ℕ) (fixed : List (List ℕ × List Part)) (ps : List Part) → IsIn (head, ps) fixed → (h : List ℕ) → is_among h (map (λ q. q.0) fixed) ≡ false → bytes_eq h head ≡ false
 among head [] ps is h e = absurd is
-among head (p ∷ fixed) ps (inl same) h e = ap (λ (k : List ℕ). bytes_eq h k) (sym (λ i. (same i).0)) ∙ or_left (bytes_eq h p.0) (is_among h (map (λ q. q.0) fixed)) e
-  where
-    or_left : (a b : Bool) → (a || b) ≡ false → a ≡ false
-    or_left true b e = e
-    or_left false b e = refl
-among head (p ∷ fixed) ps (inr is) h e = among head fixed ps is h (or_right (bytes_eq h p.0) (is_among h (map (λ q. q.0) fixed)) e)
+among head (p ∷ fixed) ps (inl same) h e = ap (λ (k : List ℕ). bytes_eq h k) (sym (λ i. (same i).0)) ∙ (or_parts (bytes_eq h p.0) (is_among h (map (λ q. q.0) fixed)) e).0
+among head (p ∷ fixed) ps (inr is) h e = among head fixed ps is h (or_parts (bytes_eq h p.0) (is_among h (map (λ q. q.0) fixed)) e).1
 
 not_is : (b : Bool) → not b ≡ true → b ≡ false
 not_is true e = absurd (false≢true e)
 not_is false e = refl
 
 turned : (a b : List ℕ) → bytes_eq a b ≡ false → bytes_eq b a ≡ false
-turned a b e = by_test (bytes_eq b a) (λ same. (bytes_eq-Decides b a).0 same)
-  where
-    by_test : (c : Bool) → (c ≡ true → b ≡ a) → c ≡ false
-    by_test true same = absurd (false≢true (sym e ∙ (bytes_eq-Decides a b).1 (sym (same refl))))
-    by_test false same = refl
+turned a b e = false_from_ne_true (bytes_eq b a) (λ same. false≢true (sym e ∙ (bytes_eq-Decides a b).1 (sym ((bytes_eq-Decides b a).0 same))))
 
 found_first : (head : List ℕ) (fixed : List (List ℕ × List Part)) (otherwise : Option (List Part)) (ps : List Part) → are_distinct fixed ≡ true → IsIn (head, ps) fixed → with_head head fixed otherwise ≡ Some ps
 found_first head [] otherwise ps distinct is = absurd is
@@ -100,23 +89,19 @@ passed_all head barred (p ∷ fixed) otherwise none named free =
 no_list_is_name : (v : Version) (head : List ℕ) (ps : List Part) → MayHave (lists v Name) head ps → ⊥
 unfolding lists
 no_list_is_name v head ps (inl found) = absurd found
-no_list_is_name v head ps (inr other) = parts_none (sym other.0)
+no_list_is_name v head ps (inr other) = some_none (sym other.0)
 
 first_is_name : (v : Version) (ps : List Part) (parts : Forms) → begins_with_name ps ≡ true → Matches v ps parts → is_name (head_of parts) ≡ true
 unfolding is_allowed
 first_is_name v _ _ begins nothing = absurd (false≢true begins)
 first_is_name v _ _ begins (one Name ps _ fs (word _ text at allowed) matches) = allowed
 first_is_name v _ _ begins (one Name ps _ fs (listing _ parts at end qs may inner) matches) = absurd (no_list_is_name v (head_of parts) qs may)
-first_is_name v _ _ begins (one _ ps f fs is matches) = absurd (false≢true begins)
-first_is_name v _ _ begins (left_out s ps fs matches) = absurd (false≢true begins)
-first_is_name v _ _ begins (there s ps f fs is matches) = absurd (false≢true begins)
-first_is_name v _ _ begins (no_more s ps fs matches) = absurd (false≢true begins)
-first_is_name v _ _ begins (again s ps f fs is matches) = absurd (false≢true begins)
+first_is_name v _ _ begins _ = absurd (false≢true begins)
 
 other_first : (v : Version) (parts : Forms) (ps : List Part) (fixed : List (List ℕ × List Part)) (other : Option (List Part)) (barred : List (List ℕ))
     → is_apart (record { fixed = fixed; other = other; barred = barred }) ≡ true → other ≡ Some ps → is_among (head_of parts) barred ≡ false → Matches v ps parts
     → with_head (head_of parts) fixed (cond (is_among (head_of parts) barred) None other) ≡ Some ps
-other_first v parts ps fixed None barred apart e free matches = absurd (parts_none (sym e))
+other_first v parts ps fixed None barred apart e free matches = absurd (some_none (sym e))
 other_first v parts ps [] (Some qs) barred apart e free matches = ap (λ (b : Bool). cond b None (Some qs)) free ∙ e
 other_first v parts ps (p ∷ fixed) (Some qs) barred apart e free matches =
     let both = and_parts (begins_with_name qs) (are_no_names barred (p ∷ fixed)) apart in
@@ -125,5 +110,5 @@ other_first v parts ps (p ∷ fixed) (Some qs) barred apart e free matches =
 
 pub has_parts : (v : Version) (s : Sort) (parts : Forms) (ps : List Part) → MayHave (lists v s) (head_of parts) ps → Matches v ps parts → production v s (head_of parts) ≡ Some ps
 unfolding production
-has_parts v s parts ps (inl found) matches = found_first (head_of parts) (lists v s).fixed (cond (is_among (head_of parts) (lists v s).barred) None (lists v s).other) ps (heads_distinct s v) found
-has_parts v s parts ps (inr other) matches = other_first v parts ps (lists v s).fixed (lists v s).other (lists v s).barred (lists_apart s v) other.0 other.1 matches
+has_parts v s parts ps (inl found) matches = found_first (head_of parts) (lists v s).fixed (cond (is_among (head_of parts) (lists v s).barred) None (lists v s).other) ps (lists_sound s v).distinct found
+has_parts v s parts ps (inr other) matches = other_first v parts ps (lists v s).fixed (lists v s).other (lists v s).barred (lists_sound s v).apart other.0 other.1 matches

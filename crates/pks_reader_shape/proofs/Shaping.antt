@@ -10,25 +10,18 @@ use Rattle.pks_reader_shape.specs.Grammar.{is_allowed, lists, head_of_section}
 use Rattle.pks_reader_shape.specs.Walk.{head_of, is_headed, fault_in}
 use Rattle.pks_reader_shape.specs.Language.{IsOf, word, listing, MayBeWorld, IsFile}
 use Rattle.pks_reader_shape.specs.Files.{Fault, or_else, stated, is_version, version_of, top_fault, rest_fault, walk_fault, shape_fault}
-use Rattle.pks_reader_shape.proofs.Heads.{has_parts}
-use Rattle.pks_reader_shape.proofs.Walking.{walked_form}
+use Rattle.pks_reader_shape.proofs.Heads.{some_none}
+use Rattle.pks_reader_shape.proofs.Walking.{passes, walked_form}
 use Rattle.pks_reader_shape.proofs.Deciding.{section_headed, faultless_form}
 
-fault_none : {fault : Fault} → Some fault ≡ None → ⊥
-fault_none e = grind arith
+none_both : {a b : Option Fault} → or_else a b ≡ None → (a ≡ None) × (b ≡ None)
+none_both {a = None} e = (refl, e)
+none_both {a = Some fault} e = absurd (some_none e)
 
-none_both : (a b : Option Fault) → or_else a b ≡ None → (a ≡ None) × (b ≡ None)
-none_both None b e = (refl, e)
-none_both (Some fault) b e = absurd (fault_none e)
-
-both_none : (a b : Option Fault) → a ≡ None → b ≡ None → or_else a b ≡ None
-both_none a b none later = ap (λ (o : Option Fault). or_else o b) none ∙ later
+both_none : {a b : Option Fault} → a ≡ None → b ≡ None → or_else a b ≡ None
+both_none {b = b} none later = ap (λ (o : Option Fault). or_else o b) none ∙ later
 
 -- ---- one test
-
-passes : (b : Bool) (fault : Fault) → cond b None (Some fault) ≡ None → b ≡ true
-passes true fault e = refl
-passes false fault e = absurd (fault_none e)
 
 -- a place with a code
 abbrev with_code : ℕ → ℕ → Fault
@@ -36,7 +29,7 @@ with_code code at = (at, code)
 
 unmapped : (code : ℕ) (o : Option ℕ) → option_map (with_code code) o ≡ None → o ≡ None
 unmapped code None e = refl
-unmapped code (Some at) e = absurd (fault_none e)
+unmapped code (Some at) e = absurd (some_none e)
 
 is_stated : (f : Form) → is_version f ≡ true → (v : Version) × (stated f ≡ Some v)
 is_stated f e = by_version (stated f) e
@@ -61,16 +54,12 @@ problem_headed v f is = section_headed v Problem f refl is
 
 rest_is : (rest : List Form) → rest_fault (slice_get rest 0) (slice_get rest 1) ≡ None → MayBeWorld rest
 rest_is [] e = tt
-rest_is (w ∷ []) e = by_head (is_headed (codes "world") w) e
-  where
-    by_head : (b : Bool) → cond b None (Some (with_code 123 (place_of w))) ≡ None → b ≡ true
-    by_head true e = refl
-    by_head false e = absurd (fault_none e)
+rest_is (w ∷ []) e = passes (is_headed (codes "world") w) (with_code 123 (place_of w)) e
 rest_is (w ∷ f ∷ fs) e = by_head (is_headed (codes "world") w) e
   where
     by_head : (b : Bool) → cond b (Some (with_code 123 (place_of f))) (Some (with_code 123 (place_of w))) ≡ None → ⊥
-    by_head true e = fault_none e
-    by_head false e = fault_none e
+    by_head true e = some_none e
+    by_head false e = some_none e
 
 is_rest : (rest : List Form) → MayBeWorld rest → rest_fault (slice_get rest 0) (slice_get rest 1) ≡ None
 is_rest [] may = refl
@@ -79,52 +68,32 @@ is_rest (w ∷ f ∷ fs) may = absurd may
 
 -- ---- all tests
 
-abbrev versions : ℕ → List Form → Option Fault
-versions end fs = top_fault 120 is_version end (slice_get fs 0)
-
-abbrev domains : ℕ → List Form → Option Fault
-domains end fs = top_fault 121 (is_headed (codes "domain")) end (slice_get fs 1)
-
-abbrev problems : ℕ → List Form → Option Fault
-problems end fs = top_fault 122 (is_headed (codes "problem")) end (slice_get fs 2)
-
-abbrev rests : List Form → Option Fault
-rests fs = rest_fault (slice_get fs 3) (slice_get fs 4)
-
-abbrev walks : Sort → ℕ → List Form → Option Fault
-walks s i fs = walk_fault 124 (version_of fs) s (slice_get fs i)
-
 record PassesAll (end : ℕ) (fs : List Form) : Type 0 where
-  version : versions end fs ≡ None
-  domain : domains end fs ≡ None
-  problem : problems end fs ≡ None
-  rest : rests fs ≡ None
-  domain_walk : walks Domain 1 fs ≡ None
-  problem_walk : walks Problem 2 fs ≡ None
+  version : top_fault 120 is_version end (slice_get fs 0) ≡ None
+  domain : top_fault 121 (is_headed (codes "domain")) end (slice_get fs 1) ≡ None
+  problem : top_fault 122 (is_headed (codes "problem")) end (slice_get fs 2) ≡ None
+  rest : rest_fault (slice_get fs 3) (slice_get fs 4) ≡ None
+  domain_walk : walk_fault 124 (version_of fs) Domain (slice_get fs 1) ≡ None
+  problem_walk : walk_fault 124 (version_of fs) Problem (slice_get fs 2) ≡ None
 
 passes_all : (end : ℕ) (fs : List Form) → shape_fault end fs ≡ None → PassesAll end fs
 unfolding shape_fault
 passes_all end fs e =
-    let one = none_both (versions end fs) (or_else (domains end fs) (or_else (problems end fs) (or_else (rests fs) (or_else (walks Domain 1 fs) (walks Problem 2 fs))))) e in
-    let two = none_both (domains end fs) (or_else (problems end fs) (or_else (rests fs) (or_else (walks Domain 1 fs) (walks Problem 2 fs)))) one.1 in
-    let three = none_both (problems end fs) (or_else (rests fs) (or_else (walks Domain 1 fs) (walks Problem 2 fs))) two.1 in
-    let four = none_both (rests fs) (or_else (walks Domain 1 fs) (walks Problem 2 fs)) three.1 in
-    let five = none_both (walks Domain 1 fs) (walks Problem 2 fs) four.1 in
+    let one = none_both e in
+    let two = none_both one.1 in
+    let three = none_both two.1 in
+    let four = none_both three.1 in
+    let five = none_both four.1 in
     record { version = one.0; domain = two.0; problem = three.0; rest = four.0; domain_walk = five.0; problem_walk = five.1 }
 
 all_passed : (end : ℕ) (fs : List Form) → PassesAll end fs → shape_fault end fs ≡ None
 unfolding shape_fault
-all_passed end fs p =
-    both_none (versions end fs) (or_else (domains end fs) (or_else (problems end fs) (or_else (rests fs) (or_else (walks Domain 1 fs) (walks Problem 2 fs))))) p.version
-    (both_none (domains end fs) (or_else (problems end fs) (or_else (rests fs) (or_else (walks Domain 1 fs) (walks Problem 2 fs)))) p.domain
-    (both_none (problems end fs) (or_else (rests fs) (or_else (walks Domain 1 fs) (walks Problem 2 fs))) p.problem
-    (both_none (rests fs) (or_else (walks Domain 1 fs) (walks Problem 2 fs)) p.rest
-    (both_none (walks Domain 1 fs) (walks Problem 2 fs) p.domain_walk p.problem_walk))))
+all_passed end fs p = both_none p.version (both_none p.domain (both_none p.problem (both_none p.rest (both_none p.domain_walk p.problem_walk))))
 
 pub file_of : (end : ℕ) (fs : List Form) → shape_fault end fs ≡ None → IsFile fs
-file_of end [] e = fault_none (passes_all end [] e).version
-file_of end (f ∷ []) e = fault_none (passes_all end (f ∷ []) e).domain
-file_of end (f ∷ d ∷ []) e = fault_none (passes_all end (f ∷ d ∷ []) e).problem
+file_of end [] e = some_none (passes_all end [] e).version
+file_of end (f ∷ []) e = some_none (passes_all end (f ∷ []) e).domain
+file_of end (f ∷ d ∷ []) e = some_none (passes_all end (f ∷ d ∷ []) e).problem
 file_of end (f ∷ d ∷ p ∷ rest) e =
     let all = passes_all end (f ∷ d ∷ p ∷ rest) e in
     let states = is_stated f (passes (is_version f) (with_code 120 (place_of f)) all.version) in
@@ -152,12 +121,3 @@ of_file end (f ∷ d ∷ p ∷ rest) (v, states, domain, problem, may) =
       domain_walk = ap (λ (o : Option ℕ). option_map (with_code 124) o) (faultless_form own Domain d (subst (λ (v : Version). IsOf v Domain d) same domain));
       problem_walk = ap (λ (o : Option ℕ). option_map (with_code 124) o) (faultless_form own Problem p (subst (λ (v : Version). IsOf v Problem p) same problem));
     })
-
--- ---- a result in memory
-
-pub none_is : {X Y : Type 0} (view : Y → X) (o : Option X) (p : Option Y) → o ≡ option_map view p → (IsNone o → p ≡ None) × (p ≡ None → IsNone o)
-none_is view o None e = (λ none. refl, λ none. subst IsNone (sym e) refl)
-none_is {Y = Y} view o (Some y) e = (λ none. absurd (true≢false (subst IsNone e none)), λ none. absurd (not_none none))
-  where
-    not_none : {y : Y} → Some y ≡ None → ⊥
-    not_none e = grind arith

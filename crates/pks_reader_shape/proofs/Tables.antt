@@ -58,22 +58,6 @@ no_words Term v one text = absurd (false≢true one)
 no_words Slot v one text = absurd (false≢true one)
 no_words _ v one text = refl
 
-pub fixed_decided : (s : Sort) (v : Version) → are_decided v (lists v s).fixed ≡ true
-unfolding lists production head_of_section
-fixed_decided Kind First = refl
-fixed_decided Kind Second = refl
-fixed_decided Action First = refl
-fixed_decided Action Second = refl
-fixed_decided Aim First = refl
-fixed_decided Aim Second = refl
-fixed_decided _ v = refl
-
-pub other_decided : (s : Sort) (v : Version) → is_other_decided v (lists v s).other ≡ true
-unfolding lists
-other_decided Kind First = refl
-other_decided Kind Second = refl
-other_decided _ v = refl
-
 -- ---- which of its lists a form is, one sees by its head
 
 -- no two lists have one head
@@ -97,16 +81,19 @@ is_empty (p ∷ ps) = false
 abbrev pub is_apart : Lists → Bool
 is_apart ls = elim ls.other [ None ↦ true | Some ps ↦ is_empty ls.fixed || (begins_with_name ps && are_no_names ls.barred ls.fixed) ]
 
-pub heads_distinct : (s : Sort) (v : Version) → are_distinct (lists v s).fixed ≡ true
-unfolding lists
-heads_distinct Kind First = refl
-heads_distinct Kind Second = refl
-heads_distinct Aim First = refl
-heads_distinct Aim Second = refl
-heads_distinct _ v = refl
+-- what the walk rests on
+pub record IsSound (v : Version) (ls : Lists) : Type 0 where
+  pub fixed : are_decided v ls.fixed ≡ true
+  pub other : is_other_decided v ls.other ≡ true
+  pub distinct : are_distinct ls.fixed ≡ true
+  pub apart : is_apart ls ≡ true
 
-pub lists_apart : (s : Sort) (v : Version) → is_apart (lists v s) ≡ true
-unfolding lists
-lists_apart Kind First = refl
-lists_apart Kind Second = refl
-lists_apart _ v = refl
+pub lists_sound : (s : Sort) (v : Version) → IsSound v (lists v s)
+unfolding lists production head_of_section
+lists_sound Kind First = record { fixed = refl; other = refl; distinct = refl; apart = refl }
+lists_sound Kind Second = record { fixed = refl; other = refl; distinct = refl; apart = refl }
+lists_sound Action First = record { fixed = refl; other = refl; distinct = refl; apart = refl }
+lists_sound Action Second = record { fixed = refl; other = refl; distinct = refl; apart = refl }
+lists_sound Aim First = record { fixed = refl; other = refl; distinct = refl; apart = refl }
+lists_sound Aim Second = record { fixed = refl; other = refl; distinct = refl; apart = refl }
+lists_sound _ v = record { fixed = refl; other = refl; distinct = refl; apart = refl }

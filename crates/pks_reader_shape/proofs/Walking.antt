@@ -10,15 +10,11 @@ use Rattle.pks_reader_shape.specs.declared.grammar.Part.TheVariants.{One, Maybe,
 use Rattle.pks_reader_shape.specs.Grammar.{is_allowed, lists, production, head_of_section}
 use Rattle.pks_reader_shape.specs.Walk.{head_of, is_headed, sort_at, parts_after, is_wanting, lacks, is_fixed, count, is_miscounted, first_of, fault_in, fault_among}
 use Rattle.pks_reader_shape.specs.Language.{IsOf, word, listing, Matches, nothing, one, left_out, there, no_more, again}
-use Rattle.pks_reader_shape.proofs.Heads.{may_have, has_parts}
-
-pub some_none : {at : ℕ} → Some at ≡ None → ⊥
-some_none e = grind arith
+use Rattle.pks_reader_shape.proofs.Heads.{some_none, may_have, has_parts}
 
 -- what the walk gives at a list, by its production
 abbrev pub list_fault : Version → Option (List Part) → Forms → ℕ → Option ℕ
-list_fault v None parts at = Some at
-list_fault v (Some ps) parts at = cond (is_miscounted v ps parts) (Some at) (fault_among v ps parts)
+list_fault v o parts at = elim o [ None ↦ Some at | Some ps ↦ cond (is_miscounted v ps parts) (Some at) (fault_among v ps parts) ]
 
 pub word_walk : (v : Version) (s : Sort) (text : List ℕ) (at : ℕ) → fault_in v s (Word text at) ≡ cond (is_allowed s text) None (Some at)
 unfolding fault_in
@@ -26,30 +22,16 @@ word_walk v s text at = refl
 
 pub list_walk : (v : Version) (s : Sort) (parts : Forms) (at end : ℕ) → fault_in v s (Listing parts at end) ≡ list_fault v (production v s (head_of parts)) parts at
 unfolding fault_in
-list_walk v s parts at end = by_production (production v s (head_of parts))
-  where
-    by_production : (o : Option (List Part)) → elim o [ None ↦ Some at | Some ps ↦ cond (is_miscounted v ps parts) (Some at) (fault_among v ps parts) ] ≡ list_fault v o parts at
-    by_production None = refl
-    by_production (Some ps) = refl
+list_walk v s parts at end = refl
 
 pub parts_walk : (v : Version) (ps : List Part) (f : Form) (fs : Forms) → fault_among v ps (form f fs) ≡ first_of (fault_in v (sort_at v ps f) f) (fault_among v (parts_after v ps f) fs)
 unfolding fault_among
 parts_walk v ps f fs = refl
 
-none_of_nothing : (v : Version) (head : List ℕ) → production v Nothing head ≡ None
-unfolding production lists
-none_of_nothing v head = refl
-
-no_word_of_nothing : (text : List ℕ) → is_allowed Nothing text ≡ false
-unfolding is_allowed
-no_word_of_nothing text = refl
-
 no_form_of_nothing : (v : Version) (f : Form) → IsOf v Nothing f → ⊥
-no_form_of_nothing v _ (word _ text at allowed) = false≢true (sym (no_word_of_nothing text) ∙ allowed)
-no_form_of_nothing v _ (listing _ parts at end ps may matches) = none (sym (none_of_nothing v (head_of parts)) ∙ has_parts v Nothing parts ps may matches)
-  where
-    none : None ≡ Some ps → ⊥
-    none e = grind arith
+unfolding is_allowed production lists
+no_form_of_nothing v _ (word _ text at allowed) = false≢true allowed
+no_form_of_nothing v _ (listing _ parts at end ps may matches) = some_none (sym (has_parts v Nothing parts ps may matches))
 
 stands : (v : Version) (ps : List Part) (f : Form) (fs : Forms) → IsOf v (sort_at v ps f) f → Matches v (parts_after v ps f) fs → Matches v ps (form f fs)
 stands v [] f fs is matches = absurd (no_form_of_nothing v f is)
@@ -71,9 +53,9 @@ none_first : (a b : Option ℕ) → first_of a b ≡ None → (a ≡ None) × (b
 none_first None b e = (refl, e)
 none_first (Some at) b e = absurd (some_none e)
 
-allowed_word : (b : Bool) (at : ℕ) → cond b None (Some at) ≡ None → b ≡ true
-allowed_word true at e = refl
-allowed_word false at e = absurd (some_none e)
+pub passes : {X : Type 0} (b : Bool) (x : X) → cond b None (Some x) ≡ None → b ≡ true
+passes true x e = refl
+passes false x e = absurd (some_none e)
 
 counted : (a b : Bool) (at : ℕ) (rest : Option ℕ) → cond (a || b) (Some at) rest ≡ None → (a ≡ false) × (rest ≡ None)
 counted true b at rest e = absurd (some_none e)
@@ -89,7 +71,7 @@ listed v s parts at end (Some ps) made e later =
 
 mutual
   pub walked_form : (v : Version) (s : Sort) (f : Form) → fault_in v s f ≡ None → IsOf v s f
-  walked_form v s (Word text at) e = word s text at (allowed_word (is_allowed s text) at (sym (word_walk v s text at) ∙ e))
+  walked_form v s (Word text at) e = word s text at (passes (is_allowed s text) at (sym (word_walk v s text at) ∙ e))
   walked_form v s (Listing parts at end) e = listed v s parts at end (production v s (head_of parts)) refl (sym (list_walk v s parts at end) ∙ e) (λ ps lacking faultless. walked_parts v ps parts lacking faultless)
 
   pub walked_parts : (v : Version) (ps : List Part) (fs : Forms) → lacks v ps fs ≡ false → fault_among v ps fs ≡ None → Matches v ps fs
