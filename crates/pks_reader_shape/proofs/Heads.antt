@@ -1,5 +1,5 @@
 -- A list has the parts that its head says, exactly where the sort's lists may have them.
-use Rattle.std.proofs.Common.{◌≡◌, ◌⊎◌, inl, inr, ℕ, Bool, true, false, not, ◌||◌, cond, map, List, [], ◌∷◌, Option, Some, None, refl, sym, ap, ◌∙◌, subst, arith, bytes_eq}
+use Rattle.std.proofs.Common.{◌≡◌, ◌⊎◌, inl, inr, ℕ, Bool, true, false, not, ◌||◌, cond, map, List, [], ◌∷◌, Option, Some, None, refl, sym, ap, ◌∙◌, subst, bytes_eq}
 use Rattle.std.proofs.lemmas.Bool.{false≢true, true≢false, and_parts, or_parts, false_from_ne_true}
 use Rattle.std.proofs.lemmas.Option.{none-some}
 use Rattle.std.proofs.lemmas.Slice.Eq.{bytes_eq-Decides}
@@ -12,7 +12,7 @@ use Rattle.pks_reader_shape.specs.declared.grammar.Part.{Part}
 use Rattle.pks_terms.specs.ValidProblems.{is_name}
 use Rattle.pks_reader_shape.specs.Grammar.{is_allowed, lists, with_head, is_among, production}
 use Rattle.pks_reader_shape.specs.Walk.{head_of}
-use Rattle.pks_reader_shape.specs.Language.{MayHave, word, listing, Matches, nothing, one, left_out, there, no_more, again}
+use Rattle.pks_reader_shape.specs.Language.{MayHave, word, listing, Matches, nothing, one}
 use Rattle.pks_reader_shape.proofs.Tables.{are_distinct, begins_with_name, are_no_names, is_apart, lists_sound}
 
 -- ---- from the head to the lists

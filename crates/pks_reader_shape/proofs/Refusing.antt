@@ -1,5 +1,5 @@
 -- Refusals of first faults.
-use Rattle.std.proofs.Common.{◌≡◌, Option, Some, None, refl, ap, subst, sym}
+use Rattle.std.proofs.Common.{◌≡◌, Option, Some, None, refl, subst, sym}
 use Rattle.std.proofs.lemmas.Option.{none-some}
 use Rattle.pks_reader_shape.specs.Files.{Fault, or_else}
 use Rattle.pks_reader_shape.specs.declared.report.Refusal.{Refusal}

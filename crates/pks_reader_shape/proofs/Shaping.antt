@@ -1,14 +1,13 @@
 -- The tests of a file's shape find no fault exactly where the file is of the grammar.
-use Rattle.std.proofs.Common.{◌≡◌, ℕ, Bool, true, false, cond, List, [], ◌∷◌, Option, Some, None, IsNone, option_map, slice_get, refl, sym, ap, ◌∙◌, subst, arith, codes}
-use Rattle.std.proofs.lemmas.Bool.{false≢true, true≢false}
+use Rattle.std.proofs.Common.{◌≡◌, ℕ, Bool, true, false, cond, List, [], ◌∷◌, Option, Some, None, option_map, slice_get, refl, sym, ap, ◌∙◌, subst, codes}
+use Rattle.std.proofs.lemmas.Bool.{false≢true}
 use Rattle.pks_text.specs.Forms.{Form, place_of}
 use Rattle.pks_reader_shape.specs.declared.grammar.Version.{Version}
 use Rattle.pks_reader_shape.specs.declared.grammar.Version.TheVariants.{First}
-use Rattle.pks_reader_shape.specs.declared.grammar.Sort.{Sort}
 use Rattle.pks_reader_shape.specs.declared.grammar.Sort.TheVariants.{Domain, Problem}
-use Rattle.pks_reader_shape.specs.Grammar.{is_allowed, lists, head_of_section}
-use Rattle.pks_reader_shape.specs.Walk.{head_of, is_headed, fault_in}
-use Rattle.pks_reader_shape.specs.Language.{IsOf, word, listing, MayBeWorld, IsFile}
+use Rattle.pks_reader_shape.specs.Grammar.{lists, head_of_section}
+use Rattle.pks_reader_shape.specs.Walk.{is_headed, fault_in}
+use Rattle.pks_reader_shape.specs.Language.{IsOf, MayBeWorld, IsFile}
 use Rattle.pks_reader_shape.specs.Files.{Fault, or_else, stated, is_version, version_of, top_fault, rest_fault, walk_fault, shape_fault}
 use Rattle.pks_reader_shape.proofs.Heads.{some_none}
 use Rattle.pks_reader_shape.proofs.Walking.{passes, walked_form}

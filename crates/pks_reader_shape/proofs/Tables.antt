@@ -4,7 +4,7 @@ use Rattle.std.proofs.lemmas.Bool.{false≢true}
 use Rattle.pks_reader_shape.specs.declared.grammar.Version.{Version}
 use Rattle.pks_reader_shape.specs.declared.grammar.Version.TheVariants.{First, Second}
 use Rattle.pks_reader_shape.specs.declared.grammar.Sort.{Sort}
-use Rattle.pks_reader_shape.specs.declared.grammar.Sort.TheVariants.{Nothing, Head, Name, Variable, Number, Domain, Types, Kind, Objects, Predicates, Functions, Entry, Function, Action, Cost, Params, Param, Pre, Effects, Effect, Condition, Target, Senses, Sense, Knows, Add, Given, Item, Query, Plain, Problem, Init, Start, Goal, Aim, Literal, Positive, Atom, Pattern, Slot, Place, Term, World, True, Values, Value, Fact}
+use Rattle.pks_reader_shape.specs.declared.grammar.Sort.TheVariants.{Head, Name, Variable, Number, Kind, Action, Aim, Slot, Term}
 use Rattle.pks_reader_shape.specs.declared.grammar.Part.{Part}
 use Rattle.pks_reader_shape.specs.declared.grammar.Part.TheVariants.{One, Maybe, Many}
 use Rattle.pks_terms.specs.ValidProblems.{is_name}

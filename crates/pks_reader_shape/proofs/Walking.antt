@@ -1,5 +1,5 @@
 -- Where the walk finds no fault, the form is of the sort by the grammar.
-use Rattle.std.proofs.Common.{◌≡◌, ℕ, Bool, true, false, ◌||◌, ◌&&◌, cond, List, [], ◌∷◌, length, nat_lt, Option, Some, None, refl, sym, ◌∙◌, arith}
+use Rattle.std.proofs.Common.{◌≡◌, ℕ, Bool, true, false, ◌||◌, ◌&&◌, cond, List, [], ◌∷◌, length, nat_lt, Option, Some, None, refl, sym, ◌∙◌}
 use Rattle.std.proofs.lemmas.Bool.{false≢true, true≢false}
 use Rattle.pks_text.specs.Forms.{Form, Word, Listing, Forms, no_forms, form}
 use Rattle.pks_reader_shape.specs.declared.grammar.Version.{Version}
