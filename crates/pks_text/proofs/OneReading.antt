@@ -1,21 +1,25 @@
 -- A text spells one list of forms.
 use Rattle.std.proofs.Common.{◌≡◌, ℕ, List, [], ◌∷◌, ◌++◌, refl, sym, ◌∙◌, ap, subst, append_assoc}
 use Rattle.pks_text.specs.Forms.{Word, Listing, Forms, no_forms, form, Mark, Said, Opens, Closes, mark_end, SpellsFrom, Spells, form_marks, forms_marks}
-use Rattle.pks_text.proofs.Marks.{is_next}
+use Rattle.pks_text.proofs.Classes.{Next, at_end, at_bad, at_part, end_part, part_is}
+use Rattle.pks_text.proofs.Marks.{ahead_gap, ahead_mark}
 
 -- ---- the text determines its tokens
 
+abbrev Later : List Mark → Next Mark → Type 0
+Later ms at_end = Unit {0}
+Later ms (at_bad n) = Unit {0}
+Later ms (at_part m rest) = SpellsFrom rest (mark_end m) ms
+
 pub one_marks : (text : List ℕ) (at : ℕ) (ms ns : List Mark) → SpellsFrom text at ms → SpellsFrom text at ns → ms ≡ ns
 one_marks text at [] [] s t = refl
-one_marks text at [] (n ∷ ns) s t = absurd ((is_next text at n t.0 t.1).no_end s)
-one_marks text at (m ∷ ms) [] s t = absurd ((is_next text at m s.0 s.1).no_end t)
+one_marks text at [] (n ∷ ns) s t = absurd (end_part (ahead_gap text at s) (ahead_mark text at n t.0 t.1))
+one_marks text at (m ∷ ms) [] s t = absurd (end_part (ahead_gap text at t) (ahead_mark text at m s.0 s.1))
 one_marks text at (m ∷ ms) (n ∷ ns) s t =
-    let next = is_next text at m s.0 s.1 in
-    let same_mark : n ≡ m = next.one_mark n t.0 t.1 in
-    let same_rest : t.0 ≡ s.0 = next.one_rest n t.0 t.1 in
-    let later : SpellsFrom s.0 (mark_end m) ns = subst (λ (k : Mark). SpellsFrom s.0 (mark_end k) ns) same_mark (subst (λ (rest : List ℕ). SpellsFrom rest (mark_end n) ns) same_rest t.2) in
-    let same : ms ≡ ns = one_marks s.0 (mark_end m) ms ns s.2 later in
-    λ i. sym same_mark i ∷ same i
+    let here = ahead_mark text at m s.0 s.1 in
+    let there = ahead_mark text at n t.0 t.1 in
+    let same : ms ≡ ns = one_marks s.0 (mark_end m) ms ns s.2 (subst (Later ns) (sym there ∙ here) t.2) in
+    λ i. (part_is here there).0 i ∷ same i
 
 -- ---- the tokens determine the forms
 

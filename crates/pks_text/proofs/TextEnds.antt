@@ -1,187 +1,115 @@
--- What the end of a text, a bad byte and a token that is turned away say of the text.
-use Rattle.std.proofs.Common.{◌≡◌, true, false, ◌⊎◌, inl, inr, ℕ, ◌<◌, ◌≤◌, ◌+◌, ◌-◌, nat_lt, Bool, cond, List, [], ◌∷◌, ◌++◌, length, drop, Some, None, Result, Ok, Err, IfOk, IfErr, OnOk, IsOk, refl, sym, ◌∙◌, ap, subst, arith, length-append, length-drop, length-take, bytes_eq, codes, if◌then◌else◌}
+-- What was read of a text, and what the answers say of it.
+use Rattle.std.proofs.Common.{◌≡◌, ℕ, ◌≤◌, ◌+◌, ◌-◌, List, [], ◌∷◌, ◌++◌, length, drop, Option, Some, None, Result, Ok, Err, IfOk, IfErr, OnOk, IsOk, sym, ◌∙◌, ap, subst, arith, append_assoc, length-append, length-drop, length-take}
 use Rattle.std.proofs.lemmas.List.{append-nil}
 use Rattle.std.proofs.lemmas.Bool.{false≢true}
-use Rattle.std.proofs.lemmas.Bool.{cond_both}
-use Rattle.std.proofs.lemmas.Bool.Decides.{nat_tests}
-use Rattle.std.proofs.lemmas.Slice.Eq.{bytes_eq-Decides}
-use Rattle.pks_text.specs.Bytes.{is_paren}
+use Rattle.std.proofs.lemmas.Option.{none-some}
 use Rattle.pks_text.specs.Gaps.{IsOnlyGap}
-use Rattle.pks_text.specs.Tokens.{IsWord, IsToken, BeginsWith, BeginsBad}
-use Rattle.pks_text.specs.Reading.{IsSliceOf}
-use Rattle.pks_text.specs.Forms.{Mark, Said, Opens, Closes, mark_text, mark_end, IsOfClass, Begins, SpellsFrom, forms_marks, Spells, SpellsNoOther}
-use Rattle.pks_text.specs.Faults.{opened, StopsAfter, IsFirstFault, IsFaultOf, IsAnswered}
+use Rattle.pks_text.specs.Tokens.{BeginsWith}
+use Rattle.pks_text.specs.Reading.{left_of, place_of, source_of, IsSliceOf}
+use Rattle.pks_text.specs.Forms.{Mark, mark_end, Begins, forms_marks, Spells, SpellsNoOther}
+use Rattle.pks_text.specs.Faults.{opened, IsFirstFault, IsFaultOf, IsAnswered}
 use Rattle.pks_text.specs.FormViews.{mark_of, forms_view, IsTurned, IsOpen}
 use Rattle.pks_text.specs.declared.tokens.Token.{Token}
+use Rattle.pks_text.specs.declared.tokens.Tokens.{Tokens}
+use Rattle.pks_text.specs.declared.tokens.LexFault.{LexFault}
 use Rattle.pks_text.specs.declared.tree.Forms.{Forms}
 use Rattle.pks_text.specs.declared.tree.FormFault.{FormFault}
 use Rattle.pks_text.specs.declared.tree.FormFault.TheVariants.{BadByte, Unclosed, Unopened, TooDeep, Memory}
-use Rattle.pks_text.proofs.Classes.{gap_ends, bad_fails}
 use Rattle.pks_text.proofs.OneReading.{one_forms}
-use Rattle.pks_text.proofs.Marks.{IsNext, is_next, IsRead, after_end, after_bad}
-
--- ---- a token as a mark
-
-pub record IsMark (text : List ℕ) (at : ℕ) (m : Mark) : Type 0 where
-  pub text_is : mark_text m ≡ text
-  pub end_is : mark_end m ≡ at + length text
-  pub class : IsOfClass m
-
-paren_is : (b : ℕ) → is_paren b ≡ true → (b ≡ 40) ⊎ (b ≡ 41)
-paren_is b paren = grind (arith, nat_tests)
-
-is_text : (a b : List ℕ) → a ≡ b → bytes_eq a b ≡ false → ⊥
-is_text a b same apart = false≢true (sym apart ∙ (bytes_eq-Decides a b).1 same)
-
-word_left : (text rest : List ℕ) → IsToken text rest → bytes_eq text (codes "(") ≡ false → bytes_eq text (codes ")") ≡ false → IsWord text
-word_left text rest (inl paren) opens closes = elim (paren_is paren.0 paren.1) [
-  | inl is_open ↦ absurd (is_text text (codes "(") (paren.2 ∙ ap (λ (b : ℕ). b ∷ []) is_open) opens)
-  | inr is_close ↦ absurd (is_text text (codes ")") (paren.2 ∙ ap (λ (b : ℕ). b ∷ []) is_close) closes)
-]
-word_left text rest (inr word) opens closes = word.0
-
-is_mark : (t : Token) (rest : List ℕ) → IsToken t.text.now rest → IsMark t.text.now t.span.start (mark_of t)
-is_mark t rest is_token =
-    let closing : Mark = if bytes_eq t.text.now (codes ")") then Closes (t.span.start + 1) else Said t.text.now t.span.start in
-    cond_both (bytes_eq t.text.now (codes "(")) (Opens t.span.start) closing (IsMark t.text.now t.span.start)
-    (λ e. let text : t.text.now ≡ codes "(" = (bytes_eq-Decides t.text.now (codes "(")).0 e in record { text_is = sym text; end_is = ap (λ (n : ℕ). t.span.start + n) (sym (ap length text)); class = tt })
-    (λ opens. cond_both (bytes_eq t.text.now (codes ")")) (Closes (t.span.start + 1)) (Said t.text.now t.span.start) (IsMark t.text.now t.span.start)
-    (λ e. let text : t.text.now ≡ codes ")" = (bytes_eq-Decides t.text.now (codes ")")).0 e in record { text_is = sym text; end_is = ap (λ (n : ℕ). t.span.start + n) (sym (ap length text)); class = tt })
-    (λ closes. record { text_is = refl; end_is = refl; class = word_left t.text.now rest is_token opens closes }))
+use Rattle.pks_text.proofs.Marks.{as_mark, token_mark, begins_as}
+use Rattle.pks_text.proofs.Runs.{RunsTo, stops_after, runs_after, spells_after, one_run}
 
 -- a token that was read, as a mark
 pub token_begins : (source : List ℕ) (at now : ℕ) (t : Token) → BeginsWith (drop at source) t.text.now (drop now source) → IsSliceOf source t → at ≤ t.span.start → now ≡ t.span.end
     → Begins (drop at source) at (mark_of t) (drop now source) × (mark_end (mark_of t) ≡ now)
 token_begins source at now t begins slice after end =
-    let m = is_mark t (drop now source) begins.is_token in
     let long : length t.text.now ≡ t.span.end - t.span.start = omega (arith, ap length slice.text, length-take (t.span.end - t.span.start) (drop t.span.start source), length-drop t.span.start source, slice.in_order, slice.within) in
     let total : length (drop at source) ≡ length begins.gap + (length t.text.now + length (drop now source)) = omega (arith, ap length begins.split, length-append begins.gap (t.text.now ++ drop now source), length-append t.text.now (drop now source)) in
-    let place : t.span.start ≡ at + length begins.gap = omega (arith, long, total, length-drop at source, length-drop now source, slice.in_order, slice.within) in (
-      record {
-        begins = record {
-          gap = begins.gap;
-          is_gap = begins.is_gap;
-          split = begins.split ∙ ap (λ (text : List ℕ). begins.gap ++ (text ++ drop now source)) (sym m.text_is);
-          is_token = subst (λ (text : List ℕ). IsToken text (drop now source)) (sym m.text_is) begins.is_token;
-        };
-        placed = omega (arith, m.end_is, place, ap length m.text_is);
-        class = m.class;
-      },
-      omega (arith, m.end_is, long, slice.in_order),
-    )
+    let place : at + length begins.gap ≡ t.span.start = omega (arith, long, total, length-drop at source, length-drop now source, slice.in_order, slice.within) in
+    let mark : Begins (drop at source) at (mark_of t) (drop now source) = subst (λ (n : ℕ). Begins (drop at source) at (as_mark t.text.now n) (drop now source)) place (begins_as (drop at source) t.text.now (drop now source) at begins) in
+    (mark, omega (arith, (token_mark t.text.now (drop now source) t.span.start begins.is_token).end_is, long, slice.in_order))
 
--- ---- the end of a text
+-- the token that a reader took from one state to the next, as a mark
+pub record Taken (old new : Tokens) (t : Token) : Type 0 where
+  pub slice : IsSliceOf (source_of old) t
+  pub begins : Begins (left_of old) (place_of old) (mark_of t) (left_of new)
+  pub place : mark_end (mark_of t) ≡ place_of new
 
-pub ended_spelled : (source : List ℕ) (ms : List Mark) (ps left : List ℕ) (at : ℕ) → IsRead source ms ps left at → IsOnlyGap left
-    → (r : Result Forms FormFault) → IfOk r (λ fs. ms ≡ forms_marks (forms_view fs.top.items)) → IfOk r (λ fs. Spells source (forms_view fs.top.items))
-ended_spelled source ms ps left at read gap (Ok fs) e = subst (SpellsFrom source 0) (append-nil ms ∙ e) (read.spells [] gap)
-ended_spelled source ms ps left at read gap (Err f) e = tt
+pub taken_token : (old new : Tokens) (r : Result Token LexFault) (t : Token) → r ≡ Ok t → source_of new ≡ source_of old
+    → IfOk r (λ t. BeginsWith (left_of old) t.text.now (left_of new)) → IfOk r (IsSliceOf (source_of old)) → IfOk r (λ t. (place_of old ≤ t.span.start) × (place_of new ≡ t.span.end)) → Taken old new t
+taken_token old new r t is same token slice rising =
+    let begins : BeginsWith (left_of old) t.text.now (left_of new) = rw is at token in
+    let from : IsSliceOf (source_of old) t = rw is at slice in
+    let places : (place_of old ≤ t.span.start) × (place_of new ≡ t.span.end) = rw is at rising in
+    let b = token_begins (source_of old) (place_of old) (place_of new) t (subst (λ (s : List ℕ). BeginsWith (left_of old) t.text.now (drop (place_of new) s)) same begins) from places.0 places.1 in
+    record { slice = from; begins = subst (λ (s : List ℕ). Begins (left_of old) (place_of old) (mark_of t) (drop (place_of new) s)) (sym same) b.0; place = b.1 }
 
-pub spelled_alone : (source : List ℕ) (r : Result Forms FormFault) → IfOk r (λ fs. Spells source (forms_view fs.top.items)) → IfOk r (λ fs. SpellsNoOther source (forms_view fs.top.items))
-spelled_alone source (Ok fs) s = λ gs t. one_forms source gs (forms_view fs.top.items) t s
-spelled_alone source (Err f) s = tt
+-- ---- what was read, and what it leaves
 
-pub ended_fault : (source : List ℕ) (ms : List Mark) (ps left : List ℕ) (at : ℕ) → IsRead source ms ps left at → IsOnlyGap left
-    → (r : Result Forms FormFault) → IfErr r (IsOpen ps) → IfErr r (IsFaultOf source)
-ended_fault source ms ps left at read gap (Ok fs) e = tt
-ended_fault source ms ps left at read gap (Err (Unclosed p)) e = read.stops [] (Unclosed p) (gap, e)
-ended_fault source ms ps left at read gap (Err (Unopened p)) e = absurd e
-ended_fault source ms ps left at read gap (Err (TooDeep p)) e = absurd e
-ended_fault source ms ps left at read gap (Err (BadByte p)) e = absurd e
-ended_fault source ms ps left at read gap (Err Memory) e = tt
+pub record IsRead (source : List ℕ) (ms : List Mark) (ps left : List ℕ) (at : ℕ) : Type 0 where
+  pub runs : (more : List Mark) (o : Option FormFault) → RunsTo ps left at more o → RunsTo [] source 0 (ms ++ more) o
 
-nil_cons : {p : ℕ} {ps : List ℕ} → [] ≡ p ∷ ps → ⊥
-nil_cons e = grind arith
+pub at_start : (source : List ℕ) → IsRead source [] [] source 0
+at_start source = record { runs = λ more o r. r }
 
-pub ended_only : (source : List ℕ) (ms : List Mark) (ps left : List ℕ) (at : ℕ) → IsRead source ms ps left at → IsOnlyGap left
-    → (r : Result Forms FormFault) → OnOk r (ps ≡ []) → IfErr r (IsOpen ps) → (fault : FormFault) → IsFirstFault source fault → IfErr r (IsAnswered fault) × (IsOk r → ⊥)
-ended_only source ms ps left at read gap (Ok fs) places e fault first =
-    let s = read.stopped fault first in
-    let u = after_end ps left at (gap_ends left gap) s.0 fault s.1 in
-    absurd (nil_cons (sym places ∙ u.2))
-ended_only source ms ps left at read gap (Err (Unclosed p)) places e fault first =
-    let s = read.stopped fault first in
-    let u = after_end ps left at (gap_ends left gap) s.0 fault s.1 in
-    let same : p ≡ u.0 = heads (sym e.1 ∙ u.2) in
-    (ap (λ (k : ℕ). Unclosed k) same ∙ sym u.3, λ is_ok. false≢true is_ok)
-  where
-    heads : {p q : ℕ} {ps qs : List ℕ} → p ∷ ps ≡ q ∷ qs → p ≡ q
-    heads e = grind arith
-ended_only source ms ps left at read gap (Err (Unopened p)) places e fault first = absurd e
-ended_only source ms ps left at read gap (Err (TooDeep p)) places e fault first = absurd e
-ended_only source ms ps left at read gap (Err (BadByte p)) places e fault first = absurd e
-ended_only source ms ps left at read gap (Err Memory) places e fault first = absurd e
+module _ {source : List ℕ} {ms : List Mark} {ps left : List ℕ} {at : ℕ} (read : IsRead source ms ps left at) where
+  pub taken : (m : Mark) (rest now : List ℕ) → Begins left at m rest → opened ps m ≡ Some now → IsRead source (ms ++ m ∷ []) now rest (mark_end m)
+  taken m rest now b e = record {
+    runs = λ more o r. subst (λ (all : List Mark). RunsTo [] source 0 all o) (sym (append_assoc ms (m ∷ []) more)) (read.runs (m ∷ more) o (rest, now, b, e, r));
+  }
 
--- ---- a bad byte
+  pub stops_here : (f : FormFault) → RunsTo ps left at [] (Some f) → IsFirstFault source f
+  stops_here f r = (ms ++ [], stops_after (ms ++ []) [] source 0 f (read.runs [] (Some f) r))
 
-pub bad_only : (source : List ℕ) (ms : List Mark) (ps left : List ℕ) (at : ℕ) → IsRead source ms ps left at → (n : ℕ) → BeginsBad left n → (fault : FormFault) → IsFirstFault source fault → BadByte (at + n) ≡ fault
-bad_only source ms ps left at read n bad fault first = let s = read.stopped fault first in sym (after_bad ps left at n (bad_fails left n bad) s.0 fault s.1)
+  pub turned : (m : Mark) (rest : List ℕ) → Begins left at m rest → (e : FormFault) → IsTurned ps m e → IsFaultOf source e
+  turned m rest begins (Unopened p) t = stops_here (Unopened p) (rest, subst (λ (k : Mark). Begins left at k rest) t.0 begins, t.1)
+  turned m rest begins (TooDeep p) t = stops_here (TooDeep p) (rest, subst (λ (k : Mark). Begins left at k rest) t.0 begins, t.1)
+  turned m rest begins (BadByte p) t = absurd t
+  turned m rest begins (Unclosed p) t = absurd t
+  turned m rest begins Memory t = tt
 
--- ---- a token that is turned away
+-- ---- the answers
 
-pub turned_fault : (source : List ℕ) (ms : List Mark) (ps left : List ℕ) (at : ℕ) → IsRead source ms ps left at → (m : Mark) (rest : List ℕ) → Begins left at m rest
-    → (e : FormFault) → IsTurned ps m e → IsFaultOf source e
-turned_fault source ms ps left at read m rest begins (Unopened p) t = read.stops [] (Unopened p) (rest, subst (λ (k : Mark). Begins left at k rest) t.0 begins, t.1)
-turned_fault source ms ps left at read m rest begins (TooDeep p) t = read.stops [] (TooDeep p) (rest, subst (λ (k : Mark). Begins left at k rest) t.0 begins, t.1)
-turned_fault source ms ps left at read m rest begins (BadByte p) t = absurd t
-turned_fault source ms ps left at read m rest begins (Unclosed p) t = absurd t
-turned_fault source ms ps left at read m rest begins Memory t = tt
+-- an answer is what the text runs to, unless memory ran out
+abbrev pub IsAnswer : List ℕ → Result Forms FormFault → Type 0
+IsAnswer source (Ok fs) = RunsTo [] source 0 (forms_marks (forms_view fs.top.items)) None
+IsAnswer source (Err e) = IsFaultOf source e
 
-after_closes : (left : List ℕ) (at p : ℕ) (rest : List ℕ) → IsNext left at (Closes (p + 1)) rest → (more : List Mark) (f : FormFault) → StopsAfter [] left at more f → Unopened p ≡ f
-after_closes left at p rest next [] (Unopened q) s =
-    let ends : q + 1 ≡ p + 1 = ap mark_end (next.one_mark (Closes (q + 1)) s.0 s.1) in
-    let same : p ≡ q = omega (arith, ends) in
-    ap (λ (n : ℕ). Unopened n) same
-after_closes left at p rest next [] (TooDeep q) s = absurd (none (next.one_mark (Opens q) s.0 s.1))
-  where
-    none : Opens q ≡ Closes (p + 1) → ⊥
-    none e = grind arith
-after_closes left at p rest next [] (BadByte q) s = absurd (next.not_bad s.0 s.1)
-after_closes left at p rest next [] (Unclosed q) s = absurd (next.no_end s.0)
-after_closes left at p rest next [] Memory s = absurd s
-after_closes left at p rest next (m ∷ more) f s = absurd (none (ap (λ (k : Mark). opened [] k) (sym (next.one_mark m s.0 s.2)) ∙ s.3))
-  where
-    none : None ≡ Some s.1 → ⊥
-    none e = grind arith
+pub ended : {source : List ℕ} {ms : List Mark} {ps left : List ℕ} {at : ℕ} → IsRead source ms ps left at → IsOnlyGap left
+    → (r : Result Forms FormFault) → IfOk r (λ fs. ms ≡ forms_marks (forms_view fs.top.items)) → OnOk r (ps ≡ []) → IfErr r (IsOpen ps) → IsAnswer source r
+ended {source = source} {ms = ms} read gap (Ok fs) marks places is_open = subst (λ (all : List Mark). RunsTo [] source 0 all None) (append-nil ms ∙ marks) (read.runs [] None (gap, places))
+ended read gap (Err (Unclosed p)) marks places is_open = stops_here read (Unclosed p) (gap, is_open)
+ended read gap (Err (Unopened p)) marks places is_open = absurd is_open
+ended read gap (Err (TooDeep p)) marks places is_open = absurd is_open
+ended read gap (Err (BadByte p)) marks places is_open = absurd is_open
+ended read gap (Err Memory) marks places is_open = absurd is_open
 
-after_opens : (ps left : List ℕ) (at p : ℕ) (rest : List ℕ) → 12 ≤ length ps → IsNext left at (Opens p) rest → (more : List Mark) (f : FormFault) → StopsAfter ps left at more f → TooDeep p ≡ f
-after_opens ps left at p rest deep next [] (TooDeep q) s =
-    let ends : q + 1 ≡ p + 1 = ap mark_end (next.one_mark (Opens q) s.0 s.1) in
-    let same : p ≡ q = omega (arith, ends) in
-    ap (λ (n : ℕ). TooDeep n) same
-after_opens ps left at p rest deep next [] (Unopened q) s = absurd (none (next.one_mark (Closes (q + 1)) s.0 s.1))
-  where
-    none : Closes (q + 1) ≡ Opens p → ⊥
-    none e = grind arith
-after_opens ps left at p rest deep next [] (BadByte q) s = absurd (next.not_bad s.0 s.1)
-after_opens ps left at p rest deep next [] (Unclosed q) s = absurd (next.no_end s.0)
-after_opens ps left at p rest deep next [] Memory s = absurd s
-after_opens ps left at p rest deep next (m ∷ more) f s =
-    absurd (none (sym (ap (λ (b : Bool). cond b (Some (p ∷ ps)) None) (full (length ps) deep)) ∙ ap (λ (k : Mark). opened ps k) (sym (next.one_mark m s.0 s.2)) ∙ s.3))
-  where
-    none : None ≡ Some s.1 → ⊥
-    none e = grind arith
+module _ (source : List ℕ) where
+  pub spelled : (r : Result Forms FormFault) → IsAnswer source r → IfOk r (λ fs. Spells source (forms_view fs.top.items))
+  spelled (Ok fs) is = spells_after (forms_marks (forms_view fs.top.items)) [] source 0 is
+  spelled (Err e) is = tt
 
-    full : (n : ℕ) → 12 ≤ n → nat_lt n 12 ≡ false
-    full n le = grind (arith, nat_tests)
+  pub alone : (r : Result Forms FormFault) → IsAnswer source r → IfOk r (λ fs. SpellsNoOther source (forms_view fs.top.items))
+  alone (Ok fs) is = λ gs other. one_forms source gs (forms_view fs.top.items) other (spelled (Ok fs) is)
+  alone (Err e) is = tt
 
-pub turned_only : (source : List ℕ) (ms : List Mark) (ps left : List ℕ) (at : ℕ) → IsRead source ms ps left at → (m : Mark) (rest : List ℕ) → Begins left at m rest
-    → (e : FormFault) → IsTurned ps m e → (fault : FormFault) → IsFirstFault source fault → IsAnswered fault e
-turned_only source ms ps left at read m rest begins (Unopened p) t fault first =
-    let s = read.stopped fault first in
-    after_closes left at p rest (is_next left at (Closes (p + 1)) rest (subst (λ (k : Mark). Begins left at k rest) t.0 begins)) s.0 fault (subst (λ (qs : List ℕ). StopsAfter qs left at s.0 fault) t.1 s.1)
-turned_only source ms ps left at read m rest begins (TooDeep p) t fault first =
-    let s = read.stopped fault first in
-    after_opens ps left at p rest t.1 (is_next left at (Opens p) rest (subst (λ (k : Mark). Begins left at k rest) t.0 begins)) s.0 fault s.1
-turned_only source ms ps left at read m rest begins (BadByte p) t fault first = absurd t
-turned_only source ms ps left at read m rest begins (Unclosed p) t fault first = absurd t
-turned_only source ms ps left at read m rest begins Memory t fault first = tt
+  pub fault : (r : Result Forms FormFault) → IsAnswer source r → IfErr r (IsFaultOf source)
+  fault (Ok fs) is = tt
+  fault (Err e) is = is
 
--- the marks are fewer bytes than the text
-pub shorter : (text : List ℕ) (at : ℕ) (m : Mark) (rest : List ℕ) → Begins text at m rest → length rest < length text
-shorter text at m rest b =
-    omega (arith, token_long (mark_text m) rest b.begins.is_token, ap length b.begins.split, length-append b.begins.gap (mark_text m ++ rest), length-append (mark_text m) rest)
-  where
-    token_long : (token after : List ℕ) → IsToken token after → 0 < length token
-    token_long token after (inl paren) = omega (arith, ap length paren.2)
-    token_long token after (inr word) = word.0.0
+  one_fault : (e f : FormFault) → IsFirstFault source e → IsFirstFault source f → e ≡ f
+  one_fault e f a b = same (one_run a.0 b.0 [] source 0 (Some e) (Some f) (runs_after a.0 [] source 0 e a.1) (runs_after b.0 [] source 0 f b.1))
+    where
+      same : Some e ≡ Some f → e ≡ f
+      same e = cc
+
+  pub only : (r : Result Forms FormFault) → IsAnswer source r → (f : FormFault) → IsFirstFault source f → IfErr r (IsAnswered f) × (IsOk r → ⊥)
+  only (Ok fs) is f first = absurd (none-some f (one_run (forms_marks (forms_view fs.top.items)) first.0 [] source 0 None (Some f) is (runs_after first.0 [] source 0 f first.1)))
+  only (Err e) is f first = (answered e is, λ is_ok. false≢true is_ok)
+    where
+      answered : (e : FormFault) → IsFaultOf source e → IsAnswered f e
+      answered (BadByte p) is = one_fault (BadByte p) f is first
+      answered (Unclosed p) is = one_fault (Unclosed p) f is first
+      answered (Unopened p) is = one_fault (Unopened p) f is first
+      answered (TooDeep p) is = one_fault (TooDeep p) f is first
+      answered Memory is = tt
