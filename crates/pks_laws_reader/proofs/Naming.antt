@@ -1,5 +1,5 @@
 -- Names are spelled as names are, and none is given twice.
-use Rattle.std.proofs.Common.{◌≡◌, inl, inr, ℕ, ◌==◌, Bool, true, false, cond, is_some, List, [], ◌∷◌, ◌++◌, length, map, Option, Some, None, refl, sym, ap, ◌∙◌, subst, bytes_eq}
+use Rattle.std.proofs.Common.{◌≡◌, inl, inr, ℕ, ◌==◌, Bool, true, false, cond, is_some, List, [], ◌∷◌, ◌++◌, length, map, Some, None, refl, sym, ap, ◌∙◌, subst, bytes_eq}
 use Rattle.std.specs.Prelude.{codes}
 use Rattle.std.specs.Map.{keys_of}
 use Rattle.std.proofs.lemmas.Bool.{true≢false, false≢true, eqb-true}
@@ -22,12 +22,13 @@ use Rattle.pks_reader_names.specs.Declarations.{name_of, name_faults, entries_fa
 use Rattle.pks_reader_names.specs.Meaning.{scope_of}
 use Rattle.pks_reader_declared.specs.FirstFault.{meaning_fault}
 use Rattle.pks_reader_problem.specs.Stated.{all, schema_in, stated_in, problem_in, problem_by, named_in, named_by}
+use Rattle.pks_reader_problem.proofs.Walked.{first_all}
 use Rattle.pks_laws_reader.specs.Facts.{EachForm, AreNamed}
 use Rattle.pks_laws_reader.proofs.Shapes.{IsWord, name_is, of_sort, one_first, one_missing, each_of}
 use Rattle.pks_laws_reader.proofs.Numbers.{nil_parts, when, each_forms, keys_length}
 use Rattle.pks_laws_reader.proofs.Literals.{each_all}
 use Rattle.pks_laws_reader.proofs.Sections.{action_parts, action_is, domain_is, types_are, objects_are, predicates_are, functions_are, actions_are}
-use Rattle.pks_laws_reader.proofs.Tabled.{each_of_first, first_all, section_faultless, entries_length, each_key_tabled, different_tabled, each_type_name, different_types, each_object_name, different_objects}
+use Rattle.pks_laws_reader.proofs.Tabled.{each_of_first, entries_length, each_key_tabled, different_tabled, each_type_name, different_types, each_object_name, different_objects}
 use Rattle.pks_laws_reader.proofs.Whole.{all_length, are_faultless}
 
 -- ---- spelling

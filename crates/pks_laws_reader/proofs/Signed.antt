@@ -1,5 +1,5 @@
 -- The signature that declarations without a fault give is valid.
-use Rattle.std.proofs.Common.{◌≡◌, inl, inr, ℕ, zero, suc, ◌+◌, ◌≤◌, ◌<◌, ◌==◌, Bool, true, false, ◌||◌, nat_lt, bytes_eq, unwrap_or, cond, List, [], ◌∷◌, ◌++◌, length, Option, Some, None, refl, sym, ap, ◌∙◌, subst, arith, slice_get}
+use Rattle.std.proofs.Common.{◌≡◌, inl, inr, ℕ, zero, suc, ◌+◌, ◌≤◌, ◌<◌, ◌==◌, Bool, true, false, ◌||◌, nat_lt, unwrap_or, cond, List, [], ◌∷◌, ◌++◌, length, Option, Some, None, refl, sym, ap, ◌∙◌, subst, arith, slice_get}
 use Rattle.std.specs.Prelude.{codes}
 use Rattle.std.specs.Option.{option_map_or, option_and_then}
 use Rattle.std.proofs.lemmas.Option.{none-some}
@@ -19,13 +19,13 @@ use Rattle.pks_reader_shape.specs.Language.{IsOf, Matches}
 use Rattle.pks_reader_names.specs.Tables.{number_of, entries_of, too_long, unknown}
 use Rattle.pks_reader_names.specs.Scopes.{Scope, signature_in, fits}
 use Rattle.pks_reader_names.specs.Parts.{text_of, behind, behind_head, section, first_forms, all_but_last, last_of, each, past}
-use Rattle.pks_reader_names.specs.Declarations.{Types, name_of, type_faults, types_named, first_in, types_in, most_objects, objects_section, section_faults, predicate_in, barred_faults, predicate_faults, predicates_section, result_named, function_in, has_object, empty_faults, function_faults, functions_section, parameter_in, within}
+use Rattle.pks_reader_names.specs.Declarations.{Types, type_faults, types_named, first_in, types_in, most_objects, objects_section, section_faults, predicate_in, barred_faults, predicate_faults, predicates_section, result_named, function_in, has_object, empty_faults, function_faults, functions_section, within}
 use Rattle.pks_reader_names.specs.Meaning.{scope_of}
-use Rattle.pks_reader_problem.specs.Sizes.{IsSmall}
+use Rattle.pks_reader_problem.proofs.Few.{scope_small}
 use Rattle.pks_laws_reader.specs.Facts.{EachForm, HasShapes}
 use Rattle.pks_laws_reader.proofs.Shapes.{of_sort, one_first, one_missing}
 use Rattle.pks_laws_reader.proofs.Numbers.{nil_parts, unless, known, within_table, each_got, each_forms, each_faultless}
-use Rattle.pks_laws_reader.proofs.Tabled.{every_form, each_of_first, first_count, last_holds, each_but_last, each_tabled, section_faultless, section_length, entries_length, types_within, types_length, earlier_types, types_count, objects_length, objects_within}
+use Rattle.pks_laws_reader.proofs.Tabled.{every_form, each_of_first, last_holds, each_but_last, each_tabled, section_faultless, entries_length, types_within, types_length, earlier_types, objects_within}
 
 -- ---- types by their parents alone
 
@@ -127,20 +127,6 @@ scope_shapes version domain =
           (every_form (λ f. length (types_named types 2 (all_but_last (behind_head f))) ≤ 2) (λ f. types_length types 2 (all_but_last (behind_head f))) (first_forms 32 (section (codes "functions") domain)));
     }
 
-few_objects : (version : ℕ) → most_objects version ≤ 256
-few_objects version = elim (version == 1) as (λ b. cond b 64 256 ≤ 256) [ true ↦ omega arith | false ↦ omega arith ]
-
-pub scope_small : (version : ℕ) (domain : Forms) → IsSmall (scope_of version domain)
-unfolding scope_of
-scope_small version domain =
-    let types = types_in (section (codes "types") domain) in record {
-      types = let a = types_count [] (first_forms 16 (section (codes "types") domain)) in let b = (first_count 16 (section (codes "types") domain)).0 in omega (arith, a, b);
-      objects = let a = objects_length types (most_objects version) [] (section (codes "objects") domain) in let b = few_objects version in omega (arith, a, b);
-      predicates = section_length first_in 32 (predicate_in types) (section (codes "predicates") domain);
-      functions = section_length first_in 32 (function_in types) (section (codes "functions") domain);
-      parameters = omega arith;
-    }
-
 pub signature_valid : (v : Version) (version : ℕ) (domain : Forms) → EachForm (IsOf v sort.Function) (section (codes "functions") domain)
     → objects_section version (scope_of version domain).types (section (codes "objects") domain) ≡ [] → predicates_section (scope_of version domain).types (section (codes "predicates") domain) ≡ []
     → functions_section (before (scope_of version domain)) (section (codes "functions") domain) ≡ [] → IsValidSignature (signature_in (scope_of version domain))
@@ -169,10 +155,6 @@ signature_valid v version domain are no_object no_predicate no_function =
       );
       values = λ f x e. (each_got (IsFunction (signature_in s)) (entries_of s.functions) f x functions e).1;
     }
-
-pub within_small : (s : Scope) (fs : Forms) → IsSmall s → IsSmall (within s fs)
-unfolding within
-within_small s fs small = record { types = small.types; objects = small.objects; predicates = small.predicates; functions = small.functions; parameters = section_length first_in 4 (parameter_in s.types) (section (codes "params") fs) }
 
 pub within_shapes : (s : Scope) (fs : Forms) → HasShapes s → HasShapes (within s fs)
 unfolding within

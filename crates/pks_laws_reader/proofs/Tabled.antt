@@ -13,7 +13,7 @@ use Rattle.pks_reader_names.specs.Tables.{Table, number_of, entries_of, declare,
 use Rattle.pks_reader_names.specs.Parts.{text_of, behind_head, first_forms, all_but_last, last_of}
 use Rattle.pks_reader_names.specs.Declarations.{name_of, name_faults, table_from, entries_faults, past_names, section_faults, section_table, Types, type_faults, type_named, types_named, parent_named, types_from, first_in, no_faults, objects_with, objects_from, objects_faults, objects_faults_in}
 use Rattle.pks_laws_reader.specs.Facts.{EachForm}
-use Rattle.pks_laws_reader.proofs.Numbers.{nil_parts, cons_nil, known, within_table}
+use Rattle.pks_laws_reader.proofs.Numbers.{nil_parts, known, within_table}
 
 -- ---- forms
 
@@ -25,18 +25,6 @@ pub each_of_first : (P : Form → Type 0) (n : ℕ) (fs : Forms) → EachForm P 
 each_of_first P zero fs a = tt
 each_of_first P (suc n) no_forms a = tt
 each_of_first P (suc n) (form f fs) a = (a.0, each_of_first P n fs a.1)
-
-pub first_count : (n : ℕ) (fs : Forms) → (count (first_forms n fs) ≤ n) × (count (first_forms n fs) ≤ count fs)
-first_count zero fs = (omega arith, omega arith)
-first_count (suc n) no_forms = (omega arith, omega arith)
-first_count (suc n) (form f fs) = let r = first_count n fs in let a = r.0 in let b = r.1 in (omega (arith, a), omega (arith, b))
-
--- nothing is past a number of them
-pub first_all : {X : Type 0} (table : Table X) (named : Form → Form) (n : ℕ) (fs : Forms) → past_names table named n fs ≡ [] → first_forms n fs ≡ fs
-first_all table named zero no_forms e = refl
-first_all table named (suc n) no_forms e = refl
-first_all table named zero (form f fs) e = absurd (cons_nil (nil_parts (name_faults table (named f)) ((place_of (named f), 208) ∷ []) e).1)
-first_all table named (suc n) (form f fs) e = ap (λ (gs : Forms). form f gs) (first_all table named n fs e)
 
 pub each_but_last : (P : Form → Type 0) (fs : Forms) → EachForm P fs → EachForm P (all_but_last fs)
 each_but_last P no_forms a = tt
@@ -60,17 +48,6 @@ module _ {X : Type 0} (P : X → Type 0) where
   each_tabled named said t (form f fs) a b = each_tabled named said (declare t (name_of (named f)) (said f)) fs (each_declared t (name_of (named f)) (said f) a b.0) b.1
 
 module _ {X : Type 0} where
-  declared_length : (t : Table X) (name : List ℕ) (x : X) → length (declare t name x) ≤ suc (length t)
-  declared_length [] name x = omega arith
-  declared_length (y ∷ ys) name x = let r = declared_length ys name x in elim (bytes_eq name y.0) as (λ b. length (cond b (y ∷ ys) (y ∷ declare ys name x)) ≤ suc (suc (length ys))) [ true ↦ omega arith | false ↦ omega (arith, r) ]
-
-  pub tabled_length : (named : Form → Form) (said : Form → X) (t : Table X) (fs : Forms) → length (table_from named said t fs) ≤ length t + count fs
-  tabled_length named said t no_forms = omega arith
-  tabled_length named said t (form f fs) =
-      let a = tabled_length named said (declare t (name_of (named f)) (said f)) fs in
-      let b = declared_length t (name_of (named f)) (said f) in
-      omega (arith, a, b)
-
   -- entries without a fault have none of their own
   pub entries_faultless : (named : Form → Form) (said : Form → X) (faults : Form → List Fault) (t : Table X) (fs : Forms) → entries_faults named said faults t fs ≡ [] → EachForm (λ f. faults f ≡ []) fs
   entries_faultless named said faults t no_forms e = tt
@@ -80,9 +57,6 @@ module _ {X : Type 0} where
 
   pub section_faultless : (named : Form → Form) (n : ℕ) (said : Form → X) (faults : Form → List Fault) (fs : Forms) → section_faults named n said faults fs ≡ [] → EachForm (λ f. faults f ≡ []) (first_forms n fs)
   section_faultless named n said faults fs e = entries_faultless named said faults [] (first_forms n fs) (nil_parts (entries_faults named said faults [] (first_forms n fs)) (past_names (section_table named n said fs) named n fs) e).0
-
-  pub section_length : (named : Form → Form) (n : ℕ) (said : Form → X) (fs : Forms) → length (section_table named n said fs) ≤ n
-  section_length named n said fs = let a = tabled_length named said [] (first_forms n fs) in let b = (first_count n fs).0 in omega (arith, a, b)
 
   pub entries_length : (t : Table X) → length (entries_of t) ≡ length t
   entries_length [] = refl
@@ -172,13 +146,6 @@ earlier_types t (form f fs) a = earlier_types (declare t (name_of (first_in f)) 
     parent no_forms up e = absurd (none-some up e)
     parent (form g gs) up e = let r = within_table t (text_of g) up e in omega (arith, r)
 
-pub types_count : (t : Types) (fs : Forms) → length (types_from t fs) ≤ length t + count fs
-types_count t no_forms = omega arith
-types_count t (form f fs) =
-    let a = types_count (declare t (name_of (first_in f)) (parent_named t (behind_head f))) fs in
-    let b = declared_length t (name_of (first_in f)) (parent_named t (behind_head f)) in
-    omega (arith, a, b)
-
 -- what holds of each parent
 pub each_parent : (P : Option ℕ → Type 0) (t : Types) (fs : Forms) → Each P (entries_of t) → EachForm (λ f. (t : Types) → P (parent_named t (behind_head f))) fs → Each P (entries_of (types_from t fs))
 each_parent P t no_forms a b = a
@@ -193,17 +160,6 @@ different_types t no_forms d = d
 different_types t (form f fs) d = different_types (declare t (name_of (first_in f)) (parent_named t (behind_head f))) fs (different_declared t (name_of (first_in f)) (parent_named t (behind_head f)) d)
 
 -- ---- objects
-
-pub objects_length : (types : Types) (n : ℕ) (t : Table ℕ) (fs : Forms) → length (objects_from types n t fs) ≤ length t + n
-objects_length types n t no_forms = omega arith
-objects_length types n t (form f fs) =
-    let table = table_from first_in (λ g. type_named types (first_in f)) t (first_forms n (behind_head f)) in
-    let a = objects_length types (n - count (behind_head f)) table fs in
-    let b = tabled_length first_in (λ g. type_named types (first_in f)) t (first_forms n (behind_head f)) in
-    let c = first_count n (behind_head f) in
-    let d = c.0 in
-    let e = c.1 in
-    omega (arith, a, b, d, e)
 
 pub objects_within : (types : Types) (n : ℕ) (t : Table ℕ) (fs : Forms) → Each (λ a. a < length types) (entries_of t) → objects_faults types n t fs ≡ [] → Each (λ a. a < length types) (entries_of (objects_from types n t fs))
 objects_within types n t no_forms a e = a

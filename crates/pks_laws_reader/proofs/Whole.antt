@@ -25,6 +25,8 @@ use Rattle.pks_reader_names.specs.Meaning.{scope_of, least}
 use Rattle.pks_reader_names.proofs.Least.{least_none}
 use Rattle.pks_reader_declared.specs.FirstFault.{declarations_fault, meaning_fault}
 use Rattle.pks_reader_problem.specs.Stated.{all, cost_in, query_in, effect_in, sense_in, add_in, schema_in, stated_in, start_in, aim_in, problem_in, problem_by}
+use Rattle.pks_reader_problem.proofs.Few.{first_count, section_length}
+use Rattle.pks_reader_problem.proofs.Walked.{first_all}
 use Rattle.pks_laws_reader.specs.Facts.{EachForm, HasShapes}
 use Rattle.pks_laws_reader.proofs.Shapes.{number_is, headed, of_sort, one_first, one_missing, Alone}
 use Rattle.pks_laws_reader.proofs.Numbers.{nil_parts, when, each_forms, each_faultless}
@@ -32,7 +34,7 @@ use Rattle.pks_laws_reader.proofs.Fitting.{own_types}
 use Rattle.pks_laws_reader.proofs.Literals.{each_all}
 use Rattle.pks_laws_reader.proofs.Sentences.{all_faultless, query_text, effect_text, sense_text, add_text, start_text, aim_text}
 use Rattle.pks_laws_reader.proofs.Sections.{action_is, params_are, pre_are, effects_are, senses_are, knows_are, cost_is, no_cost, domain_parts, domain_is, functions_are, types_are, actions_are, problem_is, init_are, goal_are}
-use Rattle.pks_laws_reader.proofs.Tabled.{each_of_first, first_count, first_all, each_tabled, section_faultless, section_length, entries_length, type_within, each_parent}
+use Rattle.pks_laws_reader.proofs.Tabled.{each_of_first, each_tabled, section_faultless, entries_length, type_within, each_parent}
 use Rattle.pks_laws_reader.proofs.Signed.{before, scope_shapes, signature_valid}
 use Rattle.pks_laws_reader.proofs.Costs.{cost_between}
 

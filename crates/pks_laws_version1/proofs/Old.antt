@@ -20,7 +20,8 @@ use Rattle.pks_reader_names.specs.Meaning.{scope_of}
 use Rattle.pks_reader_problem.specs.Stated.{Named, problem_in, problem_by}
 use Rattle.pks_reader_world.specs.Facts as facts
 use Rattle.pks_laws_reader.proofs.Whole.{first_version, valid_problem}
-use Rattle.pks_laws_reader.proofs.Tabled.{objects_length, entries_length}
+use Rattle.pks_reader_problem.proofs.Few.{objects_length}
+use Rattle.pks_laws_reader.proofs.Tabled.{entries_length}
 use Rattle.pks_reader.specs.Files.{IsFileOf, faults_by_section, FormsState}
 use Rattle.pks_reader.proofs.Firsts.{faultless, meaning_first}
 use Rattle.pks_reader.proofs.Parted.{of_version}

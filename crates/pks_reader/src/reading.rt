@@ -1,5 +1,5 @@
 //! A text to its problem.
-ghost use Rattle.std.specs.Prelude.{◌≡◌, ◌≤◌, ◌<◌, ℕ, map, length, slice_get, Some, None, IsOk, IfOk, IfErr, OnOk};
+ghost use Rattle.std.specs.Prelude.{◌≡◌, ◌≤◌, ◌<◌, map, length, slice_get, Some, None, IsOk, IfOk, IfErr, OnOk};
 ghost use Rattle.pks_terms.specs.declared.limits.TheConstants.{MOST_BYTES};
 ghost use Rattle.pks_terms.specs.Sets.{Each};
 ghost use Rattle.pks_terms.specs.Counts.{SignatureCounts, ProblemCounts};
@@ -10,10 +10,8 @@ ghost use Rattle.pks_text.specs.Forms.{Spells};
 ghost use Rattle.pks_text.specs.FormViews.{form_view, forms_view};
 ghost use Rattle.pks_reader_shape.specs.Files as shaping;
 ghost use Rattle.pks_reader_shape.specs.Files.{number_of};
-ghost use Rattle.pks_reader_names.specs.Meaning.{scope_of};
 ghost use Rattle.pks_reader_names.specs.Parts.{behind_head};
 ghost use Rattle.pks_reader_declared.specs.FirstFault.{meaning_fault};
-ghost use Rattle.pks_reader_declared.specs.Views.{declared_view};
 ghost use Rattle.pks_reader_problem.specs.Sizes.{AreCounted};
 ghost use Rattle.pks_reader_problem.specs.Spans.{named_of};
 ghost use Rattle.pks_reader_problem.specs.Stated.{Named, problem_in, named_in};
@@ -23,9 +21,7 @@ ghost use Rattle.pks_reader.specs.Files.{AreRefused, FormsState};
 ghost use Rattle.pks_reader.specs.Texts.{IsRefused, States};
 
 use crate::refusal::text_refused;
-use pks_reader_declared::meaning;
 use pks_reader_names::parts::behind_head;
-use pks_reader_names::scope::Declared;
 use pks_reader_problem::problem;
 use pks_reader_shape::grammar::Version;
 use pks_reader_shape::report::Turned;
@@ -34,27 +30,7 @@ use pks_terms::problem::Problem;
 use pks_text::{Form, Forms, forms};
 use std::alloc::Global;
 
-// What the domain declares, or the first fault of meaning.
-#[tactic(auto, using(pks_reader_world::proofs::Refused::this_found, pks_reader_world::proofs::Refused::this_plain, pks_reader_shape::proofs::Refusing::none_refused))]
-fn faultless<'s>(
-    alloc: Global,
-    number: u8,
-    domain: &[Form<'s>],
-    problem: &[Form<'s>],
-) -> Result<Declared<'s>, Turned>
-    ensures faultless { OnOk result (meaning_fault number (forms_view domain.now) (forms_view problem.now) ≡ None) }
-    ensures declared { IfOk result (λ d. declared_view d ≡ scope_of number (forms_view domain.now)) }
-    ensures refused { IfErr result (Turns (λ f. meaning_fault number (forms_view domain.now) (forms_view problem.now) ≡ Some f)) }
-{
-    let read = meaning(alloc, number, domain, problem)?;
-    match read.refusal {
-        Some(refusal) => Err(Turned::Refused(refusal)),
-        None => Ok(read.declared),
-    }
-}
-
 // The problem that a domain and a problem of the grammar state, or their first fault of meaning.
-#[tactic(auto, using(pks_reader_world::proofs::Refused::this_found, pks_reader_world::proofs::Refused::this_plain, pks_reader_shape::proofs::Refusing::none_refused))]
 fn problem_of_forms<'s>(
     alloc: Global,
     version: Version,
@@ -70,8 +46,7 @@ fn problem_of_forms<'s>(
     ensures refused { IfErr result (Turns (λ f. meaning_fault (number_of version) (behind_head (form_view domain.now)) (behind_head (form_view form.now)) ≡ Some f)) }
 {
     let number = version.number();
-    let declared = faultless(alloc, number, behind_head(domain), behind_head(form))?;
-    let stated = problem(alloc, number, &declared, behind_head(domain), form)?;
+    let stated = problem(alloc, number, behind_head(domain), form)?;
     Ok(stated)
 }
 

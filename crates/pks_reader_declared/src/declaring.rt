@@ -1,52 +1,26 @@
 //! Declarations, and their faults.
-ghost use Rattle.std.specs.Prelude.{◌≡◌, ℕ, List, [], ◌++◌, ◌≤◌, ◌<◌, length, map, take, Some, OnOk, IfOk, unwrap_or};
+ghost use Rattle.std.specs.Prelude.{◌≡◌, [], ◌≤◌, ◌<◌, length, take, Some, OnOk, unwrap_or};
 ghost use Rattle.pks_terms.specs.Views.{shape_of, types_of};
 ghost use Rattle.pks_text.specs.Forms.{place_of};
 ghost use Rattle.pks_text.specs.FormViews.{form_view, forms_view};
 ghost use Rattle.pks_reader_names.specs.Tables.{declare, number_of};
-ghost use Rattle.pks_reader_names.specs.Parts.{each, only, past, all_but_last};
+ghost use Rattle.pks_reader_names.specs.Parts.{each, only, past};
 ghost use Rattle.pks_reader_names.specs.Declarations.{first_or, first_in, second_in, name_of, name_faults, surplus_faults, past_names, type_faults, type_named, parent_named, types_named};
 ghost use Rattle.pks_reader_names.specs.Meaning.{all_noted};
 ghost use Rattle.pks_reader_names.specs.Views.{found_of, names_of, seen};
-ghost use Rattle.pks_reader_shape.specs.declared.report.Turned.TheVariants as turned;
 
 use indexmap::IndexMap;
 use pks_reader_names::parts::{behind_head, parts_of, text_of};
 use pks_reader_names::report::Report;
 use pks_reader_names::scope::{entry, name_in, number};
-use pks_reader_shape::report::Turned;
 use pks_terms::codes::{DECLARED_TWICE, PAST_LIMIT, UNDECLARED};
 use pks_terms::ids::TypeId;
 use pks_terms::problem::Shape;
 use pks_text::{Form, place_of};
-use std::alloc::{AllocError, AllocFailed};
+use std::alloc::AllocError;
 
 /// The types, each with its parent.
 pub type Types<'s> = IndexMap<&'s str, Option<u8>>;
-
-/// Want of memory.
-#[derive(Debug, Drop)]
-pub struct Memory;
-
-impl From<AllocError> for Memory {
-    fn from(_e: AllocError) -> Memory {
-        Memory
-    }
-}
-
-impl<T: Drop> From<AllocFailed<T>> for Memory {
-    fn from(_e: AllocFailed<T>) -> Memory {
-        Memory
-    }
-}
-
-impl From<Memory> for Turned {
-    ghost from_gives = { λ _ e. e ≡ turned.Memory };
-
-    fn from(_e: Memory) -> Turned {
-        Turned::Memory
-    }
-}
 
 // The first of some forms, or else this one.
 fn first_or<'f, 's>(form: &'f Form<'s>, forms: &'f [Form<'s>]) -> &'f Form<'s>
@@ -79,12 +53,12 @@ pub fn name_of<'s>(word: &Form<'s>) -> &'s str
     name_in(text_of(word))
 }
 
-/// A name, with what is said of it, unless it is there.
+/// A name, with what is said of it, unless it is there. The one error is want of memory.
 pub fn declare<'s, X: Copy + Drop>(
     table: &mut IndexMap<&'s str, X>,
     name: &'s str,
     said: X,
-) -> Result<(), Memory>
+) -> Result<(), AllocError>
     ensures { OnOk result (names_of table.new ≡ declare (names_of table.old) name.now said) }
 {
     if entry(table, name).is_none() {
@@ -111,7 +85,7 @@ pub fn declare_shape<'s>(
     table: &mut IndexMap<&'s str, Shape>,
     name: &'s str,
     shape: Shape,
-) -> Result<(), Memory>
+) -> Result<(), AllocError>
     ensures { OnOk result (seen shape_of (names_of table.new) ≡ declare (seen shape_of (names_of table.old)) name.now (shape_of shape)) }
 {
     declare(table, name, shape)?;
@@ -202,7 +176,7 @@ pub fn only_type(report: &mut Report, types: &Types<'_>, forms: &[Form<'_>])
 }
 
 /// The faults of forms that name types.
-#[tactic(auto, using(pks_reader_names::proofs::Noting::noted_both))]
+#[tactic(auto, using(pks_reader_names::proofs::Noting::noted_step, pks_reader_names::proofs::Noting::drop_view))]
 pub fn each_type(report: &mut Report, types: &Types<'_>, forms: &[Form<'_>])
     ensures { found_of report.new ≡ all_noted (found_of report.old) (each (type_faults (names_of types.now)) (forms_view forms.now)) }
 {

@@ -1,29 +1,28 @@
 //! The functions of a domain, and their faults.
-ghost use Rattle.std.specs.Prelude.{◌≡◌, ℕ, List, [], ◌++◌, ◌≤◌, take, map, length, Option, Some, OnOk, IfOk, option_map, slice_get, false};
+ghost use Rattle.std.specs.Prelude.{◌≡◌, [], ◌++◌, ◌≤◌, take, length, Option, Some, OnOk, IfOk, option_map, slice_get, false};
 ghost use Rattle.std.specs.Option.{option_map_or};
 ghost use Rattle.pks_terms.specs.Views.{shape_of, types_of};
 ghost use Rattle.pks_text.specs.FormViews.{form_view, forms_view};
 ghost use Rattle.pks_reader_names.specs.Tables.{declare, entries_of};
 ghost use Rattle.pks_reader_names.specs.Scopes.{fits};
-ghost use Rattle.pks_reader_names.specs.Parts.{each, past, all_but_last, last_of};
-ghost use Rattle.pks_reader_names.specs.Declarations.{first_in, name_of, name_faults, table_from, entries_faults, type_faults, result_named, function_in, has_object, empty_faults, function_faults, functions_in, functions_section};
+ghost use Rattle.pks_reader_names.specs.Parts.{past, all_but_last, last_of};
+ghost use Rattle.pks_reader_names.specs.Declarations.{first_in, name_of, name_faults, table_from, entries_faults, result_named, function_in, has_object, empty_faults, function_faults, functions_in, functions_section};
 ghost use Rattle.pks_reader_names.specs.Meaning.{all_noted};
 ghost use Rattle.pks_reader_names.specs.Views.{found_of, names_of, seen, scope_view};
 
 use crate::declaring::{
-    Memory, Types, check_shape_name, declare_shape, each_type, first_in, name_of, past_shape_names,
+    Types, check_shape_name, declare_shape, each_type, first_in, name_of, past_shape_names,
     small_number, two_types, type_named,
 };
 use indexmap::IndexMap;
-use pks_reader_names::parts::{behind_head, first_forms, text_of};
+use pks_reader_names::parts::{behind_head, first_forms, past, text_of};
 use pks_reader_names::report::Report;
 use pks_reader_names::scope::Scope;
-use pks_reader_names::sentences::past;
 use pks_terms::codes::EMPTY_TYPE;
 use pks_terms::ids::TypeId;
 use pks_terms::problem::Shape;
 use pks_text::{Form, place_of};
-use std::alloc::Global;
+use std::alloc::{AllocError, Global};
 
 // All but the last form.
 fn all_but_last<'f, 's>(forms: &'f [Form<'s>]) -> &'f [Form<'s>]
@@ -148,7 +147,7 @@ fn function_entry<'s>(
     scope: &Scope<'_, 's>,
     table: &mut IndexMap<&'s str, Shape>,
     form: &Form<'s>,
-) -> Result<(), Memory>
+) -> Result<(), AllocError>
     requires { length (scope_view scope.now).types ≤ 16 }
     ensures faults { OnOk result (found_of report.new ≡ all_noted (found_of report.old) (name_faults (seen shape_of (names_of table.old)) (first_in (form_view form.now)) ++ function_faults (scope_view scope.now) (form_view form.now))) }
     ensures table { OnOk result (seen shape_of (names_of table.new) ≡ declare (seen shape_of (names_of table.old)) (name_of (first_in (form_view form.now))) (function_in (scope_view scope.now).types (form_view form.now))) }
@@ -164,12 +163,13 @@ fn function_entry<'s>(
     Ok(())
 }
 
+#[tactic(auto, using(pks_reader_names::proofs::Noting::noted_step, pks_reader_names::proofs::Noting::drop_view))]
 fn function_entries<'s>(
     report: &mut Report,
     scope: &Scope<'_, 's>,
     table: &mut IndexMap<&'s str, Shape>,
     forms: &[Form<'s>],
-) -> Result<(), Memory>
+) -> Result<(), AllocError>
     requires { length (scope_view scope.now).types ≤ 16 }
     ensures faults { OnOk result (found_of report.new ≡ all_noted (found_of report.old) (entries_faults first_in (function_in (scope_view scope.now).types) (function_faults (scope_view scope.now)) (seen shape_of (names_of table.old)) (forms_view forms.now))) }
     ensures table { OnOk result (seen shape_of (names_of table.new) ≡ table_from first_in (function_in (scope_view scope.now).types) (seen shape_of (names_of table.old)) (forms_view forms.now)) }
@@ -187,7 +187,7 @@ pub fn functions<'s>(
     report: &mut Report,
     scope: &Scope<'_, 's>,
     forms: &[Form<'s>],
-) -> Result<IndexMap<&'s str, Shape>, Memory>
+) -> Result<IndexMap<&'s str, Shape>, AllocError>
     requires { length (scope_view scope.now).types ≤ 16 }
     ensures faults { OnOk result (found_of report.new ≡ all_noted (found_of report.old) (functions_section (scope_view scope.now) (forms_view forms.now))) }
     ensures table { IfOk result (λ table. seen shape_of (names_of table) ≡ functions_in (scope_view scope.now).types (forms_view forms.now)) }

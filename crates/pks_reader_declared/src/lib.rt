@@ -1,4 +1,4 @@
-//! What the sections of a domain declare, and the first fault of meaning of a file (`docs/FORMAT.md`).
+//! What the sections of a domain declare, and the first fault of the declarations (`docs/FORMAT.md`).
 #![tactic(auto)]
 
 mod actions;
@@ -8,5 +8,5 @@ mod functions;
 mod sections;
 
 pub use actions::{actions_among, parameters};
-pub use declaring::{Memory, first_in, name_of, second_in};
-pub use domain::{Domain, declarations, meaning};
+pub use declaring::{check_name, declare, first_in, name_of, past_second_names, second_in};
+pub use domain::{Domain, declarations};

@@ -1,35 +1,37 @@
 //! The sections of a domain: what they declare, and their faults.
-ghost use Rattle.std.specs.Prelude.{◌≡◌, ℕ, bytes_eq, take, List, [], ◌∷◌, ◌++◌, ◌+◌, ◌-◌, ◌≤◌, length, OnOk, IfOk, true, false, codes, option_map, if◌then◌else◌};
+ghost use Rattle.std.specs.Prelude.{◌≡◌, take, [], ◌++◌, ◌+◌, ◌-◌, ◌≤◌, length, OnOk, IfOk};
 ghost use Rattle.pks_terms.specs.Views.{shape_of, types_of};
 ghost use Rattle.pks_text.specs.Forms.{place_of};
 ghost use Rattle.pks_text.specs.FormViews.{form_view, forms_view};
-ghost use Rattle.pks_reader_names.specs.Tables.{declare, entries_of, number_of};
-ghost use Rattle.pks_reader_names.specs.Parts.{each, only, past, all_but_last, last_of, behind_head, first_forms};
-ghost use Rattle.pks_reader_names.specs.Declarations.{first_in, second_in, name_of, name_faults, table_from, entries_faults, past_names, section_faults, section_table, no_faults, type_faults, type_named, parent_named, types_from, types_faults, types_in, types_section, objects_with, objects_from, objects_faults_in, objects_faults, predicate_in, barred_faults, predicate_faults, predicates_in, predicates_section, result_named, function_in, has_object, empty_faults, function_faults, functions_in, functions_section, parameter_in, parameters_in, parameters_section};
+ghost use Rattle.pks_reader_names.specs.Tables.{declare};
+ghost use Rattle.pks_reader_names.specs.Parts.{each, only, past, behind_head, first_forms};
+ghost use Rattle.pks_reader_names.specs.Declarations.{first_in, name_of, name_faults, table_from, entries_faults, no_faults, type_faults, type_named, parent_named, types_from, types_faults, types_in, types_section, objects_with, objects_from, objects_faults_in, objects_faults, predicate_in, barred_faults, predicate_faults, predicates_in, predicates_section};
 ghost use Rattle.pks_reader_names.specs.Meaning.{all_noted};
-ghost use Rattle.pks_reader_names.specs.Views.{found_of, names_of, seen, scope_view};
+ghost use Rattle.pks_reader_names.specs.Views.{found_of, names_of, seen};
 
 use crate::declaring::{
-    Memory, Types, check_name, check_shape_name, declare, declare_shape, each_type, first_in,
-    name_of, only_type, parent_named, past_first_names, past_shape_names, second_in, three_types,
-    two_types, type_named, type_word,
+    Types, check_name, check_shape_name, declare, declare_shape, each_type, first_in, name_of,
+    only_type, parent_named, past_first_names, past_shape_names, three_types, type_named,
+    type_word,
 };
 use indexmap::IndexMap;
-use pks_reader_names::parts::{behind_head, first_forms, text_of};
+use pks_reader_names::parts::{behind_head, first_forms, past};
 use pks_reader_names::report::Report;
-use pks_reader_names::scope::Scope;
-use pks_reader_names::sentences::past;
 use pks_terms::codes::BARRED_NAME;
 use pks_terms::ids::TypeId;
 use pks_terms::problem::Shape;
 use pks_text::{Form, place_of};
-use std::alloc::Global;
+use std::alloc::{AllocError, Global};
 
 // ---- types
 
 // One type, with its faults.
 #[tactic(auto, using(pks_reader_names::proofs::Noting::noted_both))]
-fn type_entry<'s>(report: &mut Report, types: &mut Types<'s>, form: &Form<'s>) -> Result<(), Memory>
+fn type_entry<'s>(
+    report: &mut Report,
+    types: &mut Types<'s>,
+    form: &Form<'s>,
+) -> Result<(), AllocError>
     requires { length (names_of types.old) ≤ 16 }
     ensures faults { OnOk result (found_of report.new ≡ all_noted (found_of report.old) (name_faults (names_of types.old) (first_in (form_view form.now)) ++ only (type_faults (names_of types.old)) (behind_head (form_view form.now)))) }
     ensures table { OnOk result (names_of types.new ≡ declare (names_of types.old) (name_of (first_in (form_view form.now))) (parent_named (names_of types.old) (behind_head (form_view form.now)))) }
@@ -42,15 +44,17 @@ fn type_entry<'s>(report: &mut Report, types: &mut Types<'s>, form: &Form<'s>) -
     Ok(())
 }
 
+#[tactic(auto, using(pks_reader_names::proofs::Noting::noted_step, pks_reader_names::proofs::Noting::drop_view, crate::proofs::Steps::declare_length))]
 fn type_entries<'s>(
     report: &mut Report,
     types: &mut Types<'s>,
     forms: &[Form<'s>],
-) -> Result<(), Memory>
+) -> Result<(), AllocError>
     requires none { names_of types.old ≡ [] }
     requires few { length forms.now ≤ 16 }
     ensures faults { OnOk result (found_of report.new ≡ all_noted (found_of report.old) (types_faults [] (forms_view forms.now))) }
     ensures table { OnOk result (names_of types.new ≡ types_from [] (forms_view forms.now)) }
+    ensures few { OnOk result (length (names_of types.new) ≤ 16) }
 {
     for form in forms {
         type_entry(report, types, form)?;
@@ -64,9 +68,10 @@ pub fn types<'s>(
     alloc: Global,
     report: &mut Report,
     forms: &[Form<'s>],
-) -> Result<Types<'s>, Memory>
+) -> Result<Types<'s>, AllocError>
     ensures faults { OnOk result (found_of report.new ≡ all_noted (found_of report.old) (types_section (forms_view forms.now))) }
     ensures table { IfOk result (λ types. names_of types ≡ types_in (forms_view forms.now)) }
+    ensures few { IfOk result (λ types. length (names_of types) ≤ 16) }
 {
     let mut types = IndexMap::new(alloc);
     type_entries(report, &mut types, first_forms(16, forms))?;
@@ -82,7 +87,7 @@ fn object<'s>(
     table: &mut IndexMap<&'s str, u8>,
     own: u8,
     form: &Form<'s>,
-) -> Result<(), Memory>
+) -> Result<(), AllocError>
     ensures faults { OnOk result (found_of report.new ≡ all_noted (found_of report.old) (name_faults (names_of table.old) (first_in (form_view form.now)) ++ no_faults (form_view form.now))) }
     ensures table { OnOk result (names_of table.new ≡ declare (names_of table.old) (name_of (first_in (form_view form.now))) own) }
 {
@@ -97,7 +102,7 @@ fn object_names<'s>(
     table: &mut IndexMap<&'s str, u8>,
     own: u8,
     forms: &[Form<'s>],
-) -> Result<(), Memory>
+) -> Result<(), AllocError>
     ensures faults { OnOk result (found_of report.new ≡ all_noted (found_of report.old) (entries_faults first_in (λ f. own) no_faults (names_of table.old) (forms_view forms.now))) }
     ensures table { OnOk result (names_of table.new ≡ table_from first_in (λ f. own) (names_of table.old) (forms_view forms.now)) }
 {
@@ -115,7 +120,7 @@ fn object_entry<'s>(
     objects: &mut IndexMap<&'s str, u8>,
     n: usize,
     form: &Form<'s>,
-) -> Result<(), Memory>
+) -> Result<(), AllocError>
     requires { length (names_of types.now) ≤ 16 }
     ensures faults { OnOk result (found_of report.new ≡ all_noted (found_of report.old) (objects_faults_in (names_of types.now) n (names_of objects.old) (form_view form.now))) }
     ensures table { OnOk result (names_of objects.new ≡ objects_with (names_of types.now) n (names_of objects.old) (form_view form.now)) }
@@ -129,13 +134,14 @@ fn object_entry<'s>(
 }
 
 /// The objects of a section, of which n may come, and its faults.
+#[tactic(auto, using(pks_reader_names::proofs::Noting::noted_step, pks_reader_names::proofs::Noting::drop_view, pks_reader_shape::proofs::Counts::count_view))]
 pub fn objects<'s>(
     alloc: Global,
     report: &mut Report,
     types: &Types<'s>,
     n: usize,
     forms: &[Form<'s>],
-) -> Result<IndexMap<&'s str, u8>, Memory>
+) -> Result<IndexMap<&'s str, u8>, AllocError>
     requires { length (names_of types.now) ≤ 16 }
     ensures faults { OnOk result (found_of report.new ≡ all_noted (found_of report.old) (objects_faults (names_of types.now) n [] (forms_view forms.now))) }
     ensures table { IfOk result (λ objects. names_of objects ≡ objects_from (names_of types.now) n [] (forms_view forms.now)) }
@@ -181,6 +187,7 @@ fn report_not(report: &mut Report, form: &Form<'_>)
     }
 }
 
+#[tactic(auto, using(pks_reader_names::proofs::Noting::noted_step, pks_reader_names::proofs::Noting::drop_view))]
 fn barred_names(report: &mut Report, forms: &[Form<'_>])
     ensures { found_of report.new ≡ all_noted (found_of report.old) (each barred_faults (forms_view forms.now)) }
 {
@@ -204,7 +211,7 @@ fn predicate_entry<'s>(
     types: &Types<'s>,
     table: &mut IndexMap<&'s str, Shape>,
     form: &Form<'s>,
-) -> Result<(), Memory>
+) -> Result<(), AllocError>
     requires { length (names_of types.now) ≤ 16 }
     ensures faults { OnOk result (found_of report.new ≡ all_noted (found_of report.old) (name_faults (seen shape_of (names_of table.old)) (first_in (form_view form.now)) ++ predicate_faults (names_of types.now) (form_view form.now))) }
     ensures table { OnOk result (seen shape_of (names_of table.new) ≡ declare (seen shape_of (names_of table.old)) (name_of (first_in (form_view form.now))) (predicate_in (names_of types.now) (form_view form.now))) }
@@ -216,12 +223,13 @@ fn predicate_entry<'s>(
     Ok(())
 }
 
+#[tactic(auto, using(pks_reader_names::proofs::Noting::noted_step, pks_reader_names::proofs::Noting::drop_view))]
 fn predicate_entries<'s>(
     report: &mut Report,
     types: &Types<'s>,
     table: &mut IndexMap<&'s str, Shape>,
     forms: &[Form<'s>],
-) -> Result<(), Memory>
+) -> Result<(), AllocError>
     requires { length (names_of types.now) ≤ 16 }
     ensures faults { OnOk result (found_of report.new ≡ all_noted (found_of report.old) (entries_faults first_in (predicate_in (names_of types.now)) (predicate_faults (names_of types.now)) (seen shape_of (names_of table.old)) (forms_view forms.now))) }
     ensures table { OnOk result (seen shape_of (names_of table.new) ≡ table_from first_in (predicate_in (names_of types.now)) (seen shape_of (names_of table.old)) (forms_view forms.now)) }
@@ -239,7 +247,7 @@ pub fn predicates<'s>(
     report: &mut Report,
     types: &Types<'s>,
     forms: &[Form<'s>],
-) -> Result<IndexMap<&'s str, Shape>, Memory>
+) -> Result<IndexMap<&'s str, Shape>, AllocError>
     requires { length (names_of types.now) ≤ 16 }
     ensures faults { OnOk result (found_of report.new ≡ all_noted (found_of report.old) (predicates_section (names_of types.now) (forms_view forms.now))) }
     ensures table { IfOk result (λ table. seen shape_of (names_of table) ≡ predicates_in (names_of types.now) (forms_view forms.now)) }

@@ -49,7 +49,7 @@ least_is (g ∷ fs) f e = let k = kept g f fs e in record {
   least = λ h is_in. elim is_in [ inl same ↦ subst (λ (x : Fault). is_before x f ≡ false) (sym same) k.start | inr later ↦ k.least h later ];
 }
 
-some_stays : (g : Fault) (fs : List Fault) → all_noted (Some g) fs ≡ None → ⊥
+pub some_stays : (g : Fault) (fs : List Fault) → all_noted (Some g) fs ≡ None → ⊥
 some_stays g [] e = none e
   where
     none : Some g ≡ None → ⊥

@@ -18,6 +18,10 @@ pub noted_both : (found : Option Fault) (fs gs : List Fault) → all_noted found
 noted_both found [] gs = refl
 noted_both found (f ∷ fs) gs = noted_both (noted found f) fs gs
 
+-- the same the other way round, for loops
+pub noted_step : (found : Option Fault) (fs gs : List Fault) → all_noted (all_noted found fs) gs ≡ all_noted found (fs ++ gs)
+noted_step found fs gs = sym (noted_both found fs gs)
+
 -- what is unknown, asked by whether it is there
 pub noted_known : {X Y : Type 0} (v : X → Y) (r : Option X) (at code : ℕ) → cond (is_some r) [] ((at, code) ∷ []) ≡ unknown at code (option_map v r)
 noted_known v None at code = refl

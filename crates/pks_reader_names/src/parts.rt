@@ -1,10 +1,14 @@
 //! Parts of lists.
 ghost use Rattle.std.specs.Prelude.{◌≡◌, ◌≤◌, length};
 ghost use Rattle.pks_text.specs.FormViews.{form_view, forms_view};
-ghost use Rattle.pks_reader_names.specs.Parts.{text_of, parts_of, behind, behind_head, section, first_forms};
+ghost use Rattle.pks_reader_names.specs.Parts.{text_of, parts_of, behind, behind_head, section, first_forms, past};
+ghost use Rattle.pks_reader_names.specs.Meaning.{all_noted};
+ghost use Rattle.pks_reader_names.specs.Views.{found_of};
 
+use crate::report::Report;
 use pks_reader_shape::walk::is_headed;
-use pks_text::Form;
+use pks_terms::codes::PAST_LIMIT;
+use pks_text::{Form, place_of};
 
 /// The word, or nothing.
 pub fn text_of<'s>(form: &Form<'s>) -> &'s str
@@ -62,4 +66,14 @@ pub fn first_forms<'f, 's>(n: usize, forms: &'f [Form<'s>]) -> &'f [Form<'s>]
     ensures count { length result.now ≤ n }
 {
     &forms[..n.min(forms.len())]
+}
+
+/// The first part past a number of them.
+#[tactic(auto, using(crate::proofs::Past::past_view, crate::proofs::Past::past_none, crate::proofs::Noting::drop_view))]
+pub fn past(report: &mut Report, n: usize, forms: &[Form<'_>])
+    ensures { found_of report.new ≡ all_noted (found_of report.old) (past n (forms_view forms.now)) }
+{
+    if n < forms.len() {
+        report.note(place_of(&forms[n]), PAST_LIMIT);
+    }
 }

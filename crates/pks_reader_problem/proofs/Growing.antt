@@ -1,5 +1,5 @@
 -- Lists that grow at the end.
-use Rattle.std.proofs.Common.{◌≡◌, ◌∙◌, ℕ, ◌+◌, List, [], ◌∷◌, ◌++◌, map, refl, ap, append-nil}
+use Rattle.std.proofs.Common.{◌≡◌, List, [], ◌∷◌, ◌++◌, map, refl, ap, append-nil}
 use Rattle.pks_terms.specs.Sets.{Each}
 
 pub pushed : {X Y : Type 0} (v : X → Y) (xs : List X) (x : X) (ys : List Y) → map v (xs ++ x ∷ []) ++ ys ≡ map v xs ++ v x ∷ ys
@@ -12,3 +12,7 @@ each_pushed P (z ∷ xs) x before now = (before.0, each_pushed P xs x before.1 n
 
 pub to_the_end : {X : Type 0} (xs : List X) → xs ++ [] ≡ xs
 to_the_end xs = append-nil xs
+
+pub one_more : {X : Type 0} (xs : List X) (x : X) (ys : List X) → (xs ++ x ∷ []) ++ ys ≡ xs ++ x ∷ ys
+one_more [] x ys = refl
+one_more {X = X} (z ∷ xs) x ys = ap (λ (zs : List X). z ∷ zs) (one_more xs x ys)

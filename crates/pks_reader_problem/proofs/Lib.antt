@@ -1,6 +1,9 @@
 pub mod Counted
+pub mod Faultless
 pub mod Few
 pub mod FirstForms
 pub mod Growing
+pub mod Heads
 pub mod Seen
+pub mod Walked
 pub mod Whole

@@ -1,5 +1,5 @@
 -- Tables of shapes, as they lie in memory and as they are seen.
-use Rattle.std.proofs.Common.{Bor, map, ◌≡◌, ◌∙◌, ℕ, suc, List, [], ◌∷◌, length, Option, Some, None, position, bytes_eq, refl, ap, sym, unwrap_or}
+use Rattle.std.proofs.Common.{Bor, map, ◌≡◌, ◌∙◌, ℕ, suc, List, [], ◌∷◌, length, Option, refl, ap, sym, unwrap_or}
 use Rattle.std.specs.Map.{keys_of}
 use Rattle.pks_reader_names.specs.Tables.{Table, number_of, entries_of}
 use Rattle.pks_reader_names.specs.Views.{seen}

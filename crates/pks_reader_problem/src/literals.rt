@@ -1,22 +1,28 @@
-//! The literals, conjunctions and patterns that forms without a fault state.
-ghost use Rattle.std.specs.Prelude.{◌≡◌, ◌≤◌, false, length, map, take, option_map};
-ghost use Rattle.pks_terms.specs.Sets.{Each, set_of};
-ghost use Rattle.pks_terms.specs.Orders.{literal_cmp};
+//! The literals, conjunctions and patterns that forms state, and their faults.
+ghost use Rattle.std.specs.Prelude.{◌≡◌, ◌≤◌, map, take, option_map};
+ghost use Rattle.pks_terms.specs.Sets.{Each};
 ghost use Rattle.pks_terms.specs.Counts.{LiteralCounts, ConjCounts, SlotCounts, PatternCounts};
 ghost use Rattle.pks_terms.specs.Views.{term_of, atom_of, literal_of, conj_of, pattern_of};
+ghost use Rattle.pks_text.specs.Forms.{form, no_forms};
 ghost use Rattle.pks_text.specs.FormViews.{form_view, forms_view};
-ghost use Rattle.pks_reader_names.specs.Views.{scope_view};
+ghost use Rattle.pks_reader_names.specs.Parts.{each, only};
+ghost use Rattle.pks_reader_names.specs.Meaning.{all_noted};
+ghost use Rattle.pks_reader_names.specs.Terms.{equation_faults, positive_faults, literal_faults, pattern_faults};
+ghost use Rattle.pks_reader_names.specs.Sentences.{literals_faults};
+ghost use Rattle.pks_reader_names.specs.Views.{found_of, scope_view};
 ghost use Rattle.pks_reader_problem.specs.Sizes.{IsSmall};
-ghost use Rattle.pks_reader_problem.specs.Stated.{first, all, equation_in, signed_in, literal_in, conj_in, slot_in, pattern_in, one, no_literal, only_literal, no_pattern, only_pattern};
+ghost use Rattle.pks_reader_problem.specs.Stated.{first, equation_in, signed_in, literal_in, conj_in, slot_in, pattern_in, one, no_literal, only_literal, no_pattern, only_pattern};
 
-use crate::terms::{atom, predicate_number, term, term_place, term_word};
-use pks_reader_names::parts::{behind, behind_head, first_forms};
+use crate::faults::{report_apart, report_atom, report_wildcards};
+use crate::terms::{no_atom, predicate_number, stated, stated_atom, term};
+use pks_reader_names::parts::{behind, behind_head, past, text_of};
+use pks_reader_names::report::Report;
 use pks_reader_names::scope::Scope;
 use pks_reader_shape::walk::{head_of, is_headed};
 use pks_terms::ids::PredId;
-use pks_terms::literal::{Conj, Literal, Pattern, PredAtom, atom_literal, equation};
+use pks_terms::literal::{Conj, Literal, Pattern, atom_literal, equation};
 use pks_terms::term::{Term, UNUSED};
-use pks_text::Form;
+use pks_text::{Form, place_of};
 
 fn no_literal() -> Literal
     ensures says { literal_of result ≡ no_literal }
@@ -25,8 +31,35 @@ fn no_literal() -> Literal
     Literal::default()
 }
 
-fn equation_by(scope: &Scope<'_, '_>, sides: &[Form<'_>], positive: bool) -> Literal
+#[tactic(auto, using(pks_reader_names::proofs::Noting::noted_both))]
+fn two_sides<'s>(
+    report: &mut Report,
+    scope: &Scope<'_, 's>,
+    left: &Form<'s>,
+    right: &Form<'s>,
+    positive: bool,
+) -> Literal
     requires { IsSmall (scope_view scope.now) }
+    ensures faults { found_of report.new ≡ all_noted (found_of report.old) (equation_faults (scope_view scope.now) (form (form_view left.now) (form (form_view right.now) no_forms))) }
+    ensures says { literal_of result ≡ equation_in (scope_view scope.now) positive (form (form_view left.now) (form (form_view right.now) no_forms)) }
+    ensures counts { LiteralCounts result }
+{
+    let first = term(report, scope, left);
+    let second = term(report, scope, right);
+    let (own, other) = (scope.type_of(left), scope.type_of(right));
+    report_apart(report, scope, own, other, place_of(right));
+    equation(&first, &second, positive)
+}
+
+/// The equation that its sides state, affirmed or denied, and its faults.
+pub fn equation_by<'s>(
+    report: &mut Report,
+    scope: &Scope<'_, 's>,
+    sides: &[Form<'s>],
+    positive: bool,
+) -> Literal
+    requires { IsSmall (scope_view scope.now) }
+    ensures faults { found_of report.new ≡ all_noted (found_of report.old) (equation_faults (scope_view scope.now) (forms_view sides.now)) }
     ensures says { literal_of result ≡ equation_in (scope_view scope.now) positive (forms_view sides.now) }
     ensures counts { LiteralCounts result }
 {
@@ -34,100 +67,114 @@ fn equation_by(scope: &Scope<'_, '_>, sides: &[Form<'_>], positive: bool) -> Lit
         [] => no_literal(),
         [left, rest @ ..] => match rest {
             [] => no_literal(),
-            [right, _rest @ ..] => { equation(&term(scope, left), &term(scope, right), positive) }
+            [right, _rest @ ..] => two_sides(report, scope, left, right, positive),
         },
     }
 }
 
 // An atom or an equation, affirmed or denied.
-fn signed_literal(scope: &Scope<'_, '_>, form: &Form<'_>, positive: bool) -> Literal
+#[tactic(auto, using(pks_text::proofs::FormLaws::view_list))]
+fn signed_literal<'s>(
+    report: &mut Report,
+    scope: &Scope<'_, 's>,
+    form: &Form<'s>,
+    positive: bool,
+) -> Literal
     requires { IsSmall (scope_view scope.now) }
+    ensures faults { found_of report.new ≡ all_noted (found_of report.old) (positive_faults (scope_view scope.now) (form_view form.now)) }
     ensures says { literal_of result ≡ signed_in (scope_view scope.now) positive (form_view form.now) }
     ensures counts { LiteralCounts result }
 {
-    if is_headed("=", form) {
-        equation_by(scope, behind_head(form), positive)
-    } else {
-        atom_literal(&atom(scope, form), positive)
+    match form {
+        Form::Name(_) => atom_literal(&no_atom(), positive),
+        Form::List { parts, span } => {
+            if head_of(parts) == "=" {
+                equation_by(report, scope, behind(parts), positive)
+            } else {
+                report_atom(report, scope, parts, span.start);
+                atom_literal(&stated_atom(scope, parts), positive)
+            }
+        }
     }
 }
 
-fn only_denied(scope: &Scope<'_, '_>, forms: &[Form<'_>]) -> Literal
+/// The literal that a form states, and its faults.
+#[tactic(auto, unfolding(crate::specs::Stated::literal_in, pks_reader_names::specs::Terms::literal_faults))]
+pub fn literal<'s>(report: &mut Report, scope: &Scope<'_, 's>, form: &Form<'s>) -> Literal
     requires { IsSmall (scope_view scope.now) }
-    ensures says { literal_of result ≡ one no_literal (signed_in (scope_view scope.now) false) (forms_view forms.now) }
-    ensures counts { LiteralCounts result }
-{
-    match forms {
-        [] => no_literal(),
-        [form, _rest @ ..] => signed_literal(scope, form, false),
-    }
-}
-
-/// The literal that a form states.
-#[tactic(auto, unfolding(crate::specs::Stated::literal_in))]
-pub fn literal(scope: &Scope<'_, '_>, form: &Form<'_>) -> Literal
-    requires { IsSmall (scope_view scope.now) }
+    ensures faults { found_of report.new ≡ all_noted (found_of report.old) (literal_faults (scope_view scope.now) (form_view form.now)) }
     ensures says { literal_of result ≡ literal_in (scope_view scope.now) (form_view form.now) }
     ensures counts { LiteralCounts result }
 {
     if is_headed("not", form) {
-        only_denied(scope, behind_head(form))
+        match behind_head(form) {
+            [] => no_literal(),
+            [denied, _rest @ ..] => signed_literal(report, scope, denied, false),
+        }
     } else {
-        signed_literal(scope, form, true)
+        signed_literal(report, scope, form, true)
     }
 }
 
-/// The literal that the only form states.
-pub fn only_literal(scope: &Scope<'_, '_>, forms: &[Form<'_>]) -> Literal
+// The conjunction of the first four literals, and the faults of all.
+#[tactic(auto, using(pks_reader_names::proofs::Noting::noted_step, pks_reader_names::proofs::Noting::drop_view, crate::proofs::FirstForms::first_next, crate::proofs::FirstForms::first_past, crate::proofs::FirstForms::first_beyond, crate::proofs::FirstForms::none_left), unfolding(crate::specs::Stated::conj_in))]
+fn each_literal<'s>(report: &mut Report, scope: &Scope<'_, 's>, forms: &[Form<'s>]) -> Conj
     requires { IsSmall (scope_view scope.now) }
-    ensures says { literal_of result ≡ only_literal (scope_view scope.now) (forms_view forms.now) }
-    ensures counts { LiteralCounts result }
-{
-    match forms {
-        [] => no_literal(),
-        [form, _rest @ ..] => literal(scope, form),
-    }
-}
-
-fn conj_of_all(scope: &Scope<'_, '_>, forms: &[Form<'_>]) -> Conj
-    requires small { IsSmall (scope_view scope.now) }
-    requires few { length forms.now ≤ 4 }
-    ensures says { conj_of result ≡ set_of literal_cmp (all (literal_in (scope_view scope.now)) (forms_view forms.now)) }
+    ensures faults { found_of report.new ≡ all_noted (found_of report.old) (each (literal_faults (scope_view scope.now)) (forms_view forms.now)) }
+    ensures says { conj_of result ≡ conj_in (scope_view scope.now) (forms_view forms.now) }
     ensures counts { ConjCounts result }
 {
     let mut conj = Conj::empty();
     for i in 0..forms.len() {
-        conj = conj.with(&literal(scope, &forms[i]));
+        let literal = literal(report, scope, &forms[i]);
+        if i < 4 {
+            conj = conj.with(&literal);
+        }
     }
     conj
 }
 
-/// The conjunction that forms state, of which there are at most four.
-#[tactic(auto, using(crate::proofs::FirstForms::first_all), unfolding(crate::specs::Stated::conj_in))]
-pub fn conj(scope: &Scope<'_, '_>, forms: &[Form<'_>]) -> Conj
+/// The conjunction that forms state, of which there are at most four, and their faults.
+#[tactic(auto, using(pks_reader_names::proofs::Noting::noted_both))]
+pub fn conj<'s>(report: &mut Report, scope: &Scope<'_, 's>, forms: &[Form<'s>]) -> Conj
     requires { IsSmall (scope_view scope.now) }
+    ensures faults { found_of report.new ≡ all_noted (found_of report.old) (literals_faults (scope_view scope.now) 4 (forms_view forms.now)) }
     ensures says { conj_of result ≡ conj_in (scope_view scope.now) (forms_view forms.now) }
     ensures counts { ConjCounts result }
 {
-    conj_of_all(scope, first_forms(4, forms))
+    past(report, 4, forms);
+    each_literal(report, scope, forms)
+}
+
+/// The literal that the only form states, and the faults of all forms.
+#[tactic(auto, using(pks_reader_names::proofs::Noting::noted_step, pks_reader_names::proofs::Noting::drop_view))]
+pub fn only_literal<'s>(report: &mut Report, scope: &Scope<'_, 's>, forms: &[Form<'s>]) -> Literal
+    requires { IsSmall (scope_view scope.now) }
+    ensures faults { found_of report.new ≡ all_noted (found_of report.old) (literals_faults (scope_view scope.now) 4 (forms_view forms.now)) }
+    ensures says { literal_of result ≡ only_literal (scope_view scope.now) (forms_view forms.now) }
+    ensures counts { LiteralCounts result }
+{
+    past(report, 4, forms);
+    match forms {
+        [] => no_literal(),
+        [form, _rest @ ..] => {
+            let only = literal(report, scope, form);
+            let _more = each_literal(report, scope, behind(forms));
+            only
+        }
+    }
 }
 
 // A wildcard or a term.
-#[tactic(auto, using(pks_text::proofs::FormLaws::view_list), unfolding(crate::specs::Stated::term_in))]
 fn slot(scope: &Scope<'_, '_>, form: &Form<'_>) -> Option<Term>
     requires { IsSmall (scope_view scope.now) }
     ensures says { option_map term_of result ≡ slot_in (scope_view scope.now) (form_view form.now) }
     ensures counts { SlotCounts result }
 {
-    match form {
-        Form::Name(token) => {
-            if token.text == "_" {
-                None
-            } else {
-                Some(term_word(scope, token.text))
-            }
-        }
-        Form::List { parts, .. } => Some(term_place(scope, parts)),
+    if text_of(form) == "_" {
+        None
+    } else {
+        Some(stated(scope, form))
     }
 }
 
@@ -166,30 +213,34 @@ fn no_pattern() -> Pattern
     with_slots(PredId(0), 0, [none, none, none])
 }
 
-/// The pattern that a form states.
-#[tactic(auto, using(pks_text::proofs::FormLaws::view_list), unfolding(crate::specs::Stated::pattern_in))]
-pub fn pattern(scope: &Scope<'_, '_>, form: &Form<'_>) -> Pattern
+/// The pattern that a form states, and its faults.
+#[tactic(auto, using(pks_text::proofs::FormLaws::view_list, pks_reader_names::proofs::Noting::noted_both), unfolding(crate::specs::Stated::pattern_in, pks_reader_names::specs::Terms::pattern_faults))]
+fn pattern<'s>(report: &mut Report, scope: &Scope<'_, 's>, form: &Form<'s>) -> Pattern
     requires { IsSmall (scope_view scope.now) }
+    ensures faults { found_of report.new ≡ all_noted (found_of report.old) (pattern_faults (scope_view scope.now) (form_view form.now)) }
     ensures says { pattern_of result ≡ pattern_in (scope_view scope.now) (form_view form.now) }
     ensures counts { PatternCounts result }
 {
     match form {
         Form::Name(_) => no_pattern(),
-        Form::List { parts, .. } => {
+        Form::List { parts, span } => {
+            report_atom(report, scope, parts, span.start);
+            report_wildcards(report, 2, behind(parts));
             let pred = PredId(predicate_number(scope, head_of(parts)));
             pattern_by(scope, pred, behind(parts))
         }
     }
 }
 
-/// The pattern that the only form states.
-pub fn only_pattern(scope: &Scope<'_, '_>, forms: &[Form<'_>]) -> Pattern
+/// The pattern that the only form states, and its faults.
+pub fn only_pattern<'s>(report: &mut Report, scope: &Scope<'_, 's>, forms: &[Form<'s>]) -> Pattern
     requires { IsSmall (scope_view scope.now) }
+    ensures faults { found_of report.new ≡ all_noted (found_of report.old) (only (pattern_faults (scope_view scope.now)) (forms_view forms.now)) }
     ensures says { pattern_of result ≡ only_pattern (scope_view scope.now) (forms_view forms.now) }
     ensures counts { PatternCounts result }
 {
     match forms {
         [] => no_pattern(),
-        [form, _rest @ ..] => pattern(scope, form),
+        [form, _rest @ ..] => pattern(report, scope, form),
     }
 }

@@ -1,13 +1,14 @@
-//! The actions that a domain without a fault states.
-ghost use Rattle.std.specs.Prelude.{◌≡◌, ◌≤◌, ◌+◌, ◌*◌, ◌-◌, map, take, length, codes, IfOk};
-ghost use Rattle.std.specs.Map.{keys_of};
+//! What an action states where its parameters are declared, and the faults of its sections.
+ghost use Rattle.std.specs.Prelude.{◌≡◌, ◌≤◌, ◌+◌, ◌*◌, ◌-◌, map, take, codes, OnOk, IfOk};
 ghost use Rattle.pks_terms.specs.Sets.{Each};
 ghost use Rattle.pks_terms.specs.Counts.{SchemaCounts};
 ghost use Rattle.pks_terms.specs.ValidProblems.{AssignsToPlace};
 ghost use Rattle.pks_terms.specs.Views.{schema_of};
-ghost use Rattle.pks_text.specs.FormViews.{form_view, forms_view};
+ghost use Rattle.pks_text.specs.FormViews.{forms_view};
 ghost use Rattle.pks_reader_names.specs.Parts.{section};
-ghost use Rattle.pks_reader_names.specs.Views.{scope_view};
+ghost use Rattle.pks_reader_names.specs.Declarations.{parts_section};
+ghost use Rattle.pks_reader_names.specs.Meaning.{all_noted};
+ghost use Rattle.pks_reader_names.specs.Views.{found_of, scope_view};
 ghost use Rattle.pks_reader_problem.specs.Sizes.{IsSmall};
 ghost use Rattle.pks_reader_problem.specs.Spans.{bytes_in};
 ghost use Rattle.pks_reader_problem.specs.Stated.{all, numeral, cost_in, stated_in, bytes_of};
@@ -15,6 +16,7 @@ ghost use Rattle.pks_reader_problem.specs.Stated.{all, numeral, cost_in, stated_
 use crate::lists::{adds, effects, queries, senses};
 use crate::tables::sorts;
 use pks_reader_names::parts::{section, text_of};
+use pks_reader_names::report::Report;
 use pks_reader_names::scope::Scope;
 use pks_terms::schema::Schema;
 use pks_text::Form;
@@ -66,15 +68,18 @@ fn cost(forms: &[Form<'_>]) -> u32
     }
 }
 
-/// The action that the parts of its list state, where its parameters are declared. The one error is want of memory.
-#[tactic(auto, unfolding(crate::specs::Stated::stated_in))]
+/// The action that the parts of its list state, where its parameters are declared, and the faults of the sections that may
+/// name these. The one error is want of memory.
+#[tactic(auto, using(pks_reader_names::proofs::Noting::noted_both), unfolding(crate::specs::Stated::stated_in, pks_reader_names::specs::Declarations::parts_section))]
 pub fn schema<'s>(
     alloc: Global,
+    report: &mut Report,
     scope: &Scope<'_, 's>,
     name: &'s str,
     forms: &[Form<'s>],
 ) -> Result<Schema<'s>, AllocError>
     requires { IsSmall (scope_view scope.now) }
+    ensures faults { OnOk result (found_of report.new ≡ all_noted (found_of report.old) (parts_section (scope_view scope.now) (forms_view forms.now))) }
     ensures says { IfOk result (λ x. schema_of x ≡ stated_in (scope_view scope.now) (forms_view forms.now)) }
     ensures name { IfOk result (λ x. x.name.now ≡ name.now) }
     ensures counts { IfOk result (λ x. SchemaCounts x) }
@@ -82,10 +87,10 @@ pub fn schema<'s>(
     ensures spans { IfOk result (λ x. map (λ a. bytes_in a.span) x.adds ≡ all bytes_of (section (codes "knows") (forms_view forms.now))) }
 {
     let params = sorts(alloc, scope.parameters)?;
-    let pre = queries(alloc, scope, section("pre", forms))?;
-    let effects = effects(alloc, scope, section("effects", forms))?;
-    let senses = senses(alloc, scope, section("senses", forms))?;
-    let adds = adds(alloc, scope, section("knows", forms))?;
+    let pre = queries(alloc, report, scope, section("pre", forms))?;
+    let effects = effects(alloc, report, scope, section("effects", forms))?;
+    let senses = senses(alloc, report, scope, section("senses", forms))?;
+    let adds = adds(alloc, report, scope, section("knows", forms))?;
     Ok(Schema {
         name,
         cost: cost(section("cost", forms)),

@@ -1,24 +1,27 @@
-//! The terms and atoms that forms without a fault state.
+//! The terms and atoms that forms state.
 ghost use Rattle.std.specs.Prelude.{◌≡◌, ◌≤◌, [], map, take, length};
 ghost use Rattle.pks_terms.specs.Sets.{Each};
 ghost use Rattle.pks_terms.specs.Syntax.{Apply};
-ghost use Rattle.pks_terms.specs.Counts.{InnerCounts, TermCounts, ArgumentCounts, AtomCounts};
+ghost use Rattle.pks_terms.specs.Counts.{InnerCounts, TermCounts, AtomCounts};
 ghost use Rattle.pks_terms.specs.ValidProblems.{IsApplication};
-ghost use Rattle.pks_terms.specs.Views.{object_of, inner_of, term_of, arguments_in, atom_of, shape_of};
+ghost use Rattle.pks_terms.specs.Views.{object_of, inner_of, term_of, atom_of, shape_of};
 ghost use Rattle.pks_text.specs.FormViews.{form_view, forms_view};
-ghost use Rattle.pks_reader_shape.specs.Words.{is_variable};
 ghost use Rattle.pks_reader_names.specs.Tables.{number_of};
-ghost use Rattle.pks_reader_names.specs.Views.{names_of, scope_view};
+ghost use Rattle.pks_reader_names.specs.Meaning.{all_noted};
+ghost use Rattle.pks_reader_names.specs.Terms.{term_faults};
+ghost use Rattle.pks_reader_names.specs.Views.{found_of, names_of, scope_view};
 ghost use Rattle.pks_reader_problem.specs.Sizes.{IsSmall};
-ghost use Rattle.pks_reader_problem.specs.Stated.{or_zero, object_in, inner_in, term_in, first, word_in, place_in, atom_by, atom_in, no_atom};
+ghost use Rattle.pks_reader_problem.specs.Stated.{or_zero, object_in, inner_in, term_in, first, word_in, place_in, atom_by, no_atom};
 
+use crate::faults::report_term;
 use indexmap::IndexMap;
 use pks_reader_names::parts::behind;
+use pks_reader_names::report::Report;
 use pks_reader_names::scope::{Scope, name_in};
 use pks_reader_shape::walk::head_of;
 use pks_reader_shape::words::is_variable;
 use pks_terms::ids::{FnId, ObjId, PredId};
-use pks_terms::literal::{Arguments, PredAtom};
+use pks_terms::literal::PredAtom;
 use pks_terms::problem::Shape;
 use pks_terms::term::{Inner, Term, UNUSED};
 use pks_text::Form;
@@ -96,18 +99,12 @@ fn inner_place(scope: &Scope<'_, '_>, parts: &[Form<'_>]) -> Inner
     inner_of(fun, objects(scope, behind(parts)))
 }
 
-fn is_parameter(text: &str) -> bool
-    ensures { result ≡ is_variable text.now }
-{
-    is_variable(text.as_bytes())
-}
-
 fn inner_word(scope: &Scope<'_, '_>, text: &str) -> Inner
     requires { IsSmall (scope_view scope.now) }
     ensures says { inner_of result ≡ word_in (scope_view scope.now) text.now }
     ensures counts { InnerCounts result }
 {
-    if is_parameter(text) {
+    if is_variable(text.as_bytes()) {
         Inner::Param(number(scope.parameters, name_in(text)) as u8)
     } else {
         Inner::Obj(ObjId(number(&scope.declared.objects, text) as u16))
@@ -169,12 +166,12 @@ pub(crate) fn no_place() -> Term
     term_of(FnId(0), (0, [NO_INNER, NO_INNER]))
 }
 
-pub(crate) fn term_word(scope: &Scope<'_, '_>, text: &str) -> Term
+fn term_word(scope: &Scope<'_, '_>, text: &str) -> Term
     requires { IsSmall (scope_view scope.now) }
     ensures says { term_of result ≡ word_in (scope_view scope.now) text.now }
     ensures counts { TermCounts result }
 {
-    if is_parameter(text) {
+    if is_variable(text.as_bytes()) {
         Term::Param(number(scope.parameters, name_in(text)) as u8)
     } else {
         Term::Obj(ObjId(number(&scope.declared.objects, text) as u16))
@@ -183,7 +180,7 @@ pub(crate) fn term_word(scope: &Scope<'_, '_>, text: &str) -> Term
 
 /// The term that a form states.
 #[tactic(auto, using(pks_text::proofs::FormLaws::view_list), unfolding(crate::specs::Stated::term_in))]
-pub fn term(scope: &Scope<'_, '_>, form: &Form<'_>) -> Term
+pub fn stated(scope: &Scope<'_, '_>, form: &Form<'_>) -> Term
     requires { IsSmall (scope_view scope.now) }
     ensures says { term_of result ≡ term_in (scope_view scope.now) (form_view form.now) }
     ensures counts { TermCounts result }
@@ -194,72 +191,52 @@ pub fn term(scope: &Scope<'_, '_>, form: &Form<'_>) -> Term
     }
 }
 
-// The first three terms.
-fn three(scope: &Scope<'_, '_>, forms: &[Form<'_>]) -> Arguments
+/// The term that a form states, and its faults.
+pub fn term<'s>(report: &mut Report, scope: &Scope<'_, 's>, form: &Form<'s>) -> Term
     requires { IsSmall (scope_view scope.now) }
-    ensures says { arguments_in result ≡ first 3 (term_in (scope_view scope.now)) (forms_view forms.now) }
-    ensures counts { ArgumentCounts result }
+    ensures faults { found_of report.new ≡ all_noted (found_of report.old) (term_faults (scope_view scope.now) (form_view form.now)) }
+    ensures says { term_of result ≡ term_in (scope_view scope.now) (form_view form.now) }
+    ensures counts { TermCounts result }
 {
-    match forms {
-        [] => arguments(0, [UNUSED, UNUSED, UNUSED]),
-        [a, rest @ ..] => match rest {
-            [] => arguments(1, [term(scope, a), UNUSED, UNUSED]),
-            [b, rest @ ..] => match rest {
-                [] => arguments(2, [term(scope, a), term(scope, b), UNUSED]),
-                [c, _rest @ ..] => arguments(3, [term(scope, a), term(scope, b), term(scope, c)]),
-            },
-        },
-    }
+    report_term(report, scope, form);
+    stated(scope, form)
 }
 
-fn arguments(n: u8, items: [Term; 3]) -> Arguments
-    ensures says { arguments_in result ≡ map term_of (take n items) }
-    ensures counts { (n ≤ 3) → Each TermCounts (take n items) → ArgumentCounts result }
+fn atom(pred: PredId, n: u8, args: [Term; 3]) -> PredAtom
+    ensures says { atom_of result ≡ record { predicate = pred.0; arguments = map term_of (take n args) } }
+    ensures counts { n ≤ 3 → Each TermCounts (take n args) → AtomCounts result }
 {
-    Arguments { n, items }
+    PredAtom { pred, n, args }
 }
 
-fn pred_atom(pred: PredId, arguments: &Arguments) -> PredAtom
-    ensures says { atom_of result ≡ record { predicate = pred.0; arguments = arguments_in arguments.now } }
-    ensures counts { ArgumentCounts arguments.now → AtomCounts result }
-{
-    PredAtom {
-        pred,
-        n: arguments.n,
-        args: arguments.items,
-    }
-}
-
-// A predicate with its arguments, by the parts of its list.
-fn atom_by(scope: &Scope<'_, '_>, parts: &[Form<'_>]) -> PredAtom
+/// A predicate with its first three arguments, by the parts of its list.
+pub fn stated_atom(scope: &Scope<'_, '_>, parts: &[Form<'_>]) -> PredAtom
     requires { IsSmall (scope_view scope.now) }
     ensures says { atom_of result ≡ atom_by (scope_view scope.now) (forms_view parts.now) }
     ensures counts { AtomCounts result }
 {
     let pred = PredId(predicate_number(scope, head_of(parts)));
-    pred_atom(pred, &three(scope, behind(parts)))
+    match behind(parts) {
+        [] => atom(pred, 0, [UNUSED, UNUSED, UNUSED]),
+        [a, rest @ ..] => match rest {
+            [] => atom(pred, 1, [stated(scope, a), UNUSED, UNUSED]),
+            [b, rest @ ..] => match rest {
+                [] => atom(pred, 2, [stated(scope, a), stated(scope, b), UNUSED]),
+                [c, _rest @ ..] => {
+                    atom(
+                        pred,
+                        3,
+                        [stated(scope, a), stated(scope, b), stated(scope, c)],
+                    )
+                }
+            },
+        },
+    }
 }
 
 pub(crate) fn no_atom() -> PredAtom
     ensures says { atom_of result ≡ no_atom }
     ensures counts { AtomCounts result }
 {
-    PredAtom {
-        pred: PredId(0),
-        n: 0,
-        args: [UNUSED, UNUSED, UNUSED],
-    }
-}
-
-/// The atom that a form states.
-#[tactic(auto, using(pks_text::proofs::FormLaws::view_list))]
-pub fn atom(scope: &Scope<'_, '_>, form: &Form<'_>) -> PredAtom
-    requires { IsSmall (scope_view scope.now) }
-    ensures says { atom_of result ≡ atom_in (scope_view scope.now) (form_view form.now) }
-    ensures counts { AtomCounts result }
-{
-    match form {
-        Form::Name(_) => no_atom(),
-        Form::List { parts, .. } => atom_by(scope, parts),
-    }
+    atom(PredId(0), 0, [UNUSED, UNUSED, UNUSED])
 }

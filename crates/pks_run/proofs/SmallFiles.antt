@@ -23,7 +23,7 @@ use Rattle.pks_reader_names.specs.Meaning.{scope_of}
 use Rattle.pks_reader_problem.specs.Stated.{Named, first, all, literal_in, conj_in, only_literal, only_term, only_pattern, item_in, given_in, add_in, stated_in, schema_in, start_in, problem_by, problem_in, action_name, named_by}
 use Rattle.pks_laws_reader.specs.Facts.{EachForm}
 use Rattle.pks_laws_reader.proofs.Numbers.{nil_parts}
-use Rattle.pks_laws_reader.proofs.Tabled.{first_all}
+use Rattle.pks_reader_problem.proofs.Walked.{first_all}
 use Rattle.pks_reader.specs.Files.{faults_by_section}
 use Rattle.pks_reader.specs.Inputs.{Reads, IsRead}
 use Rattle.pks_agent.specs.Bounds.{IsShortTalk, HasShortNames, IsSmallStart, IsSmallItem, HasSmallFormulas}

@@ -1,4 +1,4 @@
-use Rattle.pks_laws_reader.proofs.Signed.{scope_small}
+use Rattle.pks_reader_problem.proofs.Few.{scope_small}
 use Rattle.pks_laws_reader.proofs.laws.declared_names_are_few.Goals as goal
 
 pub returns : goal.returns

@@ -1,6 +1,5 @@
 use Rattle.std.proofs.Common.{◌≡◌, ◌++◌, map, option_map}
 use Rattle.std.specs.HashMap.{values}
-use Rattle.pks_terms.specs.Views.{shape_of}
 use Rattle.pks_reader_problem.proofs.tables.parents.Given as goal
 
 abbrev pub invariant-loop-said : goal.invariant-loop-said

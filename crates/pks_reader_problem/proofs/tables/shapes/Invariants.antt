@@ -1,4 +1,4 @@
-use Rattle.std.proofs.Common.{◌≡◌, ◌++◌, map, option_map}
+use Rattle.std.proofs.Common.{◌≡◌, ◌++◌, map}
 use Rattle.std.specs.HashMap.{values}
 use Rattle.pks_terms.specs.Sets.{Each}
 use Rattle.pks_terms.specs.Views.{shape_of}

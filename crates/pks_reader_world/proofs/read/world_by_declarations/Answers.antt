@@ -1,8 +1,9 @@
 use Rattle.std.proofs.Common.{sym, subst}
 use Rattle.pks_text.specs.FormViews.{forms_view}
 use Rattle.pks_reader_problem.specs.Sizes.{IsSmall}
+use Rattle.pks_reader_problem.proofs.Few.{scope_small}
 use Rattle.pks_laws_reader.specs.Facts.{HasShapes}
-use Rattle.pks_laws_reader.proofs.Signed.{scope_small, scope_shapes}
+use Rattle.pks_laws_reader.proofs.Signed.{scope_shapes}
 use Rattle.pks_reader_world.proofs.read.world_by_declarations.Goals as goal
 
 pub among-requires-clause-small : goal.among-requires-clause-small
