@@ -1,5 +1,5 @@
 -- Each place of a signature has a value exactly where the walk over them finds none without.
-use Rattle.std.proofs.Common.{◌≡◌, ◌+◌, ℕ, zero, suc, Bool, true, List, [], ◌∷◌, ◌++◌, slice_get, Some, refl, sym, subst, arith, append-nil, append_assoc, ⊎_elim, inl, inr}
+use Rattle.std.proofs.Common.{◌≡◌, ◌+◌, ℕ, zero, suc, Bool, true, List, [], ◌∷◌, ◌++◌, slice_get, Some, refl, sym, subst, arith, append-nil, append_assoc}
 use Rattle.std.specs.List.{list_all}
 use Rattle.std.proofs.lemmas.Bool.{and_parts, and_from}
 use Rattle.std.proofs.lemmas.Option.{none-some, same_Some}
@@ -7,18 +7,15 @@ use Rattle.pks_terms.specs.Sets.{IsIn}
 use Rattle.pks_terms.specs.Syntax.{place}
 use Rattle.pks_terms.specs.Signatures.{Shape, Signature, objects_of}
 use Rattle.pks_terms.specs.Meaning.{AreOfTypes}
+use Rattle.pks_terms.proofs.ListLaws.{each_in, each_of, each_from_all, all_from_each}
 use Rattle.pks_reader_world.specs.Facts.{Given}
 use Rattle.pks_reader_world.specs.Places.{all_given, have_values, is_full, IsFull}
 
 each_passes : (p : ℕ → Bool) (xs : List ℕ) (x : ℕ) → list_all p xs ≡ true → IsIn x xs → p x ≡ true
-each_passes p [] x h i = absurd i
-each_passes p (y ∷ ys) x h i =
-    let both = and_parts (p y) (list_all p ys) h in
-    ⊎_elim (λ (e : y ≡ x). subst (λ z. p z ≡ true) e both.0) (λ j. each_passes p ys x both.1 j) i
+each_passes p xs x h i = each_in (λ y. p y ≡ true) xs x (each_from_all (λ y. p y ≡ true) p (λ y e. e) xs h) i
 
 all_pass : (p : ℕ → Bool) (xs : List ℕ) → ((x : ℕ) → IsIn x xs → p x ≡ true) → list_all p xs ≡ true
-all_pass p [] h = refl
-all_pass p (y ∷ ys) h = and_from (p y) (list_all p ys) (h y (inl refl)) (all_pass p ys (λ x i. h x (inr i)))
+all_pass p xs h = all_from_each p xs (each_of (λ y. p y ≡ true) xs h)
 
 module _ (s : Signature) (given : Given) where
   -- the value at one place

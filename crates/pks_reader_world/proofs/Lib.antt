@@ -1,8 +1,6 @@
 mod Covering
-mod Giving
-mod Sizes
-mod Steps
+pub mod Giving
 mod Once
 mod Putting
-mod TypedFacts
+pub mod Typed
 pub mod Refused

@@ -14,7 +14,7 @@ use Rattle.pks_world.specs.Contents.{ground, atom_eq}
 use Rattle.pks_world.specs.First.{first_world}
 use Rattle.pks_reader_world.specs.Naming.{object_named, atom_named, place_named}
 use Rattle.pks_reader_world.specs.Stated.{is_listed, value_given, world_in}
-use Rattle.pks_reader_world.specs.Filling.{with_atom, with_facts, with_place, with_entries}
+use Rattle.pks_reader_world.specs.Filling.{with_atom, with_facts, with_place, with_entries, with_all}
 
 turned : (a b c : Bool) → (b || cond a true c) ≡ ((a || b) || c)
 turned true true c = refl
@@ -47,7 +47,7 @@ module _ (s : Scope) where
       entries_put (with_place w (place_named s (first_in e)) (object_named s (second_in e))) es
       ∙ one_place (place_named s (first_in e)) (object_named s (second_in e)) (λ f ds. value_given s es (place f ds)) w
 
-  pub all_put : (fs : Forms) → with_entries s (with_facts s (first_world (signature_in s)) (section (codes "true") fs)) (section (codes "values") fs) ≡ world_in s fs
+  pub all_put : (fs : Forms) → with_all s (first_world (signature_in s)) fs ≡ world_in s fs
   unfolding world_in
   all_put fs =
       let first = first_world (signature_in s) in

@@ -1,18 +1,13 @@
--- Objects, given places and refusals, as they lie in memory.
-use Rattle.std.specs.Prelude.{ℕ, List, map, take, ◌≡◌, Option, Some}
+-- Given places and refusals, as they lie in memory.
+use Rattle.std.specs.Prelude.{map, ◌≡◌, Option, Some}
 use Rattle.std.specs.BTreeSet.{BTreeSet}
 use Rattle.pks_terms.specs.declared.term.Term.{Term}
-use Rattle.pks_terms.specs.Views.{object_of, term_of}
+use Rattle.pks_terms.specs.Views.{term_of}
 use Rattle.pks_world.specs.Contents.{has_place}
 use Rattle.pks_reader_shape.specs.Files.{Fault}
 use Rattle.pks_reader_shape.specs.Refusals.{Turns}
 use Rattle.pks_reader_shape.specs.declared.report.Turned.{Turned}
 use Rattle.pks_reader_world.specs.Facts.{Given}
-use Rattle.pks_reader_world.specs.declared.naming.Objects.{Objects}
-
--- the objects in use
-abbrev pub objects_in : Objects → List ℕ
-objects_in o = map object_of (take o.n o.items)
 
 -- the places that are kept
 abbrev pub given_of : BTreeSet Term → Given

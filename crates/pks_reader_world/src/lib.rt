@@ -1,8 +1,7 @@
 //! The world that a file states, and the first fault of its world (`docs/FORMAT.md`).
 #![tactic(auto)]
 
-mod faults;
-mod fill;
+mod facts;
 pub mod laws;
 mod naming;
 mod places;

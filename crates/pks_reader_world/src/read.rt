@@ -7,23 +7,19 @@ ghost use Rattle.pks_reader_shape.specs.Files.{world_shape_fault};
 ghost use Rattle.pks_reader_names.specs.Scopes.{signature_in};
 ghost use Rattle.pks_reader_names.specs.Parts.{behind_head};
 ghost use Rattle.pks_reader_names.specs.Views.{scope_view};
-ghost use Rattle.pks_reader_declared.specs.Views.{declared_view};
-ghost use Rattle.pks_reader_problem.specs.Sizes.{IsSmall};
-ghost use Rattle.pks_laws_reader.specs.Facts.{HasShapes};
 ghost use Rattle.pks_world.specs.Contents.{world_of};
 ghost use Rattle.pks_world.specs.Counts.{WorldCounts};
 ghost use Rattle.pks_world.specs.First.{IsWorldOf};
 ghost use Rattle.pks_reader_world.specs.Stated.{world_in, contents_fault, parts_at, place_at, declared_by, world_fault, world_by};
 ghost use Rattle.pks_reader_world.specs.Views.{IsRefusal};
 
-use crate::faults::facts;
-use crate::fill::fill_world;
+use crate::facts::facts;
 use crate::places::is_full;
 use indexmap::IndexMap;
 use pks_reader_declared::declarations;
 use pks_reader_names::parts::behind_head;
 use pks_reader_names::report::Report;
-use pks_reader_names::scope::{Declared, Scope};
+use pks_reader_names::scope::Scope;
 use pks_reader_shape::report::{Refusal, Turned};
 use pks_reader_shape::shape::{top_at, version_of, world_shape_fault};
 use pks_terms::codes::{VALUE_MISSING, WORLD_MISSING};
@@ -32,14 +28,7 @@ use pks_text::{Form, Forms, place_of};
 use pks_world::World;
 use std::alloc::Global;
 
-// The refusal of the world for a fault of its own.
-fn refusal_at(at: u32, code: u16) -> Turned
-    ensures { IsRefusal (Some (at, code)) result }
-{
-    Turned::Refused(Refusal::plain(at, code))
-}
-
-// The parts behind its head.
+// The parts behind the head of the top form with this number.
 fn parts_at<'f, 's>(top: &'f [Form<'s>], i: usize) -> &'f [Form<'s>]
     ensures { forms_view result.now ≡ parts_at (map form_view top.now) i }
 {
@@ -67,8 +56,6 @@ fn world_of_form(
     scope: &Scope<'_, '_>,
     form: &Form<'_>,
 ) -> Result<World, Turned>
-    requires small { IsSmall (scope_view scope.now) }
-    requires shapes { HasShapes (scope_view scope.now) }
     requires valid { IsValidSignature (signature_of p.now.signature) }
     requires stated { signature_of p.now.signature ≡ signature_in (scope_view scope.now) }
     ensures says { IfOk result (λ w. world_of w ≡ world_in (scope_view scope.now) (behind_head (form_view form.now))) }
@@ -78,61 +65,14 @@ fn world_of_form(
     ensures refused { IfErr result (IsRefusal (contents_fault (scope_view scope.now) (form_view form.now))) }
 {
     let mut report = Report::new();
-    let given = facts(alloc, &mut report, scope, behind_head(form))?;
+    let mut world = World::first(alloc, p)?;
+    let given = facts(alloc, &mut report, scope, &mut world, behind_head(form))?;
     if let Some(refusal) = report.refusal() {
         return Err(Turned::Refused(refusal));
     }
     if !is_full(&p.signature, &given) {
-        return Err(refusal_at(place_of(form), VALUE_MISSING));
+        return Err(Turned::Refused(Refusal::plain(place_of(form), VALUE_MISSING)));
     }
-    let world = fill_world(alloc, p, scope, behind_head(form))?;
-    Ok(world)
-}
-
-// The same where these names are declared.
-fn among(
-    alloc: Global,
-    p: &Problem<'_>,
-    declared: &Declared<'_>,
-    form: &Form<'_>,
-) -> Result<World, Turned>
-    requires small { IsSmall (declared_view declared.now) }
-    requires shapes { HasShapes (declared_view declared.now) }
-    requires valid { IsValidSignature (signature_of p.now.signature) }
-    requires stated { signature_of p.now.signature ≡ signature_in (declared_view declared.now) }
-    ensures says { IfOk result (λ w. world_of w ≡ world_in (declared_view declared.now) (behind_head (form_view form.now))) }
-    ensures of_signature { IfOk result (IsWorldOf (signature_of p.now.signature)) }
-    ensures counts { IfOk result WorldCounts }
-    ensures fine { OnOk result (contents_fault (declared_view declared.now) (form_view form.now) ≡ None) }
-    ensures refused { IfErr result (IsRefusal (contents_fault (declared_view declared.now) (form_view form.now))) }
-{
-    let none = IndexMap::new(alloc);
-    let scope = Scope {
-        declared,
-        parameters: &none,
-    };
-    let world = world_of_form(alloc, p, &scope, form)?;
-    Ok(world)
-}
-
-// The same where the top forms declare the names.
-#[tactic(auto, unfolding(crate::specs::Stated::declared_by))]
-fn world_by_declarations(
-    alloc: Global,
-    p: &Problem<'_>,
-    top: &[Form<'_>],
-    form: &Form<'_>,
-) -> Result<World, Turned>
-    requires valid { IsValidSignature (signature_of p.now.signature) }
-    requires stated { signature_of p.now.signature ≡ signature_in (declared_by (map form_view top.now)) }
-    ensures says { IfOk result (λ w. world_of w ≡ world_in (declared_by (map form_view top.now)) (behind_head (form_view form.now))) }
-    ensures of_signature { IfOk result (IsWorldOf (signature_of p.now.signature)) }
-    ensures counts { IfOk result WorldCounts }
-    ensures fine { OnOk result (contents_fault (declared_by (map form_view top.now)) (form_view form.now) ≡ None) }
-    ensures refused { IfErr result (IsRefusal (contents_fault (declared_by (map form_view top.now)) (form_view form.now))) }
-{
-    let domain = declarations(alloc, version_of(top).number(), parts_at(top, 1))?;
-    let world = among(alloc, p, &domain.declared, form)?;
     Ok(world)
 }
 
@@ -141,7 +81,7 @@ fn world_by_declarations(
 ///
 /// `Refused` has the first fault of the file's world, and comes exactly where there is one, unless memory is wanting: 310
 /// where there is no world, 300 for its shape, then 301, 302 and 304 for its facts, and then 303. `docs/FORMAT.md`.
-#[tactic(auto, unfolding(crate::specs::Stated::world_fault, crate::specs::Stated::world_by), using(crate::proofs::Refused::this_found, crate::proofs::Refused::this_plain, pks_reader_shape::proofs::Refusing::none_refused))]
+#[tactic(auto, unfolding(crate::specs::Stated::world_fault, crate::specs::Stated::world_by, crate::specs::Stated::declared_by), using(crate::proofs::Refused::this_found, crate::proofs::Refused::this_plain, pks_reader_shape::proofs::Refusing::none_refused))]
 pub fn read_world(alloc: Global, p: &Problem<'_>, forms: &Forms<'_>) -> Result<World, Turned>
     requires valid { IsValidSignature (signature_of p.now.signature) }
     requires stated { signature_of p.now.signature ≡ signature_in (declared_by (map form_view forms.now.top.items)) }
@@ -153,13 +93,21 @@ pub fn read_world(alloc: Global, p: &Problem<'_>, forms: &Forms<'_>) -> Result<W
 {
     let top = forms.top.as_slice();
     match top_at(top, 3) {
-        None => Err(refusal_at(place_at(top, 2), WORLD_MISSING)),
+        None => Err(Turned::Refused(Refusal::plain(place_at(top, 2), WORLD_MISSING))),
         Some(form) => {
             if let Some(refusal) = world_shape_fault(top) {
                 return Err(Turned::Refused(refusal));
             }
-            let world = world_by_declarations(alloc, p, top, form)?;
-            Ok(world)
+            let domain = declarations(alloc, version_of(top).number(), parts_at(top, 1))?;
+            let none = IndexMap::new(alloc);
+            let scope = Scope {
+                declared: &domain.declared,
+                parameters: &none,
+            };
+            match world_of_form(alloc, p, &scope, form) {
+                Ok(world) => Ok(world),
+                Err(turned) => Err(turned),
+            }
         }
     }
 }

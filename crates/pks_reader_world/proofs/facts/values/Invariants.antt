@@ -1,0 +1,18 @@
+use Rattle.std.proofs.Common.{◌≡◌, None, drop}
+use Rattle.pks_text.specs.FormViews.{forms_view}
+use Rattle.pks_reader_names.specs.Meaning.{all_noted}
+use Rattle.pks_reader_names.specs.Views.{found_of, scope_view}
+use Rattle.pks_world.specs.Contents.{world_of}
+use Rattle.pks_reader_world.specs.Facts.{values_faults, given_by}
+use Rattle.pks_reader_world.specs.Filling.{with_entries}
+use Rattle.pks_reader_world.specs.Typing.{IsReady}
+use Rattle.pks_reader_world.specs.Views.{given_of}
+use Rattle.pks_reader_world.proofs.facts.values.Given as goal
+
+abbrev pub invariant-loop-form : goal.invariant-loop-form
+invariant-loop-form l = record {
+  faults : all_noted (found_of l.report) (values_faults (scope_view l.scope) (given_of l.given) (forms_view (drop l.form-index l.forms))) ≡ all_noted (found_of l.fn.report) (values_faults (scope_view l.scope) (given_of l.fn.given) (forms_view l.forms));
+  given : given_by (scope_view l.scope) (given_of l.given) (forms_view (drop l.form-index l.forms)) ≡ given_by (scope_view l.scope) (given_of l.fn.given) (forms_view l.forms);
+  says : found_of l.report ≡ None → with_entries (scope_view l.scope) (world_of l.world) (forms_view (drop l.form-index l.forms)) ≡ with_entries (scope_view l.scope) (world_of l.fn.world) (forms_view l.forms);
+  ready : IsReady (scope_view l.scope) l.world;
+}
