@@ -4,58 +4,44 @@ use Rattle.std.specs.List.{list_all}
 use Rattle.std.specs.Char.{is_ascii_digit}
 use Rattle.std.proofs.lemmas.Bool.{false≢true, and_parts}
 use Rattle.std.proofs.lemmas.Bool.Decides.{nat_tests}
+use Rattle.std.proofs.lemmas.List.{take_all}
 use Rattle.pks_reader_shape.specs.Words.{is_number}
 use Rattle.pks_reader_problem.specs.Stated.{numeral}
 
 digit : (b : ℕ) → is_ascii_digit b ≡ true → (48 ≤ b) × (b ≤ 57)
-digit b e = (low b e, high b e)
-  where
-    low : (b : ℕ) → is_ascii_digit b ≡ true → 48 ≤ b
-    low b e = grind (arith, nat_tests)
+digit b e = grind (arith, nat_tests)
 
-    high : (b : ℕ) → is_ascii_digit b ≡ true → b ≤ 57
-    high b e = grind (arith, nat_tests)
+leading : (b : ℕ) → (is_ascii_digit b && not (b == 48)) ≡ true → 49 ≤ b
+leading b e = grind (arith, nat_tests)
 
-leading : (b : ℕ) → (is_ascii_digit b && not (b == 48)) ≡ true → (49 ≤ b) × (b ≤ 57)
-leading b e = let both = and_parts (is_ascii_digit b) (not (b == 48)) e in let d = digit b both.0 in let l = d.0 in let h = d.1 in (above b l both.1, h)
-  where
-    above : (b : ℕ) → 48 ≤ b → not (b == 48) ≡ true → 49 ≤ b
-    above b l e = grind (arith, nat_tests)
+few : (n : ℕ) → nat_lt 4 (suc n) ≡ false → n ≤ 3
+few n e = grind (arith, nat_tests)
 
-step : (n b low high : ℕ) → is_ascii_digit b ≡ true → (low ≤ n) × (n ≤ high) → (low ≤ n * 10 + (b - 48)) × (n * 10 + (b - 48) ≤ high * 10 + 9)
-step n b low high e between = let d = digit b e in let l = d.0 in let h = d.1 in let p = between.0 in let q = between.1 in (omega (arith, p), omega (arith, l, h, q))
+-- the greatest number with as many digits behind the others
+abbrev greatest : ℕ → List ℕ → ℕ
+greatest n [] = n
+greatest n (b ∷ bytes) = greatest (n * 10 + 9) bytes
+
+digits_between : (n most : ℕ) (bytes : List ℕ) → list_all is_ascii_digit bytes ≡ true → (1 ≤ n) × (n ≤ most) → (1 ≤ numeral n bytes) × (numeral n bytes ≤ greatest most bytes)
+digits_between n most [] e between = between
+digits_between n most (b ∷ bytes) e between =
+    let both = and_parts (is_ascii_digit b) (list_all is_ascii_digit bytes) e in
+    let d = digit b both.0 in
+    digits_between (n * 10 + (b - 48)) (most * 10 + 9) bytes both.1 (omega (arith, d, between))
+
+three_digits : (bytes : List ℕ) → length bytes ≤ 3 → greatest 9 bytes ≤ 9999
+three_digits [] e = omega arith
+three_digits (c ∷ []) e = omega arith
+three_digits (c ∷ d ∷ []) e = omega arith
+three_digits (c ∷ d ∷ f ∷ []) e = omega arith
+three_digits (c ∷ d ∷ f ∷ g ∷ bytes) e = absurd (omega (arith, e))
 
 pub cost_between : (text : List ℕ) → is_number text ≡ true → nat_lt 4 (length text) ≡ false → (1 ≤ numeral 0 (take 4 text)) × (numeral 0 (take 4 text) ≤ 9999)
 cost_between [] e short = absurd (false≢true e)
 cost_between (b ∷ bytes) e short =
     let both = and_parts (is_ascii_digit b && not (b == 48)) (list_all is_ascii_digit bytes) e in
-    let l = leading b both.0 in
-    let low = l.0 in
-    let high = l.1 in
-    later bytes short both.1 (omega (arith, low), omega (arith, low, high))
-  where
-    later : (bytes : List ℕ) → nat_lt 4 (length (b ∷ bytes)) ≡ false → list_all is_ascii_digit bytes ≡ true → (1 ≤ 0 * 10 + (b - 48)) × (0 * 10 + (b - 48) ≤ 9)
-        → (1 ≤ numeral 0 (take 4 (b ∷ bytes))) × (numeral 0 (take 4 (b ∷ bytes)) ≤ 9999)
-    later [] short e one = let p = one.0 in let q = one.1 in (p, omega (arith, q))
-    later (c ∷ []) short e one =
-        let d = and_parts (is_ascii_digit c) true e in
-        let two = step (0 * 10 + (b - 48)) c 1 9 d.0 one in
-        let p = two.0 in let q = two.1 in (p, omega (arith, q))
-    later (c ∷ d ∷ []) short e one =
-        let g = and_parts (is_ascii_digit c) (is_ascii_digit d && true) e in
-        let h = and_parts (is_ascii_digit d) true g.1 in
-        let two = step (0 * 10 + (b - 48)) c 1 9 g.0 one in
-        let three = step ((0 * 10 + (b - 48)) * 10 + (c - 48)) d 1 99 h.0 two in
-        let p = three.0 in let q = three.1 in (p, omega (arith, q))
-    later (c ∷ d ∷ f ∷ []) short e one =
-        let g = and_parts (is_ascii_digit c) (is_ascii_digit d && (is_ascii_digit f && true)) e in
-        let h = and_parts (is_ascii_digit d) (is_ascii_digit f && true) g.1 in
-        let k = and_parts (is_ascii_digit f) true h.1 in
-        let two = step (0 * 10 + (b - 48)) c 1 9 g.0 one in
-        let three = step ((0 * 10 + (b - 48)) * 10 + (c - 48)) d 1 99 h.0 two in
-        let four = step (((0 * 10 + (b - 48)) * 10 + (c - 48)) * 10 + (d - 48)) f 1 999 k.0 three in
-        let p = four.0 in let q = four.1 in (p, omega (arith, q))
-    later (c ∷ d ∷ f ∷ g ∷ bytes) short e one = absurd (long (length bytes) short)
-      where
-        long : (n : ℕ) → nat_lt 4 (suc (suc (suc (suc (suc n))))) ≡ false → ⊥
-        long n e = grind (arith, nat_tests)
+    let low = leading b both.0 in
+    let high = digit b (and_parts (is_ascii_digit b) (not (b == 48)) both.0).0 in
+    let n = digits_between (0 * 10 + (b - 48)) 9 bytes both.1 (omega (arith, low, high)) in
+    let most = three_digits bytes (few (length bytes) short) in
+    rw (take_all 3 bytes (few (length bytes) short)) (omega (arith, n, most))

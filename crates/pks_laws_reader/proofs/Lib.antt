@@ -1,7 +1,6 @@
 pub mod Shapes
 pub mod Numbers
 pub mod Fitting
-pub mod Literals
 pub mod Sentences
 pub mod Sections
 pub mod Tabled

@@ -1,38 +1,37 @@
 -- Names are spelled as names are, and none is given twice.
-use Rattle.std.proofs.Common.{◌≡◌, inl, inr, ℕ, ◌==◌, Bool, true, false, cond, is_some, List, [], ◌∷◌, ◌++◌, length, map, Some, None, refl, sym, ap, ◌∙◌, subst, bytes_eq}
+use Rattle.std.proofs.Common.{◌≡◌, ℕ, ◌==◌, Bool, true, false, cond, List, [], ◌∷◌, length, map, None, refl, sym, ap, ◌∙◌, subst, bytes_eq}
 use Rattle.std.specs.Prelude.{codes}
 use Rattle.std.specs.Map.{keys_of}
 use Rattle.std.proofs.lemmas.Bool.{true≢false, false≢true, eqb-true}
-use Rattle.std.proofs.lemmas.Slice.Eq.{bytes_eq-Decides}
-use Rattle.pks_terms.specs.Sets.{IsIn}
-use Rattle.pks_terms.specs.ValidProblems.{is_name, AreDifferent}
+use Rattle.pks_terms.specs.ValidProblems.{is_name, AreDifferent, AreNames}
 use Rattle.pks_terms.proofs.ListLaws.{each_in}
 use Rattle.pks_text.specs.Forms.{Form, Word, Listing, Forms, no_forms, form, place_of}
 use Rattle.pks_reader_shape.specs.declared.grammar.Version.{Version}
 use Rattle.pks_reader_shape.specs.declared.grammar.Version.TheVariants.{First, Second}
 use Rattle.pks_reader_shape.specs.declared.grammar.Sort.TheVariants as sort
+use Rattle.pks_reader_shape.specs.declared.grammar.Part.{Part}
 use Rattle.pks_reader_shape.specs.declared.grammar.Part.TheVariants.{One, Many}
 use Rattle.pks_reader_shape.specs.Grammar.{lists, is_allowed}
-use Rattle.pks_reader_shape.specs.Files.{Fault, number_of}
-use Rattle.pks_reader_shape.specs.Language.{IsOf, Matches}
-use Rattle.pks_reader_names.specs.Tables.{Table, entry_of, declare, too_long, twice}
+use Rattle.pks_reader_shape.specs.Files.{number_of}
+use Rattle.pks_reader_shape.specs.Language.{IsOf, Matches, one}
+use Rattle.pks_reader_names.specs.Tables.{Table}
 use Rattle.pks_reader_names.specs.Scopes.{Scope, name_in}
 use Rattle.pks_reader_names.specs.Parts.{text_of, behind, behind_head, section, first_forms, each}
-use Rattle.pks_reader_names.specs.Declarations.{name_of, name_faults, entries_faults, past_names, first_in, second_in, most_objects, section_table, section_faults, predicate_in, barred_faults, predicate_faults, predicates_section, function_in, within, action_faults, nothing, actions_among, actions_section}
+use Rattle.pks_reader_names.specs.Declarations.{first_or, parent_named, type_named, name_of, entries_faults, first_in, second_in, most_objects, section_table, predicate_in, barred_faults, predicates_section, function_in, within, action_faults, nothing, actions_among, actions_section}
 use Rattle.pks_reader_names.specs.Meaning.{scope_of}
-use Rattle.pks_reader_declared.specs.FirstFault.{meaning_fault}
+use Rattle.pks_reader_declared.specs.FirstFault.{declarations_fault, meaning_fault}
 use Rattle.pks_reader_problem.specs.Stated.{all, schema_in, stated_in, problem_in, problem_by, named_in, named_by}
 use Rattle.pks_reader_problem.proofs.Walked.{first_all}
 use Rattle.pks_laws_reader.specs.Facts.{EachForm, AreNamed}
-use Rattle.pks_laws_reader.proofs.Shapes.{IsWord, name_is, of_sort, one_first, one_missing, each_of}
-use Rattle.pks_laws_reader.proofs.Numbers.{nil_parts, when, each_forms, keys_length}
-use Rattle.pks_laws_reader.proofs.Literals.{each_all}
+use Rattle.pks_laws_reader.proofs.Shapes.{each_of, of_sort, of_lists}
+use Rattle.pks_laws_reader.proofs.Numbers.{when, keys_length, each_form, each_faultless, each_all}
 use Rattle.pks_laws_reader.proofs.Sections.{action_parts, action_is, domain_is, types_are, objects_are, predicates_are, functions_are, actions_are}
-use Rattle.pks_laws_reader.proofs.Tabled.{each_of_first, entries_length, each_key_tabled, different_tabled, each_type_name, different_types, each_object_name, different_objects}
-use Rattle.pks_laws_reader.proofs.Whole.{all_length, are_faultless}
+use Rattle.pks_laws_reader.proofs.Tabled.{every_form, each_of_first, entries_length, AreKeys, keys_declared, each_name, names_kept, each_type, each_object}
+use Rattle.pks_laws_reader.proofs.Whole.{all_length, unrefused}
 
 -- ---- spelling
 
+-- a word that is a name declares a name
 name_kept : (text : List ℕ) → is_name text ≡ true → name_in text ≡ text
 name_kept [] e = refl
 name_kept (b ∷ bytes) e = by_test (b == 63) (λ q. eqb-true b 63 q)
@@ -41,174 +40,95 @@ name_kept (b ∷ bytes) e = by_test (b == 63) (λ q. eqb-true b 63 q)
     by_test true same = absurd (false≢true (ap (λ (x : ℕ). is_name (x ∷ bytes)) (sym (same refl)) ∙ e))
     by_test false same = refl
 
--- a word that is a name declares a name
-spelled : (f : Form) → IsWord is_name f → is_name (name_of f) ≡ true
-spelled (Word text at) is = ap (λ (w : List ℕ). is_name w) (name_kept text is) ∙ is
-spelled (Listing parts at end) is = absurd is
+abbrev IsNamed : Form → Type 0
+IsNamed f = is_name (name_of f) ≡ true
 
-kind_name : (v : Version) (f : Form) → IsOf v sort.Kind f → is_name (name_of (first_in f)) ≡ true
+word_named : (text : List ℕ) (at : ℕ) → is_name text ≡ true → IsNamed (Word text at)
+word_named text at is = ap is_name (name_kept text is) ∙ is
+
+named : (v : Version) (f : Form) → IsOf v sort.Name f → IsNamed f
 unfolding lists is_allowed
-kind_name First = of_sort First (λ f. is_name (name_of (first_in f)) ≡ true) sort.Kind (λ text at allowed. spelled (Word text at) allowed) tt tt
-kind_name Second = of_sort Second (λ f. is_name (name_of (first_in f)) ≡ true) sort.Kind (λ text at allowed. spelled (Word text at) allowed) tt (λ parts at end free m. by_parts parts at end m)
-  where
-    by_parts : (parts : Forms) (at end : ℕ) → Matches Second (One sort.Name ∷ One sort.Name ∷ []) parts → is_name (name_of (first_in (Listing parts at end))) ≡ true
-    by_parts no_forms at end m = absurd (one_missing m)
-    by_parts (form f fs) at end m = spelled f (name_is Second f (one_first m).0)
+named v = of_sort v IsNamed sort.Name word_named tt tt
 
-entry_names : (v : Version) (f : Form) → IsOf v sort.Entry f → (is_name (name_of (first_in f)) ≡ true) × EachForm (IsOf v sort.Name) (behind_head f)
+-- the first of some parts is a name
+first_named : (v : Version) (ps : List Part) (parts : Forms) (at end : ℕ) → Matches v (One sort.Name ∷ ps) parts → IsNamed (first_in (Listing parts at end))
+first_named v ps _ at end (one _ _ f fs is m) = named v f is
+
+kind_named : (v : Version) (f : Form) → IsOf v sort.Kind f → IsNamed (first_in f)
 unfolding lists is_allowed
-entry_names v = of_sort v (λ f. (is_name (name_of (first_in f)) ≡ true) × EachForm (IsOf v sort.Name) (behind_head f)) sort.Entry (λ text at allowed. absurd (false≢true allowed)) tt (λ parts at end free m. by_parts parts at end m)
-  where
-    by_parts : (parts : Forms) (at end : ℕ) → Matches v (One sort.Name ∷ Many sort.Name ∷ []) parts → (is_name (name_of (first_in (Listing parts at end))) ≡ true) × EachForm (IsOf v sort.Name) (behind parts)
-    by_parts no_forms at end m = absurd (one_missing m)
-    by_parts (form f fs) at end m = (spelled f (name_is v f (one_first m).0), each_of v sort.Name fs (one_first m).1)
+kind_named First = of_sort First (λ f. IsNamed (first_in f)) sort.Kind word_named tt tt
+kind_named Second = of_sort Second (λ f. IsNamed (first_in f)) sort.Kind word_named tt (λ parts at end free m. first_named Second (One sort.Name ∷ []) parts at end m)
 
-function_name : (v : Version) (f : Form) → IsOf v sort.Function f → is_name (name_of (first_in f)) ≡ true
+entry_named : (v : Version) (f : Form) → IsOf v sort.Entry f → IsNamed (first_in f)
 unfolding lists is_allowed
-function_name v = of_sort v (λ f. is_name (name_of (first_in f)) ≡ true) sort.Function (λ text at allowed. absurd (false≢true allowed)) tt (λ parts at end free m. by_parts parts at end m)
+entry_named v = of_lists v (λ f. IsNamed (first_in f)) sort.Entry (λ text. refl) tt (λ parts at end free m. first_named v (Many sort.Name ∷ []) parts at end m)
+
+function_named : (v : Version) (f : Form) → IsOf v sort.Function f → IsNamed (first_in f)
+unfolding lists is_allowed
+function_named v = of_lists v (λ f. IsNamed (first_in f)) sort.Function (λ text. refl) tt (λ parts at end free m. first_named v (One sort.Name ∷ Many sort.Name ∷ []) parts at end m)
+
+-- the names behind an entry's
+objects_named : (v : Version) (f : Form) → IsOf v sort.Entry f → EachForm (λ g. IsNamed (first_in g)) (behind_head f)
+unfolding lists is_allowed
+objects_named v = of_lists v (λ f. EachForm (λ g. IsNamed (first_in g)) (behind_head f)) sort.Entry (λ text. refl) tt (λ parts at end free m. by_parts parts m)
   where
-    by_parts : (parts : Forms) (at end : ℕ) → Matches v (One sort.Name ∷ One sort.Name ∷ Many sort.Name ∷ []) parts → is_name (name_of (first_in (Listing parts at end))) ≡ true
-    by_parts no_forms at end m = absurd (one_missing m)
-    by_parts (form f fs) at end m = spelled f (name_is v f (one_first m).0)
+    by_parts : (parts : Forms) → Matches v (One sort.Name ∷ Many sort.Name ∷ []) parts → EachForm (λ g. IsNamed (first_in g)) (behind parts)
+    by_parts _ (one _ _ f fs is m) = each_form (IsOf v sort.Name) (λ g. IsNamed (first_in g)) (of_sort v (λ g. IsNamed (first_in g)) sort.Name word_named tt tt) fs (each_of v sort.Name fs m)
 
--- the name of an object
-object_name : (v : Version) (f : Form) → IsOf v sort.Name f → is_name (name_of (first_in f)) ≡ true
-object_name v f is = by_word f (name_is v f is)
+-- an action's name is as it is written
+action_named : (v : Version) (f : Form) → IsOf v sort.Action f → (is_name (text_of (second_in f)) ≡ true) × (name_of (second_in f) ≡ text_of (second_in f))
+unfolding lists is_allowed
+action_named v f is = by_parts (behind_head f) (action_is v f is)
   where
-    by_word : (f : Form) → IsWord is_name f → is_name (name_of (first_in f)) ≡ true
-    by_word (Word text at) is = spelled (Word text at) is
-    by_word (Listing parts at end) is = absurd is
-
-action_name : (v : Version) (f : Form) → IsOf v sort.Action f → IsWord is_name (second_in f)
-action_name v f is = by_parts (behind_head f) (action_is v f is)
-  where
-    by_parts : (fs : Forms) → Matches v (action_parts v) fs → IsWord is_name (elim fs as (λ _. Form) [ no_forms ↦ f | form g gs ↦ g ])
-    by_parts no_forms m = absurd (one_missing m)
-    by_parts (form g gs) m = name_is v g (one_first m).0
-
--- ---- names that are declared one after the other
-
-module _ {X : Type 0} where
-  absent : (t : Table X) (name : List ℕ) → is_some (entry_of t name) ≡ false → IsIn name (keys_of t) → ⊥
-  absent [] name e i = i
-  absent (y ∷ ys) name e i = by_test (bytes_eq name y.0) (λ q. (bytes_eq-Decides name y.0).1 q) (λ e j. absent ys name e j) e i
-    where
-      by_test : (b : Bool) → (name ≡ y.0 → b ≡ true) → (is_some (entry_of ys name) ≡ false → IsIn name (keys_of ys) → ⊥) → is_some (cond b (Some y.1) (entry_of ys name)) ≡ false → IsIn name (y.0 ∷ keys_of ys) → ⊥
-      by_test true same later e i = true≢false e
-      by_test false same later e (inl q) = false≢true (same (sym q))
-      by_test false same later e (inr j) = later e j
-
-  declared_in : (t : Table X) (name : List ℕ) (x : X) → IsIn name (keys_of (declare t name x))
-  declared_in [] name x = inl refl
-  declared_in (y ∷ ys) name x = by_test (bytes_eq name y.0) (λ q. (bytes_eq-Decides name y.0).0 q) (declared_in ys name x)
-    where
-      by_test : (b : Bool) → (b ≡ true → name ≡ y.0) → IsIn name (keys_of (declare ys name x)) → IsIn name (keys_of (cond b (y ∷ ys) (y ∷ declare ys name x)))
-      by_test true same later = inl (sym (same refl))
-      by_test false same later = inr later
-
-  kept_in : (t : Table X) (name : List ℕ) (x : X) (z : List ℕ) → IsIn z (keys_of t) → IsIn z (keys_of (declare t name x))
-  kept_in [] name x z i = absurd i
-  kept_in (y ∷ ys) name x z i = by_test (bytes_eq name y.0) (λ j. kept_in ys name x z j) i
-    where
-      by_test : (b : Bool) → (IsIn z (keys_of ys) → IsIn z (keys_of (declare ys name x))) → IsIn z (y.0 ∷ keys_of ys) → IsIn z (keys_of (cond b (y ∷ ys) (y ∷ declare ys name x)))
-      by_test true later i = i
-      by_test false later (inl e) = inl e
-      by_test false later (inr j) = inr (later j)
-
-  -- entries without a fault have different names, which aren't declared before
-  entries_different : (named : Form → Form) (said : Form → X) (faults : Form → List Fault) (t : Table X) (fs : Forms) → entries_faults named said faults t fs ≡ []
-      → AreDifferent (all (λ f. name_of (named f)) fs) × ((z : List ℕ) → IsIn z (all (λ f. name_of (named f)) fs) → IsIn z (keys_of t) → ⊥)
-  entries_different named said faults t no_forms e = (tt, λ z i j. i)
-  entries_different named said faults t (form f fs) e =
-      let name = name_of (named f) in
-      let u = declare t name (said f) in
-      let both = nil_parts (name_faults t (named f) ++ faults f) (entries_faults named said faults u fs) e in
-      let own = nil_parts (name_faults t (named f)) (faults f) both.0 in
-      let new = when (place_of (named f), 202) (is_some (entry_of t name)) (nil_parts (too_long name (place_of (named f))) (twice t name (place_of (named f))) own.0).1 in
-      let later = entries_different named said faults u fs both.1 in (
-        (λ i. later.1 name i (declared_in t name (said f)), later.0),
-        λ z i j. elim i [ inl same ↦ absent t name new (subst (λ (w : List ℕ). IsIn w (keys_of t)) (sym same) j) | inr k ↦ later.1 z k (kept_in t name (said f) z j) ],
-      )
+    by_parts : (fs : Forms) → Matches v action_parts fs → (is_name (text_of (first_or f fs)) ≡ true) × (name_of (first_or f fs) ≡ text_of (first_or f fs))
+    by_parts _ (one _ _ g _ is m) = of_sort v (λ g. (is_name (text_of g) ≡ true) × (name_of g ≡ text_of g)) sort.Name (λ text at allowed. (allowed, name_kept text allowed)) tt tt g is
 
 -- ---- all names
 
-not_not : (f : Form) → barred_faults f ≡ [] → bytes_eq (name_of (first_in f)) (codes "not") ≡ false
-not_not f e = when (place_of (first_in f), 201) (bytes_eq (name_of (first_in f)) (codes "not")) e
-
-none_not : (fs : Forms) → each barred_faults fs ≡ [] → EachForm (λ f. bytes_eq (name_of (first_in f)) (codes "not") ≡ false) fs
-none_not no_forms e = tt
-none_not (form f fs) e = let both = nil_parts (barred_faults f) (each barred_faults fs) e in (not_not f both.0, none_not fs both.1)
-
-same_names : (v : Version) (fs : Forms) → EachForm (IsOf v sort.Action) fs → all (λ f. name_of (second_in f)) fs ≡ all (λ f. text_of (second_in f)) fs
-same_names v no_forms a = refl
-same_names v (form f fs) a = λ i. kept (second_in f) (action_name v f a.0) i ∷ same_names v fs a.1 i
-  where
-    kept : (g : Form) → IsWord is_name g → name_of g ≡ text_of g
-    kept (Word text at) is = name_kept text is
-    kept (Listing parts at end) is = absurd is
-
-word_name : (g : Form) → IsWord is_name g → is_name (text_of g) ≡ true
-word_name (Word text at) is = is
-word_name (Listing parts at end) is = absurd is
+all_alike : {X : Type 0} (meant other : Form → X) (fs : Forms) → EachForm (λ f. meant f ≡ other f) fs → all meant fs ≡ all other fs
+all_alike meant other no_forms same = refl
+all_alike meant other (form f fs) same = λ i. same.0 i ∷ all_alike meant other fs same.1 i
 
 same_counts : (s : Scope) (fs : Forms) → map (λ names. length names) (all (λ f. keys_of (within s (behind_head f)).parameters) fs) ≡ map (λ x. length x.parameters) (all (λ f. schema_in s (behind_head f)) fs)
 unfolding stated_in
 same_counts s no_forms = refl
 same_counts s (form f fs) = λ i. (keys_length (within s (behind_head f)).parameters ∙ sym (entries_length (within s (behind_head f)).parameters)) i ∷ same_counts s fs i
 
+abbrev IsName : List ℕ → Type 0
+IsName text = is_name text ≡ true
+
+are_names : {X : Type 0} (t : Table X) (n : ℕ) → n ≡ length t → AreKeys IsName t → AreNames n (keys_of t)
+are_names t n same are = record { counted = keys_length t ∙ sym same; spelled = are.0; different = are.1 }
+
 pub problem_named : (v : Version) (d p : Form) → IsOf v sort.Domain d → meaning_fault (number_of v) (behind_head d) (behind_head p) ≡ None → AreNamed (problem_in (number_of v) (behind_head d) (behind_head p)) (named_in (number_of v) (behind_head d) p)
-unfolding problem_by named_by scope_of actions_section predicates_section
+unfolding problem_by named_by scope_of meaning_fault declarations_fault actions_section predicates_section
 problem_named v d p is e =
-    let version = number_of v in
     let domain = behind_head d in
-    let s = scope_of version domain in
+    let s = scope_of (number_of v) domain in
     let m = domain_is v d is in
-    let no = are_faultless version domain (behind_head p) e in
     let types = section (codes "types") domain in
     let objects = section (codes "objects") domain in
     let predicates = section (codes "predicates") domain in
     let functions = section (codes "functions") domain in
     let actions = actions_among domain in
     let are = actions_are v domain m in
-    let ended = nil_parts (entries_faults second_in nothing (λ f. action_faults s (behind_head f)) [] (first_forms 64 actions)) (past_names (section_table second_in 64 nothing actions) second_in 64 actions) no.actions in
-    let whole = first_all (section_table second_in 64 nothing actions) second_in 64 actions ended.1 in
-    let apart = (entries_different second_in nothing (λ f. action_faults s (behind_head f)) [] (first_forms 64 actions) ended.0).0 in
-    let named = each_forms (IsOf v sort.Entry) (IsOf v sort.Entry) (λ f. EachForm (λ g. is_name (name_of (first_in g)) ≡ true) (behind_head f))
-    (λ f is also. each_forms (IsOf v sort.Name) (IsOf v sort.Name) (λ g. is_name (name_of (first_in g)) ≡ true) (λ g is also. object_name v g is) (behind_head f) (entry_names v f is).1 (entry_names v f is).1)
-    objects (objects_are v domain m) (objects_are v domain m) in
+    let unbarred : each barred_faults predicates ≡ [] = search unrefused in
+    let apart : entries_faults second_in nothing (λ f. action_faults s (behind_head f)) [] (first_forms 64 actions) ≡ [] = search unrefused in
+    let whole : first_forms 64 actions ≡ actions = first_all (section_table second_in 64 nothing actions) second_in 64 actions (search unrefused) in
     record {
-      types = record {
-        counted = keys_length s.types;
-        spelled = each_type_name (λ n. is_name n ≡ true) [] (first_forms 16 types) tt
-            (each_of_first (λ f. is_name (name_of (first_in f)) ≡ true) 16 types (each_forms (IsOf v sort.Kind) (IsOf v sort.Kind) (λ f. is_name (name_of (first_in f)) ≡ true) (λ f is also. kind_name v f is) types (types_are v domain m) (types_are v domain m)));
-        different = different_types [] (first_forms 16 types) tt;
-      };
-      objects = record {
-        counted = keys_length s.objects ∙ sym (entries_length s.objects);
-        spelled = each_object_name (λ n. is_name n ≡ true) s.types (most_objects version) [] objects tt named;
-        different = different_objects s.types (most_objects version) [] objects tt;
-      };
-      predicates = record {
-        counted = keys_length s.predicates ∙ sym (entries_length s.predicates);
-        spelled = each_key_tabled (λ n. is_name n ≡ true) first_in (predicate_in s.types) [] (first_forms 32 predicates) tt
-            (each_of_first (λ f. is_name (name_of (first_in f)) ≡ true) 32 predicates (each_forms (IsOf v sort.Entry) (IsOf v sort.Entry) (λ f. is_name (name_of (first_in f)) ≡ true) (λ f is also. (entry_names v f is).0) predicates (predicates_are v domain m) (predicates_are v domain m)));
-        different = different_tabled first_in (predicate_in s.types) [] (first_forms 32 predicates) tt;
-      };
-      none_is_not = λ i.
-          let each_not = each_key_tabled (λ n. bytes_eq n (codes "not") ≡ false) first_in (predicate_in s.types) [] (first_forms 32 predicates) tt
-          (each_of_first (λ f. bytes_eq (name_of (first_in f)) (codes "not") ≡ false) 32 predicates
-          (none_not predicates (nil_parts (each barred_faults predicates) (section_faults first_in 32 (predicate_in s.types) (predicate_faults s.types) predicates) no.predicates).0)) in
-          true≢false (each_in (λ n. bytes_eq n (codes "not") ≡ false) (keys_of s.predicates) (codes "not") each_not i);
-      functions = record {
-        counted = keys_length s.functions ∙ sym (entries_length s.functions);
-        spelled = each_key_tabled (λ n. is_name n ≡ true) first_in (function_in s.types) [] (first_forms 32 functions) tt
-            (each_of_first (λ f. is_name (name_of (first_in f)) ≡ true) 32 functions (each_forms (IsOf v sort.Function) (IsOf v sort.Function) (λ f. is_name (name_of (first_in f)) ≡ true) (λ f is also. function_name v f is) functions (functions_are v domain m) (functions_are v domain m)));
-        different = different_tabled first_in (function_in s.types) [] (first_forms 32 functions) tt;
-      };
+      types = are_names s.types (length s.types) refl (each_type (AreKeys IsName) [] (first_forms 16 types) (tt, tt)
+          (each_of_first _ 16 types (each_form _ _ (λ f is t. keys_declared IsName t (name_of (first_in f)) (parent_named t (behind_head f)) (kind_named v f is)) types (types_are v domain m))));
+      objects = are_names s.objects _ (entries_length s.objects) (each_object (AreKeys IsName) s.types (most_objects (number_of v)) [] objects (tt, tt)
+          (each_form _ _ (λ f is. each_form _ _ (λ g also t. keys_declared IsName t (name_of (first_in g)) (type_named s.types (first_in f)) also) (behind_head f) (objects_named v f is)) objects (objects_are v domain m)));
+      predicates = are_names s.predicates _ (entries_length s.predicates) (each_name IsName first_in (predicate_in s.types) _ (each_of_first _ 32 predicates (each_form _ _ (entry_named v) predicates (predicates_are v domain m))));
+      none_is_not = λ i. true≢false (each_in (λ n. bytes_eq n (codes "not") ≡ false) (keys_of s.predicates) (codes "not") (each_name (λ n. bytes_eq n (codes "not") ≡ false) first_in (predicate_in s.types) _
+          (each_of_first _ 32 predicates (each_form _ _ (λ f none. when (place_of (first_in f), 201) _ none) predicates (each_faultless barred_faults predicates unbarred)))).0 i);
+      functions = are_names s.functions _ (entries_length s.functions) (each_name IsName first_in (function_in s.types) _ (each_of_first _ 32 functions (each_form _ _ (function_named v) functions (functions_are v domain m))));
       actions = record {
         counted = all_length (λ f. text_of (second_in f)) actions ∙ sym (all_length (λ f. schema_in s (behind_head f)) actions);
-        spelled = each_all (IsOf v sort.Action) (λ n. is_name n ≡ true) (λ f. text_of (second_in f)) (λ f is. word_name (second_in f) (action_name v f is)) actions are;
-        different = subst AreDifferent (ap (all (λ f. name_of (second_in f))) whole ∙ same_names v actions are) apart;
+        spelled = each_all _ IsName (λ f. text_of (second_in f)) (λ f is. (action_named v f is).0) actions are;
+        different = subst AreDifferent (names_kept second_in nothing (λ f. action_faults s (behind_head f)) [] (first_forms 64 actions) apart ∙ ap (all (λ f. name_of (second_in f))) whole
+            ∙ all_alike (λ f. name_of (second_in f)) (λ f. text_of (second_in f)) actions (each_form _ _ (λ f is. (action_named v f is).1) actions are)) (each_name (λ n. Unit {0}) second_in nothing _ (every_form _ (λ f. tt) (first_forms 64 actions))).1;
       };
       parameters = same_counts s actions;
     }

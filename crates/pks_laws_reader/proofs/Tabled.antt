@@ -1,19 +1,20 @@
 -- What the tables of declarations hold.
-use Rattle.std.proofs.Common.{◌≡◌, ◌⊎◌, inl, inr, ℕ, zero, suc, ◌+◌, ◌-◌, ◌≤◌, ◌<◌, Bool, true, false, cond, List, [], ◌∷◌, ◌++◌, length, Option, Some, refl, sym, ap, subst, bytes_eq, arith, slice_get, unwrap_or}
+use Rattle.std.proofs.Common.{◌≡◌, ◌⊎◌, inl, inr, ℕ, zero, suc, ◌+◌, ◌-◌, ◌≤◌, ◌<◌, Bool, true, false, cond, List, [], ◌∷◌, ◌++◌, length, Option, Some, refl, sym, ap, ◌∙◌, subst, append_assoc, append-nil, is_some, bytes_eq, arith, slice_get, unwrap_or}
 use Rattle.std.specs.Map.{keys_of}
 use Rattle.std.proofs.lemmas.Option.{none-some, same_Some}
-use Rattle.std.proofs.lemmas.Bool.{false≢true}
+use Rattle.std.proofs.lemmas.Bool.{false≢true, true≢false}
 use Rattle.std.proofs.lemmas.Slice.Eq.{bytes_eq-Decides}
 use Rattle.pks_terms.specs.Sets.{Each, IsIn}
 use Rattle.pks_terms.specs.ValidProblems.{AreDifferent}
 use Rattle.pks_text.specs.Forms.{Form, Forms, no_forms, form, place_of}
 use Rattle.pks_reader_shape.specs.Walk.{count}
 use Rattle.pks_reader_shape.specs.Files.{Fault}
-use Rattle.pks_reader_names.specs.Tables.{Table, number_of, entries_of, declare, too_long, unknown}
+use Rattle.pks_reader_names.specs.Tables.{Table, number_of, entry_of, entries_of, declare}
 use Rattle.pks_reader_names.specs.Parts.{text_of, behind_head, first_forms, all_but_last, last_of}
-use Rattle.pks_reader_names.specs.Declarations.{name_of, name_faults, table_from, entries_faults, past_names, section_faults, section_table, Types, type_faults, type_named, types_named, parent_named, types_from, first_in, no_faults, objects_with, objects_from, objects_faults, objects_faults_in}
+use Rattle.pks_reader_names.specs.Declarations.{name_of, name_faults, table_from, entries_faults, past_names, section_faults, section_table, Types, type_faults, type_named, types_named, parent_named, types_from, first_in, objects_with, objects_from, objects_faults}
+use Rattle.pks_reader_problem.specs.Stated.{all}
 use Rattle.pks_laws_reader.specs.Facts.{EachForm}
-use Rattle.pks_laws_reader.proofs.Numbers.{nil_parts, known, within_table}
+use Rattle.pks_laws_reader.proofs.Numbers.{nil_parts, nil_right, faultless, cons_nil, when, known, within_table, each_form}
 
 -- ---- forms
 
@@ -38,25 +39,29 @@ last_holds P f (form g fs) a = last_holds P g fs a.1
 
 -- ---- what is said of names
 
-module _ {X : Type 0} (P : X → Type 0) where
-  pub each_declared : (t : Table X) (name : List ℕ) (x : X) → Each P (entries_of t) → P x → Each P (entries_of (declare t name x))
-  each_declared [] name x a p = (p, tt)
-  each_declared (y ∷ ys) name x a p = elim (bytes_eq name y.0) as (λ b. Each P (entries_of (cond b (y ∷ ys) (y ∷ declare ys name x)))) [ true ↦ a | false ↦ (a.0, each_declared ys name x a.1 p) ]
+-- what stays true with each declaration is true of what forms declare
+pub each_tabled : {X : Type 0} (I : Table X → Type 0) (named : Form → Form) (said : Form → X) (t : Table X) (fs : Forms) → I t
+    → EachForm (λ f. (t : Table X) → I t → I (declare t (name_of (named f)) (said f))) fs → I (table_from named said t fs)
+each_tabled I named said t no_forms i h = i
+each_tabled I named said t (form f fs) i h = each_tabled I named said (declare t (name_of (named f)) (said f)) fs (h.0 t i) h.1
 
-  pub each_tabled : (named : Form → Form) (said : Form → X) (t : Table X) (fs : Forms) → Each P (entries_of t) → EachForm (λ f. P (said f)) fs → Each P (entries_of (table_from named said t fs))
-  each_tabled named said t no_forms a b = a
-  each_tabled named said t (form f fs) a b = each_tabled named said (declare t (name_of (named f)) (said f)) fs (each_declared t (name_of (named f)) (said f) a b.0) b.1
+pub each_declared : {X : Type 0} (P : X → Type 0) (t : Table X) (name : List ℕ) (x : X) → Each P (entries_of t) → P x → Each P (entries_of (declare t name x))
+each_declared P [] name x a p = (p, tt)
+each_declared P (y ∷ ys) name x a p = elim (bytes_eq name y.0) as (λ b. Each P (entries_of (cond b (y ∷ ys) (y ∷ declare ys name x)))) [ true ↦ a | false ↦ (a.0, each_declared P ys name x a.1 p) ]
+
+-- what is said of each
+pub each_said : {X : Type 0} (P : X → Type 0) (named : Form → Form) (said : Form → X) (fs : Forms) → EachForm (λ f. P (said f)) fs → Each P (entries_of (table_from named said [] fs))
+each_said P named said fs are = each_tabled (λ t. Each P (entries_of t)) named said [] fs tt
+    (each_form (λ f. P (said f)) _ (λ f p t a. each_declared P t (name_of (named f)) (said f) a p) fs are)
 
 module _ {X : Type 0} where
   -- entries without a fault have none of their own
   pub entries_faultless : (named : Form → Form) (said : Form → X) (faults : Form → List Fault) (t : Table X) (fs : Forms) → entries_faults named said faults t fs ≡ [] → EachForm (λ f. faults f ≡ []) fs
   entries_faultless named said faults t no_forms e = tt
-  entries_faultless named said faults t (form f fs) e =
-      let both = nil_parts (name_faults t (named f) ++ faults f) (entries_faults named said faults (declare t (name_of (named f)) (said f)) fs) e in
-      ((nil_parts (name_faults t (named f)) (faults f) both.0).1, entries_faultless named said faults (declare t (name_of (named f)) (said f)) fs both.1)
+  entries_faultless named said faults t (form f fs) e = (search faultless, entries_faultless named said faults (declare t (name_of (named f)) (said f)) fs (search faultless))
 
   pub section_faultless : (named : Form → Form) (n : ℕ) (said : Form → X) (faults : Form → List Fault) (fs : Forms) → section_faults named n said faults fs ≡ [] → EachForm (λ f. faults f ≡ []) (first_forms n fs)
-  section_faultless named n said faults fs e = entries_faultless named said faults [] (first_forms n fs) (nil_parts (entries_faults named said faults [] (first_forms n fs)) (past_names (section_table named n said fs) named n fs) e).0
+  section_faultless named n said faults fs e = entries_faultless named said faults [] (first_forms n fs) (search faultless)
 
   pub entries_length : (t : Table X) → length (entries_of t) ≡ length t
   entries_length [] = refl
@@ -64,14 +69,9 @@ module _ {X : Type 0} where
 
   -- ---- the names themselves
 
-  module _ (P : List ℕ → Type 0) where
-    pub each_key : (t : Table X) (name : List ℕ) (x : X) → Each P (keys_of t) → P name → Each P (keys_of (declare t name x))
-    each_key [] name x a p = (p, tt)
-    each_key (y ∷ ys) name x a p = elim (bytes_eq name y.0) as (λ b. Each P (keys_of (cond b (y ∷ ys) (y ∷ declare ys name x)))) [ true ↦ a | false ↦ (a.0, each_key ys name x a.1 p) ]
-
-    pub each_key_tabled : (named : Form → Form) (said : Form → X) (t : Table X) (fs : Forms) → Each P (keys_of t) → EachForm (λ f. P (name_of (named f))) fs → Each P (keys_of (table_from named said t fs))
-    each_key_tabled named said t no_forms a b = a
-    each_key_tabled named said t (form f fs) a b = each_key_tabled named said (declare t (name_of (named f)) (said f)) fs (each_key t (name_of (named f)) (said f) a b.0) b.1
+  pub each_key : (P : List ℕ → Type 0) (t : Table X) (name : List ℕ) (x : X) → Each P (keys_of t) → P name → Each P (keys_of (declare t name x))
+  each_key P [] name x a p = (p, tt)
+  each_key P (y ∷ ys) name x a p = elim (bytes_eq name y.0) as (λ b. Each P (keys_of (cond b (y ∷ ys) (y ∷ declare ys name x)))) [ true ↦ a | false ↦ (a.0, each_key P ys name x a.1 p) ]
 
   key_declared : (t : Table X) (name : List ℕ) (x : X) (z : List ℕ) → IsIn z (keys_of (declare t name x)) → IsIn z (keys_of t) ⊎ (name ≡ z)
   key_declared [] name x z (inl e) = inr e
@@ -96,16 +96,43 @@ module _ {X : Type 0} where
       by_test true same later = d
       by_test false same later = ((λ i. elim (key_declared ys name x y.0 i) [ inl j ↦ d.0 j | inr e ↦ false≢true (same e) ]), later)
 
-  pub different_tabled : (named : Form → Form) (said : Form → X) (t : Table X) (fs : Forms) → AreDifferent (keys_of t) → AreDifferent (keys_of (table_from named said t fs))
-  different_tabled named said t no_forms d = d
-  different_tabled named said t (form f fs) d = different_tabled named said (declare t (name_of (named f)) (said f)) fs (different_declared t (name_of (named f)) (said f) d)
+  -- names that are spelled so, and different
+  abbrev pub AreKeys : (List ℕ → Type 0) → Table X → Type 0
+  AreKeys P t = Each P (keys_of t) × AreDifferent (keys_of t)
+
+  pub keys_declared : (P : List ℕ → Type 0) (t : Table X) (name : List ℕ) (x : X) → P name → AreKeys P t → AreKeys P (declare t name x)
+  keys_declared P t name x p are = (each_key P t name x are.0 p, different_declared t name x are.1)
+
+  pub each_name : (P : List ℕ → Type 0) (named : Form → Form) (said : Form → X) (fs : Forms) → EachForm (λ f. P (name_of (named f))) fs → AreKeys P (table_from named said [] fs)
+  each_name P named said fs are = each_tabled (AreKeys P) named said [] fs (tt, tt) (each_form _ _ (λ f p t. keys_declared P t (name_of (named f)) (said f) p) fs are)
+
+  -- a new name comes last
+  declared_last : (t : Table X) (name : List ℕ) (x : X) → is_some (entry_of t name) ≡ false → keys_of (declare t name x) ≡ keys_of t ++ name ∷ []
+  declared_last [] name x e = refl
+  declared_last (y ∷ ys) name x e = by_test (bytes_eq name y.0) (declared_last ys name x) e
+    where
+      by_test : (b : Bool) → (is_some (entry_of ys name) ≡ false → keys_of (declare ys name x) ≡ keys_of ys ++ name ∷ []) → is_some (cond b (Some y.1) (entry_of ys name)) ≡ false
+          → keys_of (cond b (y ∷ ys) (y ∷ declare ys name x)) ≡ y.0 ∷ (keys_of ys ++ name ∷ [])
+      by_test true later e = absurd (true≢false e)
+      by_test false later e = ap (λ names. y.0 ∷ names) (later e)
+
+  -- where no name is given twice, these are the names in order
+  pub names_kept : (named : Form → Form) (said : Form → X) (faults : Form → List Fault) (t : Table X) (fs : Forms) → entries_faults named said faults t fs ≡ []
+      → keys_of (table_from named said t fs) ≡ keys_of t ++ all (λ f. name_of (named f)) fs
+  names_kept named said faults t no_forms e = sym (append-nil (keys_of t))
+  names_kept named said faults t (form f fs) e =
+      let name = name_of (named f) in
+      let new : name_faults t (named f) ≡ [] = search faultless in
+      names_kept named said faults (declare t name (said f)) fs (search faultless)
+      ∙ ap (λ names. names ++ all (λ f. name_of (named f)) fs) (declared_last t name (said f) (when (place_of (named f), 202) (is_some (entry_of t name)) (nil_right _ _ new)))
+      ∙ append_assoc (keys_of t) (name ∷ []) (all (λ f. name_of (named f)) fs)
 
 -- ---- types
 
 -- a type that is named is one of the table
 pub type_within : (types : Types) (f : Form) → type_faults types f ≡ [] → type_named types f < length types
 type_within types f e =
-    let r = known (place_of f) 203 (number_of types (text_of f)) (nil_parts (too_long (text_of f) (place_of f)) (unknown (place_of f) 203 (number_of types (text_of f))) e).1 in
+    let r = known (place_of f) 203 (number_of types (text_of f)) (search faultless) in
     subst (λ (o : Option ℕ). unwrap_or o 0 < length types) (sym r.1) (within_table types (text_of f) r.0 r.1)
 
 pub types_within : (types : Types) (n : ℕ) (fs : Forms) → EachForm (λ f. type_faults types f ≡ []) fs → Each (λ a. a < length types) (types_named types n fs)
@@ -138,47 +165,32 @@ earlier_declared k (y ∷ ys) name x a h = by_test (bytes_eq name y.0) (earlier_
     by_test true later = a
     by_test false later = λ n up e. by_place later n up e
 
-pub earlier_types : (t : Types) (fs : Forms) → AreEarlier 0 (entries_of t) → AreEarlier 0 (entries_of (types_from t fs))
-earlier_types t no_forms a = a
-earlier_types t (form f fs) a = earlier_types (declare t (name_of (first_in f)) (parent_named t (behind_head f))) fs (earlier_declared 0 t (name_of (first_in f)) (parent_named t (behind_head f)) a (parent (behind_head f)))
+pub each_type : (I : Types → Type 0) (t : Types) (fs : Forms) → I t → EachForm (λ f. (t : Types) → I t → I (declare t (name_of (first_in f)) (parent_named t (behind_head f)))) fs → I (types_from t fs)
+each_type I t no_forms i h = i
+each_type I t (form f fs) i h = each_type I (declare t (name_of (first_in f)) (parent_named t (behind_head f))) fs (h.0 t i) h.1
+
+pub earlier_types : (fs : Forms) → AreEarlier 0 (entries_of (types_from [] fs))
+earlier_types fs = each_type (λ t. AreEarlier 0 (entries_of t)) [] fs (λ n up e. absurd (none-some (Some up) e))
+    (every_form _ (λ f t a. earlier_declared 0 t (name_of (first_in f)) (parent_named t (behind_head f)) a (parent t (behind_head f))) fs)
   where
-    parent : (gs : Forms) (up : ℕ) → parent_named t gs ≡ Some up → up < 0 + length t
-    parent no_forms up e = absurd (none-some up e)
-    parent (form g gs) up e = let r = within_table t (text_of g) up e in omega (arith, r)
-
--- what holds of each parent
-pub each_parent : (P : Option ℕ → Type 0) (t : Types) (fs : Forms) → Each P (entries_of t) → EachForm (λ f. (t : Types) → P (parent_named t (behind_head f))) fs → Each P (entries_of (types_from t fs))
-each_parent P t no_forms a b = a
-each_parent P t (form f fs) a b = each_parent P (declare t (name_of (first_in f)) (parent_named t (behind_head f))) fs (each_declared P t (name_of (first_in f)) (parent_named t (behind_head f)) a (b.0 t)) b.1
-
-pub each_type_name : (P : List ℕ → Type 0) (t : Types) (fs : Forms) → Each P (keys_of t) → EachForm (λ f. P (name_of (first_in f))) fs → Each P (keys_of (types_from t fs))
-each_type_name P t no_forms a b = a
-each_type_name P t (form f fs) a b = each_type_name P (declare t (name_of (first_in f)) (parent_named t (behind_head f))) fs (each_key P t (name_of (first_in f)) (parent_named t (behind_head f)) a b.0) b.1
-
-pub different_types : (t : Types) (fs : Forms) → AreDifferent (keys_of t) → AreDifferent (keys_of (types_from t fs))
-different_types t no_forms d = d
-different_types t (form f fs) d = different_types (declare t (name_of (first_in f)) (parent_named t (behind_head f))) fs (different_declared t (name_of (first_in f)) (parent_named t (behind_head f)) d)
+    parent : (t : Types) (gs : Forms) (up : ℕ) → parent_named t gs ≡ Some up → up < 0 + length t
+    parent t no_forms up e = absurd (none-some up e)
+    parent t (form g gs) up e = let r = within_table t (text_of g) up e in omega (arith, r)
 
 -- ---- objects
 
-pub objects_within : (types : Types) (n : ℕ) (t : Table ℕ) (fs : Forms) → Each (λ a. a < length types) (entries_of t) → objects_faults types n t fs ≡ [] → Each (λ a. a < length types) (entries_of (objects_from types n t fs))
-objects_within types n t no_forms a e = a
-objects_within types n t (form f fs) a e =
-    let table = table_from first_in (λ g. type_named types (first_in f)) t (first_forms n (behind_head f)) in
-    let both = nil_parts (objects_faults_in types n t f) (objects_faults types (n - count (behind_head f)) table fs) e in
-    let own = nil_parts (type_faults types (first_in f)) (entries_faults first_in (λ g. type_named types (first_in f)) no_faults t (first_forms n (behind_head f)) ++ past_names (objects_with types n t f) first_in n (behind_head f)) both.0 in
-    objects_within types (n - count (behind_head f)) table fs
-    (each_tabled (λ a. a < length types) first_in (λ g. type_named types (first_in f)) t (first_forms n (behind_head f)) a (every_form (λ g. type_named types (first_in f) < length types) (λ g. type_within types (first_in f) own.0) (first_forms n (behind_head f))))
-    both.1
+pub each_object : (I : Table ℕ → Type 0) (types : Types) (n : ℕ) (t : Table ℕ) (fs : Forms) → I t
+    → EachForm (λ f. EachForm (λ g. (t : Table ℕ) → I t → I (declare t (name_of (first_in g)) (type_named types (first_in f)))) (behind_head f)) fs → I (objects_from types n t fs)
+each_object I types n t no_forms i h = i
+each_object I types n t (form f fs) i h = each_object I types (n - count (behind_head f)) (objects_with types n t f) fs
+    (each_tabled I first_in (λ g. type_named types (first_in f)) t (first_forms n (behind_head f)) i (each_of_first _ n (behind_head f) h.0)) h.1
 
-pub each_object_name : (P : List ℕ → Type 0) (types : Types) (n : ℕ) (t : Table ℕ) (fs : Forms) → Each P (keys_of t) → EachForm (λ f. EachForm (λ g. P (name_of (first_in g))) (behind_head f)) fs → Each P (keys_of (objects_from types n t fs))
-each_object_name P types n t no_forms a b = a
-each_object_name P types n t (form f fs) a b =
-    each_object_name P types (n - count (behind_head f)) (table_from first_in (λ g. type_named types (first_in f)) t (first_forms n (behind_head f))) fs
-    (each_key_tabled P first_in (λ g. type_named types (first_in f)) t (first_forms n (behind_head f)) a (each_of_first (λ g. P (name_of (first_in g))) n (behind_head f) b.0)) b.1
+-- the entry's type is declared
+typed_entries : (types : Types) (n : ℕ) (t : Table ℕ) (fs : Forms) → objects_faults types n t fs ≡ [] → EachForm (λ f. type_faults types (first_in f) ≡ []) fs
+typed_entries types n t no_forms e = tt
+typed_entries types n t (form f fs) e = (search faultless, typed_entries types (n - count (behind_head f)) (objects_with types n t f) fs (search faultless))
 
-pub different_objects : (types : Types) (n : ℕ) (t : Table ℕ) (fs : Forms) → AreDifferent (keys_of t) → AreDifferent (keys_of (objects_from types n t fs))
-different_objects types n t no_forms d = d
-different_objects types n t (form f fs) d =
-    different_objects types (n - count (behind_head f)) (table_from first_in (λ g. type_named types (first_in f)) t (first_forms n (behind_head f))) fs
-    (different_tabled first_in (λ g. type_named types (first_in f)) t (first_forms n (behind_head f)) d)
+pub objects_within : (types : Types) (n : ℕ) (fs : Forms) → objects_faults types n [] fs ≡ [] → Each (λ a. a < length types) (entries_of (objects_from types n [] fs))
+objects_within types n fs e = each_object (λ t. Each (λ a. a < length types) (entries_of t)) types n [] fs tt
+    (each_form (λ f. type_faults types (first_in f) ≡ []) _ (λ f no. every_form _ (λ g t a. each_declared _ t (name_of (first_in g)) (type_named types (first_in f)) a (type_within types (first_in f) no)) (behind_head f))
+    fs (typed_entries types n [] fs e))

@@ -24,11 +24,13 @@ ghost use Rattle.pks_laws_reader.specs.Facts.{EachForm, HasShapes, AreNamed};
 // ---- the whole file
 
 /// A domain and a problem of the grammar that have no fault of meaning state a valid problem.
+#[tactic(auto, using(crate::proofs::Whole::valid_problem))]
 pub fn faultless_files_state_valid_problems()
     ensures { (v : Version) (d p : Form) → IsOf v sort.Domain d → IsOf v sort.Problem p → meaning_fault (number_of v) (behind_head d) (behind_head p) ≡ None → IsValid (problem_in (number_of v) (behind_head d) (behind_head p)) }
 {}
 
 /// No version 1 file uses parents, costs or goals over earlier states.
+#[tactic(auto, using(crate::proofs::Whole::first_version))]
 pub fn first_version_files_state_first_version_problems()
     ensures { (d p : Form) → IsOf file.First sort.Domain d → IsOf file.First sort.Problem p → versions.IsFirstVersion (problem_in 1 (behind_head d) (behind_head p)) }
 {}
@@ -68,6 +70,7 @@ pub fn faultless_declarations_give_valid_signatures()
 // ---- terms, literals and patterns, within what is declared
 
 /// A term without a fault is a term of the signature.
+#[tactic(auto, using(crate::proofs::Sentences::only_is_term))]
 pub fn faultless_terms_are_of_the_signature()
     ensures { (s : Scope) (v : Version) (f : Form) → HasShapes s → IsOf v sort.Term f → term_faults s f ≡ [] → is_term (signature_in s) (entries_of s.parameters) (term_in s f) ≡ true }
 {}
@@ -78,11 +81,13 @@ pub fn faultless_literals_are_as_files_have_them()
 {}
 
 /// Literals without a fault are a set in order.
+#[tactic(auto, using(crate::proofs::Sentences::conj_text))]
 pub fn faultless_conjunctions_are_as_files_have_them()
     ensures { (s : Scope) (v : Version) (fs : Forms) → HasShapes s → EachForm (IsOf v sort.Literal) fs → literals_faults s 4 fs ≡ [] → IsConjText (signature_in s) (entries_of s.parameters) (conj_in s fs) }
 {}
 
 /// A pattern without a fault is of the signature.
+#[tactic(auto, using(crate::proofs::Sentences::pattern_text))]
 pub fn faultless_patterns_are_of_the_signature()
     ensures { (s : Scope) (v : Version) (f : Form) → HasShapes s → IsOf v sort.Pattern f → pattern_faults s f ≡ [] → is_pattern (signature_in s) (entries_of s.parameters) (pattern_in s f) ≡ true }
 {}
@@ -90,36 +95,43 @@ pub fn faultless_patterns_are_of_the_signature()
 // ---- the parts of actions and of the problem
 
 /// A query without a fault.
+#[tactic(auto, using(crate::proofs::Sentences::query_text))]
 pub fn faultless_queries_are_as_files_have_them()
     ensures { (s : Scope) (v : Version) (f : Form) → HasShapes s → IsOf v sort.Query f → query_faults s f ≡ [] → IsPlainText (signature_in s) (entries_of s.parameters) (query_in s f).asks }
 {}
 
 /// An effect without a fault.
+#[tactic(auto, using(crate::proofs::Sentences::effect_text))]
 pub fn faultless_effects_are_as_files_have_them()
     ensures { (s : Scope) (v : Version) (f : Form) → HasShapes s → IsOf v sort.Effect f → effect_faults s f ≡ [] → IsConjText (signature_in s) (entries_of s.parameters) (effect_in s f).condition × IsTargetText (signature_in s) (entries_of s.parameters) (effect_in s f).target }
 {}
 
 /// A sense without a fault.
+#[tactic(auto, using(crate::proofs::Sentences::sense_text))]
 pub fn faultless_senses_are_as_files_have_them()
     ensures { (s : Scope) (v : Version) (f : Form) → HasShapes s → IsOf v sort.Sense f → sense_faults s f ≡ [] → IsSenseText (signature_in s) (entries_of s.parameters) (sense_in s f) }
 {}
 
 /// An add without a fault.
+#[tactic(auto, using(crate::proofs::Sentences::add_text))]
 pub fn faultless_adds_are_as_files_have_them()
     ensures { (s : Scope) (v : Version) (f : Form) → HasShapes s → IsOf v sort.Add f → add_faults s f ≡ [] → AreQueries (signature_in s) (entries_of s.parameters) (add_in s f).given × IsItemText (signature_in s) (entries_of s.parameters) (add_in s f).item }
 {}
 
 /// An action without a fault: its cost is from 1 to 9,999, it has at most four parameters of declared types, and its parts are as a file may have them.
+#[tactic(auto, using(crate::proofs::Whole::schema_text))]
 pub fn faultless_actions_are_as_files_have_them()
     ensures { (s : Scope) (v : Version) (f : Form) → HasShapes s → IsOf v sort.Action f → action_faults s (behind_head f) ≡ [] → IsSchemaText (signature_in s) (schema_in s (behind_head f)) }
 {}
 
 /// An initial item without a fault is ground; the literals of a group stand in sequence.
+#[tactic(auto, using(crate::proofs::Sentences::start_text))]
 pub fn faultless_initial_items_are_as_files_have_them()
     ensures { (s : Scope) (v : Version) (f : Form) → HasShapes s → entries_of s.parameters ≡ [] → IsOf v sort.Start f → start_faults s f ≡ [] → IsStartText (signature_in s) (start_in s f) }
 {}
 
 /// An aim without a fault.
+#[tactic(auto, using(crate::proofs::Sentences::aim_text))]
 pub fn faultless_aims_are_as_files_have_them()
     ensures { (s : Scope) (v : Version) (f : Form) → HasShapes s → IsOf v sort.Aim f → aim_faults s f ≡ [] → IsPlainText (signature_in s) (entries_of s.parameters) (versions.query_in (aim_in s f)).asks }
 {}

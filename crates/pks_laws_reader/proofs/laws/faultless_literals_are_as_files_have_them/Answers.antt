@@ -1,4 +1,4 @@
-use Rattle.pks_laws_reader.proofs.Literals.{literal_text}
+use Rattle.pks_laws_reader.proofs.Sentences.{literal_text}
 use Rattle.pks_laws_reader.proofs.laws.faultless_literals_are_as_files_have_them.Goals as goal
 
 pub returns : goal.returns

@@ -1,5 +1,0 @@
-use Rattle.pks_laws_reader.proofs.Sentences.{effect_text}
-use Rattle.pks_laws_reader.proofs.laws.faultless_effects_are_as_files_have_them.Goals as goal
-
-pub returns : goal.returns
-returns c = λ s v f shapes is e. effect_text s shapes v f is e
